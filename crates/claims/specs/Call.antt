@@ -1,0 +1,48 @@
+-- What each public call of `claims` returns, for any content of what it is given: the first question answered no decides, and then the rule.
+-- "A refusal returns its number, the given store or node, and zeros for any claim or count." Assumes nothing.
+use Prim.Native.Nat.{ℕ}
+use mathlib.Core.List.{List, [], _∷_, _++_}
+use Rattle.claims.specs.declared.claim.Claim.{Claim}
+use Rattle.claims.specs.declared.store.Store.{Store}
+use Rattle.claims.specs.declared.answer.Entered.{Entered}
+use Rattle.claims.specs.declared.answer.Made.{Made}
+use Rattle.claims.specs.declared.answer.Replied.{Replied}
+use Rattle.claims.specs.declared.answer.Answer.the-variants.{Refused}
+use Rattle.claims.specs.Store.{keysOf, storeOf, insert}
+use Rattle.claims.specs.Claim.{claimOf, noClaim}
+use Rattle.claims.specs.Question.{Question, firstNo, settle, question1, question6, question7, claimQuestions}
+use Rattle.claims.specs.Reply.{ends, hear, reply}
+
+-- the questions of a single claim: 2 to 5
+unfoldable pub judged : Claim → ℕ
+judged c = firstNo (claimQuestions c)
+
+-- `enter` asks 1 and 6.
+abbrev pub enterQuestions : Store → ℕ → List Question
+enterQuestions s k = question1 s ∷ question6 (k ∷ []) (keysOf s) ∷ []
+
+unfoldable pub entered : Store → ℕ → Entered
+entered s k =
+    settle (firstNo (enterQuestions s k))
+    (record { number = 0; store = storeOf (insert k (keysOf s)) })
+    (λ n. record { number = n; store = s })
+
+-- `make` asks 1 and 7.
+abbrev pub makeQuestions : Store → ℕ → ℕ → List Question
+makeQuestions s i j = question1 s ∷ question7 i j (s .count) ∷ []
+
+unfoldable pub made : Store → ℕ → ℕ → Made
+made s i j =
+    settle (firstNo (makeQuestions s i j))
+    (record { number = 0; claim = claimOf i j (keysOf s) })
+    (λ n. record { number = n; claim = noClaim })
+
+-- `reply` asks 1, 2 to 5 and 6.
+abbrev pub replyQuestions : Store → Claim → List Question
+replyQuestions s c = question1 s ∷ (claimQuestions c ++ (question6 (ends c) (keysOf s) ∷ []))
+
+unfoldable pub replied : Store → Claim → Replied
+replied s c =
+    settle (firstNo (replyQuestions s c))
+    (record { store = storeOf (hear c (keysOf s)); answer = reply c (keysOf s) })
+    (λ n. record { store = s; answer = Refused n })

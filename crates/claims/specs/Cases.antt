@@ -1,0 +1,77 @@
+-- Slips from the desk drawer (document 01, the section of that name): the twelve lettered cases, as one table over the call definitions.
+-- That each row gives what is wanted is one law, `cases-hold` of proofs/Cases. Assumes nothing.
+use Prim.Native.Nat.{ℕ}
+use mathlib.Core.Bool.{Bool, true}
+use mathlib.Core.List.{List, [], _∷_}
+use Rattle.claims.specs.declared.claim.Claim.{Claim}
+use Rattle.claims.specs.declared.store.Store.{Store}
+use Rattle.claims.specs.declared.answer.Answer.{Answer}
+use Rattle.claims.specs.declared.answer.Answer.the-variants.{Refused, Match, Ask, One, Two}
+use Rattle.claims.specs.declared.answer.Made.{Made}
+use Rattle.claims.specs.declared.answer.Replied.{Replied}
+use Rattle.claims.specs.Store.{emptyStore, storeOf, keysOf}
+use Rattle.claims.specs.Claim.{between}
+use Rattle.claims.specs.Reply.{falseMatch}
+use Rattle.claims.specs.Call.{made, replied, judged}
+
+-- what a row compares: a reply with its store, a claim that was made, the number of a claim's first no, or whether a match is false
+pub data Outcome : Type 0 where
+  reply-is : Replied → Outcome
+  claim-is : Made → Outcome
+  number-is : ℕ → Outcome
+  false-is : Bool → Outcome
+
+pub record Row : Type 0 where
+  pub gives : Outcome
+  pub wanted : Outcome
+
+-- "Claims are (lo, hi, sum, cnt)."
+abbrev pub claim : ℕ → ℕ → ℕ → ℕ → Claim
+claim lo hi sum cnt = record { lo = lo; hi = hi; sum = sum; cnt = cnt }
+
+-- a store hears a claim: the store afterwards, and the answer
+abbrev pub hears : Store → Claim → Store → Answer → Row
+hears s c t a = record { gives = reply-is (replied s c); wanted = reply-is (record { store = t; answer = a }) }
+
+-- a store with the keys l hears a claim and keeps its keys
+abbrev pub keeps : List ℕ → Claim → Answer → Row
+keeps l c a = hears (storeOf l) c (storeOf l) a
+
+-- a store with the keys l makes the claim of positions i to j
+abbrev pub makes : List ℕ → ℕ → ℕ → Claim → Row
+makes l i j c = record { gives = claim-is (made (storeOf l) i j); wanted = claim-is (record { number = 0; claim = c }) }
+
+-- a claim that no store hears, with the number
+abbrev pub refuses : Claim → ℕ → Row
+refuses c n = record { gives = number-is (judged c); wanted = number-is n }
+
+abbrev pub table : List Row
+table =
+    -- a. {} hears (7, 7, 7, 1): {7}, match.
+    hears emptyStore (claim 7 7 7 1) (storeOf (7 ∷ [])) Match
+    -- b. {} hears (1, 16, 19, 3): {1, 16}, ask (1, 16, 17, 2).
+    ∷ hears emptyStore (claim 1 16 19 3) (storeOf (1 ∷ 16 ∷ [])) (Ask (claim 1 16 17 2))
+    -- c. {1, 4, 16} hears (1, 16, 19, 3): one (4, 4, 4, 1).
+    ∷ keeps (1 ∷ 4 ∷ 16 ∷ []) (claim 1 16 19 3) (One (claim 4 4 4 1))
+    -- d. {1, 2, 4, 8, 16} hears (1, 16, 17, 2): one (2, 8, 14, 3).
+    ∷ keeps (1 ∷ 2 ∷ 4 ∷ 8 ∷ 16 ∷ []) (claim 1 16 17 2) (One (claim 2 8 14 3))
+    -- e. {1, 2, 4, 8, 16, 32} hears (1, 32, 33, 2): (2, 8, 14, 3), (16, 16, 16, 1).
+    ∷ keeps (1 ∷ 2 ∷ 4 ∷ 8 ∷ 16 ∷ 32 ∷ []) (claim 1 32 33 2) (Two (claim 2 8 14 3) (claim 16 16 16 1))
+    -- f. {1, 2, 4, 8, 16, 32, 64} hears (1, 64, 65, 2): (2, 8, 14, 3), (16, 32, 48, 2).
+    ∷ keeps (1 ∷ 2 ∷ 4 ∷ 8 ∷ 16 ∷ 32 ∷ 64 ∷ []) (claim 1 64 65 2) (Two (claim 2 8 14 3) (claim 16 32 48 2))
+    -- g. {1, 3, 4, 16} hears (1, 16, 22, 4), made from {1, 2, 5, 16}: match, and false.
+    ∷ keeps (1 ∷ 3 ∷ 4 ∷ 16 ∷ []) (claim 1 16 22 4) Match
+    ∷ makes (1 ∷ 2 ∷ 5 ∷ 16 ∷ []) 0 3 (claim 1 16 22 4)
+    ∷ record { gives = false-is (falseMatch (between 1 16 (1 ∷ 2 ∷ 5 ∷ 16 ∷ [])) (claim 1 16 22 4) (1 ∷ 3 ∷ 4 ∷ 16 ∷ [])); wanted = false-is true }
+    -- h. {0}: whole claim (0, 0, 0, 1).
+    ∷ makes (0 ∷ []) 0 0 (claim 0 0 0 1)
+    -- i. (5, 5, 0, 1): 5.
+    ∷ refuses (claim 5 5 0 1) 5
+    -- j. (5, 6, 3, 3): 4.
+    ∷ refuses (claim 5 6 3 3) 4
+    -- k. cnt 0 or 1,025 with lo < hi: 3. (For every lo < hi and sum: `judged-count` of proofs/Cases.)
+    ∷ refuses (claim 5 2000 0 0) 3
+    ∷ refuses (claim 5 2000 0 1025) 3
+    -- l. (9, 5, 12, 2): 2.
+    ∷ refuses (claim 9 5 12 2) 2
+    ∷ []

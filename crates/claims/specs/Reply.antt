@@ -1,0 +1,92 @@
+-- The reply to one claim (document 01, the section of that name; the paper's Algorithm 1, lines 12 to 14 and 20 to 35), over the keys of a store.
+-- Not here: the questions put before it (Question), what the call returns (Call). Assumes nothing.
+use Prim.Native.Nat.{ℕ, _+_, _-_, _/_}
+use mathlib.Core.Bool.{Bool, true, false, cond, not, _&&_}
+use mathlib.Core.List.{List, [], _∷_}
+use lib.Dec.{ltb, eqb}
+use Rattle.claims.specs.declared.claim.Claim.{Claim}
+use Rattle.claims.specs.declared.answer.Answer.{Answer}
+use Rattle.claims.specs.declared.answer.Answer.the-variants.{Refused, Match, Ask, One, Two}
+use Rattle.claims.specs.Store.{position, insertAll}
+use Rattle.claims.specs.Claim.{claimOf, between}
+
+-- the ends of a claim, which question 6 counts where they are missing
+abbrev pub ends : Claim → List ℕ
+ends c = c .lo ∷ c .hi ∷ []
+
+-- What hearing a claim adds to a store with the keys l where it is missing: "Add lo and hi where missing." Lines 12 to 14.
+-- Today that is the claim's ends, whatever is held.
+abbrev pub adding : Claim → List ℕ → List ℕ
+adding c l = ends c
+
+-- the keys held once the claim is heard
+abbrev pub hear : Claim → List ℕ → List ℕ
+hear c l = insertAll (adding c l) l
+
+-- "“Own” is then the claim of this store from lo to hi." Line 20.
+abbrev pub own : Claim → List ℕ → Claim
+own c l = claimOf (position (c .lo) l) (position (c .hi) l) l
+
+-- "Own equals the claim in all four fields"
+abbrev pub same : Claim → Claim → Bool
+same c d = eqb (c .lo) (d .lo) && eqb (c .hi) (d .hi) && eqb (c .sum) (d .sum) && eqb (c .cnt) (d .cnt)
+
+-- "If b − a < 3: one claim, a to b. Else with z = (b + 1 − a) div 2: two claims, a to a + z, then a + z + 1 to b." Lines 27 to 34.
+abbrev pub half : ℕ → ℕ → ℕ
+half a b = (b + 1 - a) / 2
+
+abbrev pub help : ℕ → ℕ → List ℕ → Answer
+help a b l =
+    cond (ltb (b - a) 3)
+    (One (claimOf a b l))
+    (Two (claimOf a (a + half a b) l) (claimOf (a + half a b + 1) b l))
+
+-- The answer of a store whose keys l have lo and hi among them. Lines 20 to 35: "match", "cnt greater than own cnt: ask, which carries own",
+-- "Otherwise help. Let a be the position after lo and b the one before hi."
+unfoldable pub answer : Claim → List ℕ → Answer
+answer c l =
+    cond (same (own c l) c)
+    Match
+    (cond (ltb (own c l .cnt) (c .cnt))
+    (Ask (own c l))
+    (help (position (c .lo) l + 1) (position (c .hi) l - 1) l))
+
+-- The reply of a store with the keys l: lo and hi are added first.
+abbrev pub reply : Claim → List ℕ → Answer
+reply c l = answer c (hear c l)
+
+-- What each case of an answer stands for: the number of document 01's question that was answered no (0: none was), ..
+abbrev pub numberOf : Answer → ℕ
+numberOf (Refused n) = n
+numberOf Match = 0
+numberOf (Ask c) = 0
+numberOf (One c) = 0
+numberOf (Two c d) = 0
+
+-- .. and the claims that it carries, in their order
+abbrev pub claimsOf : Answer → List Claim
+claimsOf (Refused n) = []
+claimsOf Match = []
+claimsOf (Ask c) = c ∷ []
+claimsOf (One c) = c ∷ []
+claimsOf (Two c d) = c ∷ d ∷ []
+
+-- is it a match?
+abbrev pub matches : Answer → Bool
+matches (Refused n) = false
+matches Match = true
+matches (Ask c) = false
+matches (One c) = false
+matches (Two c d) = false
+
+-- are two lists of keys the same?
+abbrev pub sameKeys : List ℕ → List ℕ → Bool
+sameKeys [] [] = true
+sameKeys [] (k ∷ ks) = false
+sameKeys (j ∷ js) [] = false
+sameKeys (j ∷ js) (k ∷ ks) = eqb j k && sameKeys js ks
+
+-- "A match is false if, when the claim was made, its sender held other keys from lo to hi than the receiver holds at the match, what the reply
+-- added counted in." Of the reply to c by a receiver with the keys l, where the sender held `held` from lo to hi.
+abbrev pub falseMatch : List ℕ → Claim → List ℕ → Bool
+falseMatch held c l = matches (reply c l) && not (sameKeys held (between (c .lo) (c .hi) (hear c l)))

@@ -1,0 +1,16 @@
+// Keys and the store.
+
+// A count from 0 to the limit, and the places. In order: the count is at most the limit, the keys below it rise strictly, every other place is 0.
+pub struct Store {
+    pub keys: [u64; Store::LIMIT],
+    pub count: usize,
+}
+
+impl Store {
+    pub const LIMIT: usize = 1024;
+
+    pub const EMPTY: Store = Store {
+        keys: [0; Store::LIMIT],
+        count: 0,
+    };
+}
