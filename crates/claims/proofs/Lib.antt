@@ -1,3 +1,4 @@
 pub mod Tests
 pub mod Rising
+pub mod Insert
 pub mod Cases

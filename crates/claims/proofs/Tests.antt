@@ -1,9 +1,10 @@
--- Tests: what a conjunction of them says of its parts, and the two cases of an order and of an equation of numbers.
+-- Tests: what a conjunction of them says of its parts, and the cases of an order and of an equation of numbers.
 -- Not here: what a single test says (`ltb-true`, `lt-ltb` and the rest, in borrow.Author.Tests). Assumes nothing.
 use Prim.Native.Nat.{ℕ, _≤_, _<_}
 use mathlib.Core.Bool.{Bool, true, false, _&&_, false≢true}
 use mathlib.Core.Logic.{_⊎_, inl, inr}
 use mathlib.Core.Path.{_≡_, refl}
+use native.Mathlib.Omega.{arith}
 use borrow.Author.Tests.{ltb-true, ltb-false, eqb-true, eqb-false}
 use lib.Dec.{ltb, eqb}
 
@@ -32,3 +33,17 @@ eq-or-ne a b = go (eqb a b) refl
     go : (t : Bool) → eqb a b ≡ t → (a ≡ b) ⊎ (a ≡ b → ⊥)
     go true e = inl (eqb-true a b e)
     go false e = inr (eqb-false a b e)
+
+-- the three cases of two numbers
+pub data Order (a b : ℕ) : Type 0 where
+  less : a < b → Order a b
+  equal : a ≡ b → Order a b
+  greater : b < a → Order a b
+
+pub order : (a b : ℕ) → Order a b
+order a b = go (lt-or-le a b) (eq-or-ne a b)
+  where
+    go : (a < b) ⊎ (b ≤ a) → (a ≡ b) ⊎ (a ≡ b → ⊥) → Order a b
+    go (inl h) e = less h
+    go (inr h) (inl e) = equal e
+    go (inr h) (inr f) = greater (omega arith)
