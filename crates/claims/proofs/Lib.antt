@@ -1,4 +1,5 @@
 pub mod Tests
 pub mod Rising
 pub mod Insert
+pub mod Position
 pub mod Cases
