@@ -2,4 +2,5 @@ pub mod Tests
 pub mod Rising
 pub mod Insert
 pub mod Position
+pub mod Order
 pub mod Cases
