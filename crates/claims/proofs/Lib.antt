@@ -3,4 +3,5 @@ pub mod Rising
 pub mod Insert
 pub mod Position
 pub mod Order
+pub mod Xor
 pub mod Cases
