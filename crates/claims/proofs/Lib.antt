@@ -4,4 +4,5 @@ pub mod Insert
 pub mod Position
 pub mod Order
 pub mod Xor
+pub mod Between
 pub mod Cases
