@@ -5,4 +5,5 @@ pub mod Position
 pub mod Order
 pub mod Xor
 pub mod Between
+pub mod Span
 pub mod Cases
