@@ -6,4 +6,5 @@ pub mod Order
 pub mod Xor
 pub mod Between
 pub mod Span
+pub mod QuestionLaws
 pub mod Cases
