@@ -7,4 +7,5 @@ pub mod Xor
 pub mod Between
 pub mod Span
 pub mod QuestionLaws
+pub mod ClaimLaws
 pub mod Cases
