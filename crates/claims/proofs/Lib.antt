@@ -8,4 +8,5 @@ pub mod Between
 pub mod Span
 pub mod QuestionLaws
 pub mod ClaimLaws
+pub mod ReplyLaws
 pub mod Cases

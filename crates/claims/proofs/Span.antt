@@ -10,8 +10,8 @@ use native.Mathlib.Omega.{arith}
 use lib.ListN.{length, take, drop, getD, length-drop}
 use lib.Seq.{length-take-le, getD-take, getD-drop, take-add, drop-drop}
 use Rattle.claims.specs.Claim.{span, between}
-use Rattle.claims.proofs.Rising.{Rising, above-mem, rising-head, rising-append-left, rising-append-right, rising-append-lt, rising-take, rising-drop, mem-getD, mem-length}
-use Rattle.claims.proofs.Between.{between-within, between-below, between-all, between-none, between-append, between-mem, mem-between, between-rising}
+use Rattle.claims.proofs.Rising.{Rising, above-mem, rising-head, rising-append-left, rising-append-right, rising-append-lt, rising-take, rising-drop, mem-getD, mem-length, mem-index, rising-getD, rising-getD-le, getD-rising-lt, rising-ext}
+use Rattle.claims.proofs.Between.{between-within, between-below, between-all, between-none, between-append, between-mem, mem-between, between-rising, between-widen, inside, inside-mem}
 
 -- ---- the first and the last key
 
@@ -177,3 +177,27 @@ span-between (suc i) (suc j) (x ∷ xs) r h g =
     ap (λ (n : ℕ). take n (drop i xs)) e
     ∙ span-between i j xs (r .1) (le-of-suc-le-suc h) p
     ∙ sym (between-below (getD xs i 0) (getD xs j 0) x xs (above-mem x xs (r .0) (getD xs i 0) (mem-getD xs i 0 (omega arith))))
+
+-- a span is all that lies from its first key to its last
+pub between-span : (i j : ℕ) (l : List ℕ) → Rising l → i ≤ j → j < length l → between (first (span i j l)) (last (span i j l)) l ≡ span i j l
+between-span i j l r h g = rw (first-span i j l, last-span i j l h g) (sym (span-between i j l r h g))
+
+-- the positions after i and before j have the keys strictly between key i and key j
+pub span-inside : (i j : ℕ) (l : List ℕ) → Rising l → i + 1 ≤ j - 1 → j < length l → span (i + 1) (j - 1) l ≡ inside (getD l i 0) (getD l j 0) l
+span-inside i j l r h g =
+    let after : getD l i 0 < getD l (i + 1) 0 = rising-getD l r i (i + 1) (omega arith) (omega arith) in
+    let before : getD l (j - 1) 0 < getD l j 0 = rising-getD l r (j - 1) j (omega arith) g in
+    span-between (i + 1) (j - 1) l r h (omega arith)
+    ∙ rising-ext (between (getD l (i + 1) 0) (getD l (j - 1) 0) l) (inside (getD l i 0) (getD l j 0) l) (between-rising (getD l (i + 1) 0) (getD l (j - 1) 0) l r) (between-rising (suc (getD l i 0)) (getD l j 0 - 1) l r)
+    (between-widen (suc (getD l i 0)) (getD l j 0 - 1) (getD l (i + 1) 0) (getD l (j - 1) 0) l after (omega arith))
+    (λ k m.
+    let t = inside-mem (getD l i 0) (getD l j 0) l k m in
+    let x = mem-index l k (t .0) in
+    let e : getD l (x .0) 0 ≡ k = x .2 in
+    let a : getD l i 0 < k = t .1 in
+    let b : k < getD l j 0 = t .2 in
+    let p : i < x .0 = getD-rising-lt l r i (x .0) (omega arith) (omega arith) in
+    let q : x .0 < j = getD-rising-lt l r (x .0) j (x .1) (omega arith) in
+    let u : getD l (i + 1) 0 ≤ getD l (x .0) 0 = rising-getD-le l r (i + 1) (x .0) (omega arith) (x .1) in
+    let v : getD l (x .0) 0 ≤ getD l (j - 1) 0 = rising-getD-le l r (x .0) (j - 1) (omega arith) (omega arith) in
+    mem-between (getD l (i + 1) 0) (getD l (j - 1) 0) l k (t .0) (omega arith) (omega arith))

@@ -1,0 +1,311 @@
+-- The reply to one claim: `hear`, `own`, `answer`, `reply` and `falseMatch` of Reply, over rising keys and without positions. In order: the keys after
+-- hearing; own is the claim of the keys from lo to hi; the helper has something to tell; the view of an answer (`Answered`), one constructor a case with
+-- its facts in terms of spans; every claim of a reply is the claim of a span of the store; a match that is not false.
+-- What is added is spoken of as `adding`, save in `adding-mem` and the two laws before it. Assumes nothing.
+use Prim.Native.Nat.{ℕ, _+_, _-_, _≤_, _<_}
+use mathlib.Core.Bool.{Bool, true, false, cond, not, _&&_, false≢true, true≢false}
+use mathlib.Core.List.{List, [], _∷_, _++_, List·Memᴰ, List·Memᴰ·head, List·Memᴰ·tail, List·Memᴰ·not-nil, List·Memᴰ·cases-cons, List·Memᴰ·eq-of-singleton}
+use mathlib.Core.Logic.{_⊎_, inl, inr, ⊎-elim}
+use mathlib.Core.Path.{_≡_, refl, sym, ap, ap₂, _∙_, subst}
+use native.Mathlib.Omega.{arith}
+use borrow.Author.Tests.{ltb-true, ltb-false, eqb-true, eq-eqb}
+use lib.Dec.{ltb, eqb}
+use lib.ListN.{length, getD}
+use Rattle.claims.specs.declared.claim.Claim.{Claim}
+use Rattle.claims.specs.declared.answer.Answer.{Answer}
+use Rattle.claims.specs.declared.answer.Answer.the-variants.{Refused, Match, Ask, One, Two}
+use Rattle.claims.specs.Store.{position}
+use Rattle.claims.specs.Claim.{span, xorAll, claimOf, between}
+use Rattle.claims.specs.Reply.{adding, hear, own, same, half, help, answer, reply, numberOf, claimsOf, matches, sameKeys, falseMatch}
+use Rattle.claims.proofs.Tests.{and-left, and-right, and-both, Order, less, equal, greater, order}
+use Rattle.claims.proofs.Rising.{Rising, Sub, mem-length, rising-getD}
+use Rattle.claims.proofs.Insert.{mem-insertAll-old, mem-insertAll-new, insertAll-mem, insertAll-sub, insertAll-rising, insertAll-held, insertAll-same, length-insertAll-ge}
+use Rattle.claims.proofs.Position.{getD-position, position-mono}
+use Rattle.claims.proofs.Xor.{xorAll-one, xorAll-two}
+use Rattle.claims.proofs.Between.{inside, mem-between, between-one, between-inside, length-between-inside}
+use Rattle.claims.proofs.Span.{first, last, first-between, last-between, first-span, last-span, length-span, span-join, between-span, span-inside}
+use Rattle.claims.proofs.QuestionLaws.{Passes}
+use Rattle.claims.proofs.ClaimLaws.{spanClaim, claim-ext, same-claim, claim-same, claimOf-span, claimOf-between, spanClaim-between}
+
+-- ---- the keys after hearing
+
+pub mem-adding-lo : (c : Claim) (l : List ℕ) → List·Memᴰ (c .lo) (adding c l)
+mem-adding-lo c l = List·Memᴰ·head refl
+
+pub mem-adding-hi : (c : Claim) (l : List ℕ) → List·Memᴰ (c .hi) (adding c l)
+mem-adding-hi c l = List·Memᴰ·tail (List·Memᴰ·head refl)
+
+pub adding-mem : (c : Claim) (l : List ℕ) (k : ℕ) → List·Memᴰ k (adding c l) → (k ≡ c .lo) ⊎ (k ≡ c .hi)
+adding-mem c l k (List·Memᴰ·head e) = inl e
+adding-mem c l k (List·Memᴰ·tail (List·Memᴰ·head e)) = inr e
+adding-mem c l k (List·Memᴰ·tail (List·Memᴰ·tail m)) = absurd (List·Memᴰ·not-nil m)
+
+pub hear-old : (c : Claim) (l : List ℕ) → Sub l (hear c l)
+hear-old c l = mem-insertAll-old (adding c l) l
+
+pub hear-new : (c : Claim) (l : List ℕ) → Sub (adding c l) (hear c l)
+hear-new c l = mem-insertAll-new (adding c l) l
+
+pub hear-mem : (c : Claim) (l : List ℕ) (k : ℕ) → List·Memᴰ k (hear c l) → List·Memᴰ k (adding c l) ⊎ List·Memᴰ k l
+hear-mem c l k m = insertAll-mem (adding c l) l k m
+
+pub hear-sub : (c : Claim) (l m : List ℕ) → Sub (adding c l) m → Sub l m → Sub (hear c l) m
+hear-sub c l m s t = insertAll-sub (adding c l) l m s t
+
+pub hear-lo : (c : Claim) (l : List ℕ) → List·Memᴰ (c .lo) (hear c l)
+hear-lo c l = hear-new c l (c .lo) (mem-adding-lo c l)
+
+pub hear-hi : (c : Claim) (l : List ℕ) → List·Memᴰ (c .hi) (hear c l)
+hear-hi c l = hear-new c l (c .hi) (mem-adding-hi c l)
+
+pub hear-rising : (c : Claim) (l : List ℕ) → Rising l → Rising (hear c l)
+hear-rising c l r = insertAll-rising (adding c l) l r
+
+pub hear-held : (c : Claim) (l : List ℕ) → Rising l → Sub (adding c l) l → hear c l ≡ l
+hear-held c l r s = insertAll-held (adding c l) l r s
+
+pub length-hear-ge : (c : Claim) (l : List ℕ) → length l ≤ length (hear c l)
+length-hear-ge c l = length-insertAll-ge (adding c l) l
+
+pub hear-same : (c : Claim) (l : List ℕ) → Rising l → length (hear c l) ≤ length l → hear c l ≡ l
+hear-same c l r h = insertAll-same (adding c l) l r h
+
+-- ---- own
+
+pub own-between : (c : Claim) (l : List ℕ) → Rising l → c .lo ≤ c .hi → List·Memᴰ (c .lo) l → List·Memᴰ (c .hi) l → own c l ≡ spanClaim (between (c .lo) (c .hi) l)
+own-between c l r h m n =
+    let p = getD-position (c .lo) l r m in
+    let q = getD-position (c .hi) l r n in
+    claimOf-between (position (c .lo) l) (position (c .hi) l) l r (position-mono (c .lo) (c .hi) l h) (q .0)
+    ∙ ap₂ (λ (x y : ℕ). spanClaim (between x y l)) (p .1) (q .1)
+
+-- its four fields
+pub own-fields : (c : Claim) (l : List ℕ) → Rising l → c .lo ≤ c .hi → List·Memᴰ (c .lo) l → List·Memᴰ (c .hi) l
+    → own c l ≡ record { lo = c .lo; hi = c .hi; sum = xorAll (between (c .lo) (c .hi) l); cnt = length (between (c .lo) (c .hi) l) }
+own-fields c l r h m n = own-between c l r h m n ∙ spanClaim-between (c .lo) (c .hi) l r h m n
+
+-- ---- the helper has something to tell
+
+-- one key is claimed as it is held
+own-alone : (c : Claim) (l : List ℕ) → Rising l → Passes c → List·Memᴰ (c .lo) l → List·Memᴰ (c .hi) l → c .lo ≡ c .hi → own c l ≡ c
+own-alone c l r p m n e =
+    let f : between (c .lo) (c .hi) l ≡ c .lo ∷ [] = ap (λ (k : ℕ). between (c .lo) k l) (sym e) ∙ between-one (c .lo) l r m in
+    own-fields c l r (p .ordered) m n
+    ∙ claim-ext (record { lo = c .lo; hi = c .hi; sum = xorAll (between (c .lo) (c .hi) l); cnt = length (between (c .lo) (c .hi) l) }) c refl refl
+    (ap xorAll f ∙ xorAll-one (c .lo) ∙ sym (p .sum-one (p .alone e)))
+    (ap length f ∙ sym (p .alone e))
+
+-- and so are two that have none between them
+own-pair : (c : Claim) (l : List ℕ) → Rising l → Passes c → List·Memᴰ (c .lo) l → List·Memᴰ (c .hi) l → c .lo < c .hi → c .cnt ≤ 2 → inside (c .lo) (c .hi) l ≡ [] → own c l ≡ c
+own-pair c l r p m n h g e =
+    let two : 2 ≤ c .cnt = p .several h .0 in
+    let f : between (c .lo) (c .hi) l ≡ c .lo ∷ c .hi ∷ [] = between-inside (c .lo) (c .hi) l r h m n ∙ ap (λ (t : List ℕ). c .lo ∷ (t ++ (c .hi ∷ []))) e in
+    own-fields c l r (p .ordered) m n
+    ∙ claim-ext (record { lo = c .lo; hi = c .hi; sum = xorAll (between (c .lo) (c .hi) l); cnt = length (between (c .lo) (c .hi) l) }) c refl refl
+    (ap xorAll f ∙ xorAll-two (c .lo) (c .hi) ∙ sym (p .sum-two (omega arith)))
+    (ap length f ∙ (omega arith))
+
+pub helper-has : (c : Claim) (l : List ℕ) → Rising l → Passes c → List·Memᴰ (c .lo) l → List·Memᴰ (c .hi) l → (own c l ≡ c → ⊥) → c .cnt ≤ length (between (c .lo) (c .hi) l)
+    → (c .lo < c .hi) × (0 < length (inside (c .lo) (c .hi) l))
+helper-has c l r p m n f g = go (order (c .lo) (c .hi))
+  where
+    some : (h : c .lo < c .hi) (t : List ℕ) → inside (c .lo) (c .hi) l ≡ t → 0 < length t
+    some h [] e =
+        let q : length (between (c .lo) (c .hi) l) ≡ length (inside (c .lo) (c .hi) l) + 2 = length-between-inside (c .lo) (c .hi) l r h m n in
+        let z : length (inside (c .lo) (c .hi) l) ≡ 0 = ap length e in
+        absurd (f (own-pair c l r p m n h (omega arith) e))
+    some h (k ∷ ks) e = omega arith
+
+    go : Order (c .lo) (c .hi) → (c .lo < c .hi) × (0 < length (inside (c .lo) (c .hi) l))
+    go (less h) = (h, some h (inside (c .lo) (c .hi) l) refl)
+    go (equal e) = absurd (f (own-alone c l r p m n e))
+    go (greater h) = let q : c .lo ≤ c .hi = p .ordered in absurd (omega arith)
+
+-- "The claims that pass questions 2 to 5 below never leave a helper with a > b."
+pub helper-positions : (c : Claim) (l : List ℕ) → Rising l → Passes c → List·Memᴰ (c .lo) l → List·Memᴰ (c .hi) l → same (own c l) c ≡ false → ltb (own c l .cnt) (c .cnt) ≡ false
+    → position (c .lo) l + 1 ≤ position (c .hi) l - 1
+helper-positions c l r p m n s t =
+    let e : own c l .cnt ≡ length (between (c .lo) (c .hi) l) = ap (λ (d : Claim). d .cnt) (own-between c l r (p .ordered) m n) in
+    let g : c .cnt ≤ own c l .cnt = ltb-false (own c l .cnt) (c .cnt) t in
+    let h = helper-has c l r p m n (λ (q : own c l ≡ c). false≢true (sym s ∙ claim-same (own c l) c q)) (omega arith) in
+    let q : length (between (c .lo) (c .hi) l) ≡ length (inside (c .lo) (c .hi) l) + 2 = length-between-inside (c .lo) (c .hi) l r (h .0) m n in
+    let z : 0 < length (inside (c .lo) (c .hi) l) = h .1 in
+    let u : position (c .hi) l - position (c .lo) l + 1 ≡ length (between (c .lo) (c .hi) l) = e in
+    omega arith
+
+-- ---- the view of an answer
+
+-- m is some of the keys of l strictly between lo and hi: all from its first to its last, and at least one
+pub record Part (lo hi : ℕ) (l m : List ℕ) : Type 0 where
+  pub some : 0 < length m
+  pub whole : m ≡ between (first m) (last m) l
+  pub after : lo < first m
+  pub before : last m < hi
+
+-- what an answer to c by keys l, among them lo and hi, says
+pub data Answered (c : Claim) (l : List ℕ) : Answer → Type 0 where
+  matched : spanClaim (between (c .lo) (c .hi) l) ≡ c → Answered c l Match
+  asked : {d : Claim} → d ≡ spanClaim (between (c .lo) (c .hi) l) → length (between (c .lo) (c .hi) l) < c .cnt → Answered c l (Ask d)
+  helped-one : {d : Claim} → c .cnt ≤ length (between (c .lo) (c .hi) l) → c .lo < c .hi → d ≡ spanClaim (inside (c .lo) (c .hi) l) → Part (c .lo) (c .hi) l (inside (c .lo) (c .hi) l)
+      → Answered c l (One d)
+  helped-two : {d e : Claim} (m n : List ℕ) → c .cnt ≤ length (between (c .lo) (c .hi) l) → c .lo < c .hi → d ≡ spanClaim m → e ≡ spanClaim n → inside (c .lo) (c .hi) l ≡ m ++ n
+      → Part (c .lo) (c .hi) l m → Part (c .lo) (c .hi) l n → last m < first n → Answered c l (Two d e)
+
+span-part : (lo hi i a b j : ℕ) (l : List ℕ) → Rising l → getD l i 0 ≡ lo → getD l j 0 ≡ hi → i < a → a ≤ b → b < j → j < length l → Part lo hi l (span a b l)
+span-part lo hi i a b j l r p q h g k f =
+    let n : length (span a b l) ≡ b - a + 1 = length-span a b l g (omega arith) in
+    let u : getD l i 0 < getD l a 0 = rising-getD l r i a h (omega arith) in
+    let v : getD l b 0 < getD l j 0 = rising-getD l r b j k f in
+    record {
+      some = omega arith;
+      whole = sym (between-span a b l r g (omega arith));
+      after = rw (first-span a b l) (omega arith);
+      before = rw (last-span a b l g (omega arith)) (omega arith);
+    }
+
+-- help, where lo stands at position i and hi at j
+help-answered : (c : Claim) (l : List ℕ) → Rising l → (i j : ℕ) → getD l i 0 ≡ c .lo → getD l j 0 ≡ c .hi → i + 1 ≤ j - 1 → j < length l
+    → c .cnt ≤ length (between (c .lo) (c .hi) l) → c .lo < c .hi → Answered c l (help (i + 1) (j - 1) l)
+help-answered c l r i j p q h g n o = go (ltb (j - 1 - (i + 1)) 3) refl
+  where
+    middle : span (i + 1) (j - 1) l ≡ inside (c .lo) (c .hi) l
+    middle = span-inside i j l r h g ∙ ap₂ (λ (x y : ℕ). inside x y l) p q
+
+    go : (t : Bool) → ltb (j - 1 - (i + 1)) 3 ≡ t → Answered c l (cond t (One (claimOf (i + 1) (j - 1) l)) (Two (claimOf (i + 1) (i + 1 + half (i + 1) (j - 1)) l) (claimOf (i + 1 + half (i + 1) (j - 1) + 1) (j - 1) l)))
+    go true e =
+        helped-one n o
+        (claimOf-span (i + 1) (j - 1) l h (omega arith) ∙ ap spanClaim middle)
+        (subst (λ (m : List ℕ). Part (c .lo) (c .hi) l m) middle (span-part (c .lo) (c .hi) i (i + 1) (j - 1) j l r p q (omega arith) h (omega arith) g))
+    go false e =
+        let w : 3 ≤ j - 1 - (i + 1) = ltb-false (j - 1 - (i + 1)) 3 e in
+        let z : i + 1 + half (i + 1) (j - 1) < j - 1 = omega arith in
+        let cut = i + 1 + half (i + 1) (j - 1) in
+        helped-two (span (i + 1) cut l) (span (cut + 1) (j - 1) l) n o
+        (claimOf-span (i + 1) cut l (omega arith) (omega arith))
+        (claimOf-span (cut + 1) (j - 1) l (omega arith) (omega arith))
+        (sym middle ∙ span-join (i + 1) cut (j - 1) l (omega arith) z)
+        (span-part (c .lo) (c .hi) i (i + 1) cut j l r p q (omega arith) (omega arith) (omega arith) g)
+        (span-part (c .lo) (c .hi) i (cut + 1) (j - 1) j l r p q (omega arith) (omega arith) (omega arith) g)
+        (rw (last-span (i + 1) cut l (omega arith) (omega arith), first-span (cut + 1) (j - 1) l) (rising-getD l r cut (cut + 1) (omega arith) (omega arith)))
+
+pub answered : (c : Claim) (l : List ℕ) → Rising l → Passes c → List·Memᴰ (c .lo) l → List·Memᴰ (c .hi) l → Answered c l (answer c l)
+unfolding answer
+answered c l r p m n = go (same (own c l) c) refl (ltb (own c l .cnt) (c .cnt)) refl
+  where
+    own-is : own c l ≡ spanClaim (between (c .lo) (c .hi) l)
+    own-is = own-between c l r (p .ordered) m n
+
+    own-cnt : own c l .cnt ≡ length (between (c .lo) (c .hi) l)
+    own-cnt = ap (λ (d : Claim). d .cnt) own-is
+
+    go : (t : Bool) → same (own c l) c ≡ t → (u : Bool) → ltb (own c l .cnt) (c .cnt) ≡ u → Answered c l (cond t Match (cond u (Ask (own c l)) (help (position (c .lo) l + 1) (position (c .hi) l - 1) l)))
+    go true e u f = matched (sym own-is ∙ same-claim (own c l) c e)
+    go false e true f = let h : own c l .cnt < c .cnt = ltb-true (own c l .cnt) (c .cnt) f in let k = own-cnt in asked own-is (omega arith)
+    go false e false f =
+        let h : c .cnt ≤ own c l .cnt = ltb-false (own c l .cnt) (c .cnt) f in
+        let k = own-cnt in
+        let some = helper-has c l r p m n (λ (q : own c l ≡ c). false≢true (sym e ∙ claim-same (own c l) c q)) (omega arith) in
+        let a = getD-position (c .lo) l r m in
+        let b = getD-position (c .hi) l r n in
+        help-answered c l r (position (c .lo) l) (position (c .hi) l) (a .1) (b .1) (helper-positions c l r p m n e f) (b .0) (omega arith) (some .0)
+
+-- of a reply, whose store holds lo and hi once it heard the claim
+pub reply-answered : (c : Claim) (l : List ℕ) → Rising l → Passes c → Answered c (hear c l) (reply c l)
+reply-answered c l r p = answered c (hear c l) (hear-rising c l r) p (hear-lo c l) (hear-hi c l)
+
+-- no answer is a refusal
+pub numberOf-answer : (c : Claim) (l : List ℕ) → numberOf (answer c l) ≡ 0
+unfolding answer
+numberOf-answer c l = go (same (own c l) c) (ltb (own c l .cnt) (c .cnt))
+  where
+    help-number : (a b : ℕ) (v : Bool) → numberOf (cond v (One (claimOf a b l)) (Two (claimOf a (a + half a b) l) (claimOf (a + half a b + 1) b l))) ≡ 0
+    help-number a b true = refl
+    help-number a b false = refl
+
+    go : (t u : Bool) → numberOf (cond t Match (cond u (Ask (own c l)) (help (position (c .lo) l + 1) (position (c .hi) l - 1) l))) ≡ 0
+    go true u = refl
+    go false true = refl
+    go false false = help-number (position (c .lo) l + 1) (position (c .hi) l - 1) (ltb (position (c .hi) l - 1 - (position (c .lo) l + 1)) 3)
+
+-- ---- the claims of a reply
+
+-- d is the claim of all the keys of l from one of them to one of them
+pub record Spanned (l : List ℕ) (d : Claim) : Type 0 where
+  pub keys : List ℕ
+  pub claim : d ≡ spanClaim keys
+  pub some : 0 < length keys
+  pub whole : keys ≡ between (first keys) (last keys) l
+
+pub between-spanned : (lo hi : ℕ) (l : List ℕ) → Rising l → lo ≤ hi → List·Memᴰ lo l → List·Memᴰ hi l → Spanned l (spanClaim (between lo hi l))
+between-spanned lo hi l r h m n =
+    record {
+      keys = between lo hi l;
+      claim = refl;
+      some = mem-length (between lo hi l) lo (mem-between lo hi l lo m (omega arith) h);
+      whole = ap₂ (λ (x y : ℕ). between x y l) (sym (first-between lo hi l r h m)) (sym (last-between lo hi l r h n));
+    }
+
+pub part-spanned : (lo hi : ℕ) (l m : List ℕ) (d : Claim) → d ≡ spanClaim m → Part lo hi l m → Spanned l d
+part-spanned lo hi l m d e p = record { keys = m; claim = e; some = p .some; whole = p .whole }
+
+pub answered-spanned : (c : Claim) (l : List ℕ) {a : Answer} → Rising l → c .lo ≤ c .hi → List·Memᴰ (c .lo) l → List·Memᴰ (c .hi) l → Answered c l a
+    → (d : Claim) → List·Memᴰ d (claimsOf a) → Spanned l d
+answered-spanned c l r h m n (matched e) d x = absurd (List·Memᴰ·not-nil x)
+answered-spanned c l r h m n (asked e f) d x = subst (Spanned l) (sym (List·Memᴰ·eq-of-singleton x ∙ e)) (between-spanned (c .lo) (c .hi) l r h m n)
+answered-spanned c l r h m n (helped-one f g e p) d x = part-spanned (c .lo) (c .hi) l (inside (c .lo) (c .hi) l) d (List·Memᴰ·eq-of-singleton x ∙ e) p
+answered-spanned c l r h m n (helped-two {d = y} {e = z} a b f g e i j p q k) d x =
+    ⊎-elim
+    {C = Spanned l d}
+    (λ (w : d ≡ y). part-spanned (c .lo) (c .hi) l a d (w ∙ e) p)
+    (λ (w : List·Memᴰ d (z ∷ [])). part-spanned (c .lo) (c .hi) l b d (List·Memᴰ·eq-of-singleton w ∙ i) q)
+    (List·Memᴰ·cases-cons x)
+
+pub reply-spanned : (c : Claim) (l : List ℕ) → Rising l → Passes c → (d : Claim) → List·Memᴰ d (claimsOf (reply c l)) → Spanned (hear c l) d
+reply-spanned c l r p d x = answered-spanned c (hear c l) (hear-rising c l r) (p .ordered) (hear-lo c l) (hear-hi c l) (reply-answered c l r p) d x
+
+-- ---- a match that is not false
+
+pub sameKeys-equal : (a b : List ℕ) → sameKeys a b ≡ true → a ≡ b
+sameKeys-equal [] [] h = refl
+sameKeys-equal [] (k ∷ ks) h = absurd (false≢true h)
+sameKeys-equal (j ∷ js) [] h = absurd (false≢true h)
+sameKeys-equal (j ∷ js) (k ∷ ks) h =
+    let p : j ≡ k = eqb-true j k (and-left (eqb j k) (sameKeys js ks) h) in
+    let q : js ≡ ks = sameKeys-equal js ks (and-right (eqb j k) (sameKeys js ks) h) in
+    cc
+
+pub sameKeys-refl : (a : List ℕ) → sameKeys a a ≡ true
+sameKeys-refl [] = refl
+sameKeys-refl (k ∷ ks) = and-both (eqb k k) (sameKeys ks ks) (eq-eqb k k refl) (sameKeys-refl ks)
+
+pub matches-match : (a : Answer) → matches a ≡ true → a ≡ Match
+matches-match (Refused n) h = absurd (false≢true h)
+matches-match Match h = refl
+matches-match (Ask c) h = absurd (false≢true h)
+matches-match (One c) h = absurd (false≢true h)
+matches-match (Two c d) h = absurd (false≢true h)
+
+-- a match that is not false: the sender held just what the receiver holds
+pub match-same : (held : List ℕ) (c : Claim) (l : List ℕ) → falseMatch held c l ≡ false → reply c l ≡ Match → held ≡ between (c .lo) (c .hi) (hear c l)
+match-same held c l h e = go (matches (reply c l)) (ap matches e) (sameKeys held (between (c .lo) (c .hi) (hear c l))) refl h
+  where
+    go : (t : Bool) → t ≡ true → (u : Bool) → sameKeys held (between (c .lo) (c .hi) (hear c l)) ≡ u → (t && not u) ≡ false → held ≡ between (c .lo) (c .hi) (hear c l)
+    go true p true q f = sameKeys-equal held (between (c .lo) (c .hi) (hear c l)) q
+    go true p false q f = absurd (true≢false f)
+    go false p u q f = absurd (false≢true p)
+
+-- .. and the other way round
+pub same-match : (held : List ℕ) (c : Claim) (l : List ℕ) → held ≡ between (c .lo) (c .hi) (hear c l) → falseMatch held c l ≡ false
+same-match held c l e = go (matches (reply c l)) (sameKeys held (between (c .lo) (c .hi) (hear c l))) (subst (λ (k : List ℕ). sameKeys held k ≡ true) e (sameKeys-refl held))
+  where
+    go : (t u : Bool) → u ≡ true → (t && not u) ≡ false
+    go true true h = refl
+    go true false h = absurd (false≢true h)
+    go false u h = refl
+
+-- a false match is a match, and the keys differ
+pub falseMatch-differs : (held : List ℕ) (c : Claim) (l : List ℕ) → falseMatch held c l ≡ true → (reply c l ≡ Match) × (held ≡ between (c .lo) (c .hi) (hear c l) → ⊥)
+falseMatch-differs held c l h = (
+  matches-match (reply c l) (and-left (matches (reply c l)) (not (sameKeys held (between (c .lo) (c .hi) (hear c l)))) h),
+  λ (e : held ≡ between (c .lo) (c .hi) (hear c l)). false≢true (sym (same-match held c l e) ∙ h),
+)
