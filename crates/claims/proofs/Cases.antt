@@ -1,10 +1,37 @@
+-- The twelve lettered cases hold, as one table (`cases-hold`; the table is `table` of specs/Cases), by computing both columns. Then two facts beside it:
+-- case k for every lo < hi and sum (`judged-count`), and case a seen from its sender (`seven-matches`): a claim of one key matches, and not falsely.
+-- Assumes nothing.
+use Prim.Native.Nat.{ℕ, _<_}
+use mathlib.Core.List.{[], _∷_, map}
+use mathlib.Core.Bool.{false}
 use mathlib.Core.Path.{_≡_, refl}
-use mathlib.Core.List.{map}
+use native.Mathlib.Omega.{arith}
+use borrow.Author.Tests.{le-leb}
+use Rattle.claims.specs.declared.answer.Answer.the-variants.{Match}
 use Rattle.claims.specs.Store.{zeros, storeOf, emptyStore, inOrder}
-use Rattle.claims.specs.Reply.{answer}
+use Rattle.claims.specs.Claim.{between}
+use Rattle.claims.specs.Question.{question2, question3, question4, question5}
+use Rattle.claims.specs.Reply.{answer, reply, falseMatch}
 use Rattle.claims.specs.Call.{made, replied, judged}
-use Rattle.claims.specs.Cases.{Row, table}
+use Rattle.claims.specs.Cases.{Row, table, claim}
+use Rattle.claims.proofs.QuestionLaws.{firstNo-yes}
 
 pub cases-hold : map (λ (r : Row). r .gives) table ≡ map (λ (r : Row). r .wanted) table
 unfolding zeros storeOf emptyStore inOrder answer made replied judged
 cases-hold = refl
+
+-- "k. cnt 0 or 1,025 with lo < hi: 3."
+pub judged-count : (lo hi sum : ℕ) → lo < hi → (judged (claim lo hi sum 0) ≡ 3) × (judged (claim lo hi sum 1025) ≡ 3)
+unfolding judged
+judged-count lo hi sum h =
+    let yes2 = le-leb lo hi (omega arith) in (
+      firstNo-yes (question2 (claim lo hi sum 0)) (question3 (claim lo hi sum 0) ∷ question4 (claim lo hi sum 0) ∷ question5 (claim lo hi sum 0) ∷ []) yes2,
+      firstNo-yes (question2 (claim lo hi sum 1025)) (question3 (claim lo hi sum 1025) ∷ question4 (claim lo hi sum 1025) ∷ question5 (claim lo hi sum 1025) ∷ []) yes2,
+    )
+
+-- {7} makes (7, 7, 7, 1), and {} that hears it holds what {7} held: match, and not false.
+pub seven-matches : (made (storeOf (7 ∷ [])) 0 0 ≡ record { number = 0; claim = claim 7 7 7 1 })
+    × (reply (claim 7 7 7 1) [] ≡ Match)
+    × (falseMatch (between 7 7 (7 ∷ [])) (claim 7 7 7 1) [] ≡ false)
+unfolding zeros storeOf inOrder answer made
+seven-matches = (refl, refl, refl)

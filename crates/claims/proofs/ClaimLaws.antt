@@ -1,5 +1,5 @@
 -- Claims as claims of spans: `claimOf`, `wholeClaim` of Claim and `same` of Reply. In order: two claims are equal by their fields, which is what `same` tests; the claim of
--- a list of keys (`spanClaim`), which is the claim for positions i to j of its store; it passes questions 2 to 5; the whole claim; the claim of the keys from lo to hi.
+-- a list of keys (`spanClaim`), which is the claim for positions i to j of its store; it passes questions 2 to 5; the whole claim; the claim of the keys from lo to hi (`rangeClaim`).
 -- Not here: what the questions say of a claim (QuestionLaws). Assumes nothing.
 use Prim.Native.Nat.{ℕ, _+_, _-_, _≤_, _<_}
 use mathlib.Core.Bool.{true, false, _&&_, false≢true}
@@ -125,8 +125,8 @@ wholeClaim-span (k ∷ ks) h =
 
 -- ---- the claim of the keys from lo to hi, both of them held
 
-pub spanClaim-between : (lo hi : ℕ) (l : List ℕ) → Rising l → lo ≤ hi → List·Memᴰ lo l → List·Memᴰ hi l
-    → spanClaim (between lo hi l) ≡ record { lo = lo; hi = hi; sum = xorAll (between lo hi l); cnt = length (between lo hi l) }
-spanClaim-between lo hi l r h m n =
-    claim-ext (spanClaim (between lo hi l)) (record { lo = lo; hi = hi; sum = xorAll (between lo hi l); cnt = length (between lo hi l) })
-    (first-between lo hi l r h m) (last-between lo hi l r h n) refl refl
+abbrev pub rangeClaim : ℕ → ℕ → List ℕ → Claim
+rangeClaim lo hi l = record { lo = lo; hi = hi; sum = xorAll (between lo hi l); cnt = length (between lo hi l) }
+
+pub spanClaim-range : (lo hi : ℕ) (l : List ℕ) → Rising l → lo ≤ hi → List·Memᴰ lo l → List·Memᴰ hi l → spanClaim (between lo hi l) ≡ rangeClaim lo hi l
+spanClaim-range lo hi l r h m n = claim-ext (spanClaim (between lo hi l)) (rangeClaim lo hi l) (first-between lo hi l r h m) (last-between lo hi l r h n) refl refl

@@ -25,7 +25,7 @@ use Rattle.claims.proofs.Xor.{xorAll-one, xorAll-two}
 use Rattle.claims.proofs.Between.{inside, mem-between, between-one, between-inside, length-between-inside}
 use Rattle.claims.proofs.Span.{first, last, first-between, last-between, first-span, last-span, length-span, span-join, between-span, span-inside}
 use Rattle.claims.proofs.QuestionLaws.{Passes}
-use Rattle.claims.proofs.ClaimLaws.{spanClaim, claim-ext, same-claim, claim-same, claimOf-span, claimOf-between, spanClaim-between}
+use Rattle.claims.proofs.ClaimLaws.{spanClaim, claim-ext, same-claim, claim-same, claimOf-span, claimOf-between, rangeClaim, spanClaim-range}
 
 -- ---- the keys after hearing
 
@@ -79,10 +79,9 @@ own-between c l r h m n =
     claimOf-between (position (c .lo) l) (position (c .hi) l) l r (position-mono (c .lo) (c .hi) l h) (q .0)
     ∙ ap₂ (λ (x y : ℕ). spanClaim (between x y l)) (p .1) (q .1)
 
--- its four fields
-pub own-fields : (c : Claim) (l : List ℕ) → Rising l → c .lo ≤ c .hi → List·Memᴰ (c .lo) l → List·Memᴰ (c .hi) l
-    → own c l ≡ record { lo = c .lo; hi = c .hi; sum = xorAll (between (c .lo) (c .hi) l); cnt = length (between (c .lo) (c .hi) l) }
-own-fields c l r h m n = own-between c l r h m n ∙ spanClaim-between (c .lo) (c .hi) l r h m n
+-- by its four fields
+pub own-range : (c : Claim) (l : List ℕ) → Rising l → c .lo ≤ c .hi → List·Memᴰ (c .lo) l → List·Memᴰ (c .hi) l → own c l ≡ rangeClaim (c .lo) (c .hi) l
+own-range c l r h m n = own-between c l r h m n ∙ spanClaim-range (c .lo) (c .hi) l r h m n
 
 -- ---- the helper has something to tell
 
@@ -90,8 +89,8 @@ own-fields c l r h m n = own-between c l r h m n ∙ spanClaim-between (c .lo) (
 own-alone : (c : Claim) (l : List ℕ) → Rising l → Passes c → List·Memᴰ (c .lo) l → List·Memᴰ (c .hi) l → c .lo ≡ c .hi → own c l ≡ c
 own-alone c l r p m n e =
     let f : between (c .lo) (c .hi) l ≡ c .lo ∷ [] = ap (λ (k : ℕ). between (c .lo) k l) (sym e) ∙ between-one (c .lo) l r m in
-    own-fields c l r (p .ordered) m n
-    ∙ claim-ext (record { lo = c .lo; hi = c .hi; sum = xorAll (between (c .lo) (c .hi) l); cnt = length (between (c .lo) (c .hi) l) }) c refl refl
+    own-range c l r (p .ordered) m n
+    ∙ claim-ext (rangeClaim (c .lo) (c .hi) l) c refl refl
     (ap xorAll f ∙ xorAll-one (c .lo) ∙ sym (p .sum-one (p .alone e)))
     (ap length f ∙ sym (p .alone e))
 
@@ -100,8 +99,8 @@ own-pair : (c : Claim) (l : List ℕ) → Rising l → Passes c → List·Memᴰ
 own-pair c l r p m n h g e =
     let two : 2 ≤ c .cnt = p .several h .0 in
     let f : between (c .lo) (c .hi) l ≡ c .lo ∷ c .hi ∷ [] = between-inside (c .lo) (c .hi) l r h m n ∙ ap (λ (t : List ℕ). c .lo ∷ (t ++ (c .hi ∷ []))) e in
-    own-fields c l r (p .ordered) m n
-    ∙ claim-ext (record { lo = c .lo; hi = c .hi; sum = xorAll (between (c .lo) (c .hi) l); cnt = length (between (c .lo) (c .hi) l) }) c refl refl
+    own-range c l r (p .ordered) m n
+    ∙ claim-ext (rangeClaim (c .lo) (c .hi) l) c refl refl
     (ap xorAll f ∙ xorAll-two (c .lo) (c .hi) ∙ sym (p .sum-two (omega arith)))
     (ap length f ∙ (omega arith))
 
