@@ -3,7 +3,8 @@
 -- Not here: what it has to do with positions (Span). A law that does not ask for `Rising` holds for any list. Assumes nothing.
 use Prim.Native.Nat.{ℕ, suc, _+_, _-_, _≤_, _<_, suc-le-suc}
 use mathlib.Core.Bool.{and-false}
-use mathlib.Core.List.{List, [], _∷_, _++_, List·Memᴰ, List·Memᴰ·head, List·Memᴰ·tail, List·Memᴰ·not-nil, List·Memᴰ·cases-cons, Memᴰ·cast, Memᴰ·append-left, Memᴰ·append-right}
+use mathlib.Core.List.{List, [], _∷_, _++_, Memᴰ·cast, Memᴰ·append-left, Memᴰ·append-right}
+use mathlib.Core.List.{List·Memᴰ, List·Memᴰ·head, List·Memᴰ·tail, List·Memᴰ·not-nil, List·Memᴰ·cases-cons, List·Memᴰ·eq-of-singleton}
 use mathlib.Core.Logic.{_⊎_, inl, inr, ⊎-elim}
 use mathlib.Core.Path.{_≡_, refl, ap, _∙_}
 use native.Mathlib.Omega.{arith}
@@ -107,12 +108,15 @@ length-between lo hi (x ∷ xs) = go (lies lo hi x) (length-between lo hi xs)
     go (beyond p) rest = rw (between-beyond lo hi x xs p) (omega arith)
 
 pub length-sub-between : (lo hi : ℕ) (l m : List ℕ) → Rising l → Rising m → Sub l m → length (between lo hi l) ≤ length (between lo hi m)
-length-sub-between lo hi l m r q s = rising-length (between lo hi l) (between lo hi m) (between-rising lo hi l r) (between-rising lo hi m q) (sub-between lo hi l m s)
+length-sub-between lo hi l m r q s =
+    rising-length (between lo hi l) (between lo hi m) (between-rising lo hi l r) (between-rising lo hi m q) (sub-between lo hi l m s)
 
 -- of rising numbers from lo to hi there are at most hi − lo + 1
 pub length-rising-range : (lo hi : ℕ) (l : List ℕ) → Rising l → ((k : ℕ) → List·Memᴰ k l → (lo ≤ k) × (k ≤ hi)) → length l ≤ hi - lo + 1
 length-rising-range lo hi [] r f = omega arith
-length-rising-range lo hi (x ∷ xs) r f = go (lt-or-le x hi) (length-rising-range (suc x) hi xs (r .1) (λ k m. (above-mem x xs (r .0) k m, f k (List·Memᴰ·tail m) .1))) (f x (List·Memᴰ·head refl)) (λ k m. (above-mem x xs (r .0) k m, f k (List·Memᴰ·tail m) .1))
+length-rising-range lo hi (x ∷ xs) r f =
+    let g : (k : ℕ) → List·Memᴰ k xs → (suc x ≤ k) × (k ≤ hi) = λ k m. (above-mem x xs (r .0) k m, f k (List·Memᴰ·tail m) .1) in
+    go (lt-or-le x hi) (length-rising-range (suc x) hi xs (r .1) g) (f x (List·Memᴰ·head refl)) g
   where
     none : (ks : List ℕ) → ((k : ℕ) → List·Memᴰ k ks → (x < k) × (k ≤ hi)) → hi ≤ x → length ks ≤ 0
     none [] g h = omega arith
@@ -129,7 +133,9 @@ length-between-range lo hi l r = length-rising-range lo hi (between lo hi l) (be
 
 pub between-all : (lo hi : ℕ) (l : List ℕ) → ((k : ℕ) → List·Memᴰ k l → (lo ≤ k) × (k ≤ hi)) → between lo hi l ≡ l
 between-all lo hi [] f = refl
-between-all lo hi (x ∷ xs) f = let t = f x (List·Memᴰ·head refl) in between-within lo hi x xs (t .0) (t .1) ∙ ap (λ (ks : List ℕ). x ∷ ks) (between-all lo hi xs (λ k m. f k (List·Memᴰ·tail m)))
+between-all lo hi (x ∷ xs) f =
+    let t = f x (List·Memᴰ·head refl) in
+    between-within lo hi x xs (t .0) (t .1) ∙ ap (λ (ks : List ℕ). x ∷ ks) (between-all lo hi xs (λ k m. f k (List·Memᴰ·tail m)))
 
 pub between-none : (lo hi : ℕ) (l : List ℕ) → ((k : ℕ) → List·Memᴰ k l → lo ≤ k → k ≤ hi → ⊥) → between lo hi l ≡ []
 between-none lo hi [] f = refl
@@ -145,7 +151,8 @@ between-between lo hi a b [] h g = refl
 between-between lo hi a b (x ∷ xs) h g = go (lies lo hi x) (lies a b x) (between-between lo hi a b xs h g)
   where
     go : Lies lo hi x → Lies a b x → between a b (between lo hi xs) ≡ between a b xs → between a b (between lo hi (x ∷ xs)) ≡ between a b (x ∷ xs)
-    go (within p q) (within u v) rest = rw (between-within lo hi x xs p q, between-within a b x xs u v, between-within a b x (between lo hi xs) u v) (ap (λ (ks : List ℕ). x ∷ ks) rest)
+    go (within p q) (within u v) rest =
+        rw (between-within lo hi x xs p q, between-within a b x xs u v, between-within a b x (between lo hi xs) u v) (ap (λ (ks : List ℕ). x ∷ ks) rest)
     go (within p q) (below u) rest = rw (between-within lo hi x xs p q, between-below a b x xs u, between-below a b x (between lo hi xs) u) rest
     go (within p q) (beyond u) rest = rw (between-within lo hi x xs p q, between-beyond a b x xs u, between-beyond a b x (between lo hi xs) u) rest
     go (below p) (within u v) rest = absurd (omega arith)
@@ -183,7 +190,8 @@ between-join lo m hi l r h g =
     (λ (p : m < k). Memᴰ·append-right (between lo m l) (mem-between (suc m) hi l k (t .0) p (t .2)))
     (λ (p : k ≤ m). Memᴰ·append-left (between (suc m) hi l) (mem-between lo m l k (t .0) (t .1) p))
     (lt-or-le m k))
-    (append-sub (between lo m l) (between (suc m) hi l) (between lo hi l) (between-widen lo hi lo m l (omega arith) g) (between-widen lo hi (suc m) hi l h (omega arith)))
+    (append-sub (between lo m l) (between (suc m) hi l) (between lo hi l) (between-widen lo hi lo m l (omega arith) g)
+    (between-widen lo hi (suc m) hi l h (omega arith)))
 
 -- ---- after an insert
 
@@ -193,7 +201,8 @@ between-insert-outside lo hi k [] (inr h) = between-beyond lo hi k [] h
 between-insert-outside lo hi k (x ∷ xs) c = go (order x k) (lies lo hi x) c (between-insert-outside lo hi k xs c)
   where
     go : Order x k → Lies lo hi x → (k < lo) ⊎ (hi < k) → between lo hi (insert k xs) ≡ between lo hi xs → between lo hi (insert k (x ∷ xs)) ≡ between lo hi (x ∷ xs)
-    go (less g) (within p q) o rest = rw (insert-after k x xs g, between-within lo hi x xs p q, between-within lo hi x (insert k xs) p q) (ap (λ (ks : List ℕ). x ∷ ks) rest)
+    go (less g) (within p q) o rest =
+        rw (insert-after k x xs g, between-within lo hi x xs p q, between-within lo hi x (insert k xs) p q) (ap (λ (ks : List ℕ). x ∷ ks) rest)
     go (less g) (below p) o rest = rw (insert-after k x xs g, between-below lo hi x xs p, between-below lo hi x (insert k xs) p) rest
     go (less g) (beyond p) o rest = rw (insert-after k x xs g, between-beyond lo hi x xs p, between-beyond lo hi x (insert k xs) p) rest
     go (equal g) z o rest = rw (insert-here k x xs g)
@@ -202,7 +211,9 @@ between-insert-outside lo hi k (x ∷ xs) c = go (order x k) (lies lo hi x) c (b
 
 pub between-insert-within : (lo hi k : ℕ) (l : List ℕ) → Rising l → lo ≤ k → k ≤ hi → between lo hi (insert k l) ≡ insert k (between lo hi l)
 between-insert-within lo hi k l r h g =
-    rising-ext (between lo hi (insert k l)) (insert k (between lo hi l)) (between-rising lo hi (insert k l) (insert-rising k l r)) (insert-rising k (between lo hi l) (between-rising lo hi l r))
+    rising-ext (between lo hi (insert k l)) (insert k (between lo hi l))
+    (between-rising lo hi (insert k l) (insert-rising k l r))
+    (insert-rising k (between lo hi l) (between-rising lo hi l r))
     (λ x m.
     let t = between-mem lo hi (insert k l) x m in
     ⊎-elim
@@ -237,7 +248,7 @@ pub between-one : (k : ℕ) (l : List ℕ) → Rising l → List·Memᴰ k l →
 between-one k l r m =
     rising-ext (between k k l) (k ∷ []) (between-rising k k l r) (tt, tt)
     (λ x n. let t = between-mem k k l x n in List·Memᴰ·head (omega (arith, t .1, t .2)))
-    (λ x n. ⊎-elim {C = List·Memᴰ x (between k k l)} (λ (e : x ≡ k). Memᴰ·cast e (mem-between k k l k m (omega arith) (omega arith))) (λ (z : List·Memᴰ x []). absurd (List·Memᴰ·not-nil z)) (List·Memᴰ·cases-cons n))
+    (λ x n. Memᴰ·cast (List·Memᴰ·eq-of-singleton n) (mem-between k k l k m (omega arith) (omega arith)))
 
 pub between-inside : (lo hi : ℕ) (l : List ℕ) → Rising l → lo < hi → List·Memᴰ lo l → List·Memᴰ hi l → between lo hi l ≡ lo ∷ (inside lo hi l ++ (hi ∷ []))
 between-inside lo hi l r h m n =
@@ -252,10 +263,13 @@ pub length-between-inside : (lo hi : ℕ) (l : List ℕ) → Rising l → lo < h
 length-between-inside lo hi l r h m n = ap length (between-inside lo hi l r h m n) ∙ ap suc (length-append (inside lo hi l) (hi ∷ [])) ∙ (omega arith)
 
 -- a range strictly inside has at least two keys fewer ..
-pub length-between-within : (lo hi a b : ℕ) (l : List ℕ) → Rising l → lo < hi → List·Memᴰ lo l → List·Memᴰ hi l → lo < a → b < hi → length (between a b l) + 2 ≤ length (between lo hi l)
+pub length-between-within : (lo hi a b : ℕ) (l : List ℕ) → Rising l → lo < hi → List·Memᴰ lo l → List·Memᴰ hi l → lo < a → b < hi
+    → length (between a b l) + 2 ≤ length (between lo hi l)
 length-between-within lo hi a b l r h m n p q =
     let e : length (between lo hi l) ≡ length (inside lo hi l) + 2 = length-between-inside lo hi l r h m n in
-    let s : length (between a b l) ≤ length (inside lo hi l) = rising-length (between a b l) (inside lo hi l) (between-rising a b l r) (between-rising (suc lo) (hi - 1) l r) (between-widen (suc lo) (hi - 1) a b l p (omega arith)) in
+    let s : length (between a b l) ≤ length (inside lo hi l)
+    = rising-length (between a b l) (inside lo hi l) (between-rising a b l r) (between-rising (suc lo) (hi - 1) l r)
+    (between-widen (suc lo) (hi - 1) a b l p (omega arith)) in
     omega arith
 
 -- .. and so have two ranges, one below the other
@@ -265,6 +279,8 @@ length-between-two lo hi a b c d l r h m n p q u v w =
     let e : length (between lo hi l) ≡ length (inside lo hi l) + 2 = length-between-inside lo hi l r h m n in
     let s : length (between a b l ++ between c d l) ≤ length (inside lo hi l)
     = rising-length (between a b l ++ between c d l) (inside lo hi l) (between-join-rising a b c d l r q) (between-rising (suc lo) (hi - 1) l r)
-    (append-sub (between a b l) (between c d l) (inside lo hi l) (between-widen (suc lo) (hi - 1) a b l p (omega arith)) (between-widen (suc lo) (hi - 1) c d l u (omega arith))) in
+    (append-sub (between a b l) (between c d l) (inside lo hi l)
+    (between-widen (suc lo) (hi - 1) a b l p (omega arith))
+    (between-widen (suc lo) (hi - 1) c d l u (omega arith))) in
     let f : length (between a b l ++ between c d l) ≡ length (between a b l) + length (between c d l) = length-append (between a b l) (between c d l) in
     omega arith

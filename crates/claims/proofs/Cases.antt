@@ -10,11 +10,9 @@ use borrow.Author.Tests.{le-leb}
 use Rattle.claims.specs.declared.answer.Answer.the-variants.{Match}
 use Rattle.claims.specs.Store.{zeros, storeOf, emptyStore, inOrder}
 use Rattle.claims.specs.Claim.{between}
-use Rattle.claims.specs.Question.{question2, question3, question4, question5}
 use Rattle.claims.specs.Reply.{answer, reply, falseMatch}
 use Rattle.claims.specs.Call.{made, replied, judged}
 use Rattle.claims.specs.Cases.{Row, table, claim}
-use Rattle.claims.proofs.QuestionLaws.{firstNo-yes}
 
 pub cases-hold : map (λ (r : Row). r .gives) table ≡ map (λ (r : Row). r .wanted) table
 unfolding zeros storeOf emptyStore inOrder answer made replied judged
@@ -23,11 +21,7 @@ cases-hold = refl
 -- "k. cnt 0 or 1,025 with lo < hi: 3."
 pub judged-count : (lo hi sum : ℕ) → lo < hi → (judged (claim lo hi sum 0) ≡ 3) × (judged (claim lo hi sum 1025) ≡ 3)
 unfolding judged
-judged-count lo hi sum h =
-    let yes2 = le-leb lo hi (omega arith) in (
-      firstNo-yes (question2 (claim lo hi sum 0)) (question3 (claim lo hi sum 0) ∷ question4 (claim lo hi sum 0) ∷ question5 (claim lo hi sum 0) ∷ []) yes2,
-      firstNo-yes (question2 (claim lo hi sum 1025)) (question3 (claim lo hi sum 1025) ∷ question4 (claim lo hi sum 1025) ∷ question5 (claim lo hi sum 1025) ∷ []) yes2,
-    )
+judged-count lo hi sum h = rw (le-leb lo hi (omega arith)) (refl, refl)
 
 -- {7} makes (7, 7, 7, 1), and {} that hears it holds what {7} held: match, and not false.
 pub seven-matches : (made (storeOf (7 ∷ [])) 0 0 ≡ record { number = 0; claim = claim 7 7 7 1 })

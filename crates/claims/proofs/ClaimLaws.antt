@@ -1,5 +1,6 @@
--- Claims as claims of spans: `claimOf`, `wholeClaim` of Claim and `same` of Reply. In order: two claims are equal by their fields, which is what `same` tests; the claim of
--- a list of keys (`spanClaim`), which is the claim for positions i to j of its store; it passes questions 2 to 5; the whole claim; the claim of the keys from lo to hi (`rangeClaim`).
+-- Claims as claims of spans: `claimOf`, `wholeClaim` of Claim and `same` of Reply. In order: two claims are equal by their fields, which is what
+-- `same` tests; the claim of a list of keys (`spanClaim`), which is the claim for positions i to j of its store; it passes questions 2 to 5; the
+-- whole claim; the claim of the keys from lo to hi (`rangeClaim`).
 -- Not here: what the questions say of a claim (QuestionLaws). Assumes nothing.
 use Prim.Native.Nat.{ℕ, _+_, _-_, _≤_, _<_}
 use mathlib.Core.Bool.{true, false, _&&_, false≢true}
@@ -20,7 +21,8 @@ use Rattle.claims.proofs.Tests.{and-left, and-right, and-both}
 use Rattle.claims.proofs.Rising.{Rising}
 use Rattle.claims.proofs.Xor.{xorAll-one, xorAll-two}
 use Rattle.claims.proofs.Between.{length-rising-range}
-use Rattle.claims.proofs.Span.{first, last, first-le, le-last, first-le-last, first-lt-last, one-key, two-keys, first-between, last-between, length-span, first-span, last-span, span-rising, span-between}
+use Rattle.claims.proofs.Span.{first, last, first-le, le-last, first-le-last, first-lt-last, one-key, two-keys, first-between, last-between}
+use Rattle.claims.proofs.Span.{length-span, first-span, last-span, span-rising, span-between}
 use Rattle.claims.proofs.QuestionLaws.{Passes, passes-firstNo}
 
 -- ---- equal claims

@@ -131,7 +131,8 @@ insertAll-mem (k ∷ ks) l x m =
     ⊎-elim
     {C = List·Memᴰ x (k ∷ ks) ⊎ List·Memᴰ x l}
     (λ (n : List·Memᴰ x ks). inl (List·Memᴰ·tail n))
-    (λ (n : List·Memᴰ x (insert k l)). ⊎-elim {C = List·Memᴰ x (k ∷ ks) ⊎ List·Memᴰ x l} (λ (e : x ≡ k). inl (List·Memᴰ·head e)) (λ (o : List·Memᴰ x l). inr o) (insert-mem k l x n))
+    (λ (n : List·Memᴰ x (insert k l)).
+    ⊎-elim {C = List·Memᴰ x (k ∷ ks) ⊎ List·Memᴰ x l} (λ (e : x ≡ k). inl (List·Memᴰ·head e)) (λ (o : List·Memᴰ x l). inr o) (insert-mem k l x n))
     (insertAll-mem ks (insert k l) x m)
 
 -- ---- several keys: rising, held, length
@@ -145,11 +146,11 @@ insertAll-held ks l r s = rising-ext (insertAll ks l) l (insertAll-rising ks l r
 
 pub length-insertAll-ge : (ks l : List ℕ) → length l ≤ length (insertAll ks l)
 length-insertAll-ge [] l = omega arith
-length-insertAll-ge (k ∷ ks) l = let p : length (insert k l) ≤ length (insertAll ks (insert k l)) = length-insertAll-ge ks (insert k l) in omega (arith, length-insert-ge k l)
+length-insertAll-ge (k ∷ ks) l = omega (arith, length-insert-ge k l, length-insertAll-ge ks (insert k l))
 
 pub length-insertAll-le : (ks l : List ℕ) → length (insertAll ks l) ≤ length l + length ks
 length-insertAll-le [] l = omega arith
-length-insertAll-le (k ∷ ks) l = let p : length (insertAll ks (insert k l)) ≤ length (insert k l) + length ks = length-insertAll-le ks (insert k l) in omega (arith, length-insert-le k l)
+length-insertAll-le (k ∷ ks) l = omega (arith, length-insert-le k l, length-insertAll-le ks (insert k l))
 
 -- where the length did not grow, nothing was added
 pub insertAll-same : (ks l : List ℕ) → Rising l → length (insertAll ks l) ≤ length l → insertAll ks l ≡ l

@@ -50,7 +50,7 @@ keysOf-storeOf l = take-append-seam l (zeros (limit - length l))
 
 pub length-keys-storeOf : (l : List ℕ) → length l ≤ limit → length (storeOf l .keys) ≡ limit
 unfolding storeOf
-length-keys-storeOf l h = length-append l (zeros (limit - length l)) ∙ (let e : length (zeros (limit - length l)) ≡ limit - length l = length-zeros (limit - length l) in omega arith)
+length-keys-storeOf l h = omega (arith, length-append l (zeros (limit - length l)), length-zeros (limit - length l))
 
 -- ---- what "in order" says
 

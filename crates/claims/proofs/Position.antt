@@ -13,7 +13,7 @@ use borrow.Author.Tests.{lt-ltb, le-ltb, ltb-true, eqb-true, eq-eqb}
 use lib.Dec.{ltb, eqb}
 use lib.ListN.{length, take, drop, getD}
 use Rattle.claims.specs.Store.{position, holds, insert}
-use Rattle.claims.proofs.Tests.{Order, less, equal, greater, order, lt-or-le, and-left, and-right, and-both}
+use Rattle.claims.proofs.Tests.{Order, less, equal, greater, order, lt-or-le, le-unless, and-left, and-right, and-both}
 use Rattle.claims.proofs.Rising.{Rising, above-mem, rising-head, mem-getD, rising-getD, rising-getD-le, mem-holds, absent-holds, mem-or-absent}
 use Rattle.claims.proofs.Insert.{insert-after, insert-here, insert-before, insert-held}
 
@@ -48,7 +48,8 @@ pub position-from : (k : ℕ) (l : List ℕ) → Rising l → (i : ℕ) → posi
 position-from k [] r i h g = absurd (not-suc-le-zero g)
 position-from k (j ∷ js) r i h g = go (lt-or-le j k) i h g (position-from k js (r .1))
   where
-    go : (j < k) ⊎ (k ≤ j) → (i : ℕ) → position k (j ∷ js) ≤ i → i < length (j ∷ js) → ((i : ℕ) → position k js ≤ i → i < length js → k ≤ getD js i 0) → k ≤ getD (j ∷ js) i 0
+    go : (j < k) ⊎ (k ≤ j) → (i : ℕ) → position k (j ∷ js) ≤ i → i < length (j ∷ js) → ((i : ℕ) → position k js ≤ i → i < length js → k ≤ getD js i 0)
+        → k ≤ getD (j ∷ js) i 0
     go (inr p) i h g below = let q : j ≤ getD (j ∷ js) i 0 = rising-head j js r (getD (j ∷ js) i 0) (mem-getD (j ∷ js) i 0 g) in omega arith
     go (inl p) zero h g below = absurd (not-suc-le-zero (rw (position-after k j js p) at h))
     go (inl p) (suc i) h g below = below i (le-of-suc-le-suc (rw (position-after k j js p) at h)) (le-of-suc-le-suc g)
@@ -72,21 +73,27 @@ position-drop k (j ∷ js) r x m = go (lt-or-le j k) (position-drop k js (r .1) 
 -- ---- the index that it is: what a search halves its range by, and when it is done
 
 pub getD-lt-position : (k : ℕ) (l : List ℕ) → Rising l → (i : ℕ) → i < length l → getD l i 0 < k → i < position k l
-getD-lt-position k l r i h g = ⊎-elim {C = i < position k l} (λ (p : i < position k l). p) (λ (p : position k l ≤ i). let q : k ≤ getD l i 0 = position-from k l r i p h in absurd (omega arith)) (lt-or-le i (position k l))
+getD-lt-position k l r i h g = le-unless (suc i) (position k l) (λ p. let q : k ≤ getD l i 0 = position-from k l r i (le-of-suc-le-suc p) h in omega arith)
 
 pub position-le-getD : (k : ℕ) (l : List ℕ) (i : ℕ) → k ≤ getD l i 0 → position k l ≤ i
-position-le-getD k l i g = ⊎-elim {C = position k l ≤ i} (λ (p : i < position k l). let q : getD l i 0 < k = position-before k l i p in absurd (omega arith)) (λ (p : position k l ≤ i). p) (lt-or-le i (position k l))
+position-le-getD k l i g = le-unless (position k l) i (λ p. let q : getD l i 0 < k = position-before k l i p in omega arith)
 
 pub position-is : (k : ℕ) (l : List ℕ) (i : ℕ) → i ≤ length l → ((j : ℕ) → j < i → getD l j 0 < k) → (i ≡ length l) ⊎ (k ≤ getD l i 0) → position k l ≡ i
 position-is k [] zero h f e = refl
 position-is k [] (suc i) h f e = absurd (not-suc-le-zero h)
 position-is k (j ∷ js) zero h f (inl e) = absurd (omega arith)
 position-is k (j ∷ js) zero h f (inr g) = position-here k j js g
-position-is k (j ∷ js) (suc i) h f e = position-after k j js (f 0 (omega arith)) ∙ ap suc (position-is k js i (le-of-suc-le-suc h) (λ n p. f (suc n) (suc-le-suc p)) (⊎-elim {C = (i ≡ length js) ⊎ (k ≤ getD js i 0)} (λ (p : suc i ≡ suc (length js)). inl (omega arith)) (λ (p : k ≤ getD js i 0). inr p) e))
+position-is k (j ∷ js) (suc i) h f e = position-after k j js (f 0 (omega arith)) ∙ ap suc (position-is k js i (le-of-suc-le-suc h) (λ n p. f (suc n) (suc-le-suc p)) (rest e))
+  where
+    rest : (suc i ≡ suc (length js)) ⊎ (k ≤ getD js i 0) → (i ≡ length js) ⊎ (k ≤ getD js i 0)
+    rest (inl p) = inl (omega arith)
+    rest (inr p) = inr p
 
 -- the same for a rising list, of which only the key before needs looking at
-pub position-is-rising : (k : ℕ) (l : List ℕ) → Rising l → (i : ℕ) → i < length l → getD l i 0 < k → (suc i ≡ length l) ⊎ (k ≤ getD l (suc i) 0) → position k l ≡ suc i
-position-is-rising k l r i h g e = position-is k l (suc i) h (λ j p. let q : getD l j 0 ≤ getD l i 0 = rising-getD-le l r j i (le-of-suc-le-suc p) h in omega arith) e
+pub position-is-rising : (k : ℕ) (l : List ℕ) → Rising l → (i : ℕ) → i < length l → getD l i 0 < k → (suc i ≡ length l) ⊎ (k ≤ getD l (suc i) 0)
+    → position k l ≡ suc i
+position-is-rising k l r i h g e =
+    position-is k l (suc i) h (λ j p. let q : getD l j 0 ≤ getD l i 0 = rising-getD-le l r j i (le-of-suc-le-suc p) h in omega arith) e
 
 -- ---- the position of a held key, and the key at a position
 
@@ -94,7 +101,8 @@ pub getD-position : (k : ℕ) (l : List ℕ) → Rising l → List·Memᴰ k l �
 getD-position k [] r m = absurd (List·Memᴰ·not-nil m)
 getD-position k (j ∷ js) r m = go (order j k) (List·Memᴰ·cases-cons m) (getD-position k js (r .1))
   where
-    go : Order j k → (k ≡ j) ⊎ List·Memᴰ k js → (List·Memᴰ k js → (position k js < length js) × (getD js (position k js) 0 ≡ k)) → (position k (j ∷ js) < length (j ∷ js)) × (getD (j ∷ js) (position k (j ∷ js)) 0 ≡ k)
+    go : Order j k → (k ≡ j) ⊎ List·Memᴰ k js → (List·Memᴰ k js → (position k js < length js) × (getD js (position k js) 0 ≡ k))
+        → (position k (j ∷ js) < length (j ∷ js)) × (getD (j ∷ js) (position k (j ∷ js)) 0 ≡ k)
     go (less h) (inl e) below = absurd (omega arith)
     go (less h) (inr n) below = rw (position-after k j js h) (suc-le-suc (below n .0), below n .1)
     go (equal h) n below = rw (position-here k j js (omega arith)) (omega arith, h)
@@ -112,24 +120,27 @@ position-getD l r i h = position-is (getD l i 0) l i (omega arith) (λ j p. risi
 pub holds-position : (k : ℕ) (l : List ℕ) → Rising l → holds k l ≡ (ltb (position k l) (length l) && eqb (getD l (position k l) 0) k)
 holds-position k l r = go (mem-or-absent k l) (ltb (position k l) (length l) && eqb (getD l (position k l) 0) k) refl
   where
-    go : List·Memᴰ k l ⊎ (List·Memᴰ k l → ⊥) → (t : Bool) → (ltb (position k l) (length l) && eqb (getD l (position k l) 0) k) ≡ t → holds k l ≡ (ltb (position k l) (length l) && eqb (getD l (position k l) 0) k)
+    go : List·Memᴰ k l ⊎ (List·Memᴰ k l → ⊥) → (t : Bool) → (ltb (position k l) (length l) && eqb (getD l (position k l) 0) k) ≡ t
+        → holds k l ≡ (ltb (position k l) (length l) && eqb (getD l (position k l) 0) k)
     go (inl m) t e =
         let p = getD-position k l r m in
-        mem-holds k l m ∙ sym (and-both (ltb (position k l) (length l)) (eqb (getD l (position k l) 0) k) (lt-ltb (position k l) (length l) (p .0)) (eq-eqb (getD l (position k l) 0) k (p .1)))
+        let below = ltb (position k l) (length l) in
+        let there = eqb (getD l (position k l) 0) k in
+        mem-holds k l m ∙ sym (and-both below there (lt-ltb (position k l) (length l) (p .0)) (eq-eqb (getD l (position k l) 0) k (p .1)))
     go (inr f) false e = absent-holds k l f ∙ sym e
     go (inr f) true e =
-        absurd
-        (f
-        (position-mem k l
-        (ltb-true (position k l) (length l) (and-left (ltb (position k l) (length l)) (eqb (getD l (position k l) 0) k) e))
-        (eqb-true (getD l (position k l) 0) k (and-right (ltb (position k l) (length l)) (eqb (getD l (position k l) 0) k) e))))
+        let below = ltb (position k l) (length l) in
+        let there = eqb (getD l (position k l) 0) k in
+        let h : position k l < length l = ltb-true (position k l) (length l) (and-left below there e) in
+        absurd (f (position-mem k l h (eqb-true (getD l (position k l) 0) k (and-right below there e))))
 
 -- a missing key goes to its position, and what stands there from it on moves up
 pub insert-position : (k : ℕ) (l : List ℕ) → (List·Memᴰ k l → ⊥) → insert k l ≡ take (position k l) l ++ (k ∷ drop (position k l) l)
 insert-position k [] f = refl
 insert-position k (j ∷ js) f = go (order j k) (insert-position k js (λ m. f (List·Memᴰ·tail m)))
   where
-    go : Order j k → insert k js ≡ take (position k js) js ++ (k ∷ drop (position k js) js) → insert k (j ∷ js) ≡ take (position k (j ∷ js)) (j ∷ js) ++ (k ∷ drop (position k (j ∷ js)) (j ∷ js))
+    go : Order j k → insert k js ≡ take (position k js) js ++ (k ∷ drop (position k js) js)
+        → insert k (j ∷ js) ≡ take (position k (j ∷ js)) (j ∷ js) ++ (k ∷ drop (position k (j ∷ js)) (j ∷ js))
     go (less h) below = rw (position-after k j js h, insert-after k j js h) (ap (λ (t : List ℕ). j ∷ t) below)
     go (equal h) below = absurd (f (List·Memᴰ·head (sym h)))
     go (greater h) below = rw (position-here k j js (omega arith), insert-before k j js h)

@@ -48,7 +48,8 @@ pub firstNo-append-no : (a b : List Question) → (firstNo a ≡ 0 → ⊥) → 
 firstNo-append-no [] b f = absurd (f refl)
 firstNo-append-no (q ∷ qs) b f = go (q .yes) f (firstNo-append-no qs b)
   where
-    go : (t : Bool) → (cond t (firstNo qs) (q .number) ≡ 0 → ⊥) → ((firstNo qs ≡ 0 → ⊥) → firstNo (qs ++ b) ≡ firstNo qs) → cond t (firstNo (qs ++ b)) (q .number) ≡ cond t (firstNo qs) (q .number)
+    go : (t : Bool) → (cond t (firstNo qs) (q .number) ≡ 0 → ⊥) → ((firstNo qs ≡ 0 → ⊥) → firstNo (qs ++ b) ≡ firstNo qs)
+        → cond t (firstNo (qs ++ b)) (q .number) ≡ cond t (firstNo qs) (q .number)
     go true g rest = rest g
     go false g rest = refl
 
@@ -119,7 +120,8 @@ passes-question5 c p = go (eq-or-ne (c .cnt) 1) (eq-or-ne (c .cnt) 2)
 pub passes-firstNo : (c : Claim) → Passes c → firstNo (claimQuestions c) ≡ 0
 passes-firstNo c p =
     firstNo-yes (question2 c) (question3 c ∷ question4 c ∷ question5 c ∷ []) (le-leb (c .lo) (c .hi) (p .ordered))
-    ∙ firstNo-yes (question3 c) (question4 c ∷ question5 c ∷ []) (and-both (leb 1 (c .cnt)) (leb (c .cnt) limit) (le-leb 1 (c .cnt) (p .at-least)) (le-leb (c .cnt) limit (p .at-most)))
+    ∙ firstNo-yes (question3 c) (question4 c ∷ question5 c ∷ [])
+    (and-both (leb 1 (c .cnt)) (leb (c .cnt) limit) (le-leb 1 (c .cnt) (p .at-least)) (le-leb (c .cnt) limit (p .at-most)))
     ∙ firstNo-yes (question4 c) (question5 c ∷ []) (passes-question4 c p)
     ∙ firstNo-yes (question5 c) [] (passes-question5 c p)
 

@@ -19,7 +19,8 @@ use Rattle.claims.specs.Claim.{span, xorAll, claimOf, between}
 use Rattle.claims.specs.Reply.{adding, hear, own, same, half, help, answer, reply, numberOf, claimsOf, matches, sameKeys, falseMatch}
 use Rattle.claims.proofs.Tests.{and-left, and-right, and-both, Order, less, equal, greater, order}
 use Rattle.claims.proofs.Rising.{Rising, Sub, mem-length, rising-getD}
-use Rattle.claims.proofs.Insert.{mem-insertAll-old, mem-insertAll-new, insertAll-mem, insertAll-sub, insertAll-rising, insertAll-held, insertAll-same, length-insertAll-ge}
+use Rattle.claims.proofs.Insert.{mem-insertAll-old, mem-insertAll-new, insertAll-mem, insertAll-sub}
+use Rattle.claims.proofs.Insert.{insertAll-rising, insertAll-held, insertAll-same, length-insertAll-ge}
 use Rattle.claims.proofs.Position.{getD-position, position-mono}
 use Rattle.claims.proofs.Xor.{xorAll-one, xorAll-two}
 use Rattle.claims.proofs.Between.{inside, mem-between, between-one, between-inside, length-between-inside}
@@ -95,7 +96,8 @@ own-alone c l r p m n e =
     (ap length f ∙ sym (p .alone e))
 
 -- and so are two that have none between them
-own-pair : (c : Claim) (l : List ℕ) → Rising l → Passes c → List·Memᴰ (c .lo) l → List·Memᴰ (c .hi) l → c .lo < c .hi → c .cnt ≤ 2 → inside (c .lo) (c .hi) l ≡ [] → own c l ≡ c
+own-pair : (c : Claim) (l : List ℕ) → Rising l → Passes c → List·Memᴰ (c .lo) l → List·Memᴰ (c .hi) l → c .lo < c .hi → c .cnt ≤ 2
+    → inside (c .lo) (c .hi) l ≡ [] → own c l ≡ c
 own-pair c l r p m n h g e =
     let two : 2 ≤ c .cnt = p .several h .0 in
     let f : between (c .lo) (c .hi) l ≡ c .lo ∷ c .hi ∷ [] = between-inside (c .lo) (c .hi) l r h m n ∙ ap (λ (t : List ℕ). c .lo ∷ (t ++ (c .hi ∷ []))) e in
@@ -104,8 +106,8 @@ own-pair c l r p m n h g e =
     (ap xorAll f ∙ xorAll-two (c .lo) (c .hi) ∙ sym (p .sum-two (omega arith)))
     (ap length f ∙ (omega arith))
 
-pub helper-has : (c : Claim) (l : List ℕ) → Rising l → Passes c → List·Memᴰ (c .lo) l → List·Memᴰ (c .hi) l → (own c l ≡ c → ⊥) → c .cnt ≤ length (between (c .lo) (c .hi) l)
-    → (c .lo < c .hi) × (0 < length (inside (c .lo) (c .hi) l))
+pub helper-has : (c : Claim) (l : List ℕ) → Rising l → Passes c → List·Memᴰ (c .lo) l → List·Memᴰ (c .hi) l → (own c l ≡ c → ⊥)
+    → c .cnt ≤ length (between (c .lo) (c .hi) l) → (c .lo < c .hi) × (0 < length (inside (c .lo) (c .hi) l))
 helper-has c l r p m n f g = go (order (c .lo) (c .hi))
   where
     some : (h : c .lo < c .hi) (t : List ℕ) → inside (c .lo) (c .hi) l ≡ t → 0 < length t
@@ -121,8 +123,8 @@ helper-has c l r p m n f g = go (order (c .lo) (c .hi))
     go (greater h) = let q : c .lo ≤ c .hi = p .ordered in absurd (omega arith)
 
 -- "The claims that pass questions 2 to 5 below never leave a helper with a > b."
-pub helper-positions : (c : Claim) (l : List ℕ) → Rising l → Passes c → List·Memᴰ (c .lo) l → List·Memᴰ (c .hi) l → same (own c l) c ≡ false → ltb (own c l .cnt) (c .cnt) ≡ false
-    → position (c .lo) l + 1 ≤ position (c .hi) l - 1
+pub helper-positions : (c : Claim) (l : List ℕ) → Rising l → Passes c → List·Memᴰ (c .lo) l → List·Memᴰ (c .hi) l
+    → same (own c l) c ≡ false → ltb (own c l .cnt) (c .cnt) ≡ false → position (c .lo) l + 1 ≤ position (c .hi) l - 1
 helper-positions c l r p m n s t =
     let e : own c l .cnt ≡ length (between (c .lo) (c .hi) l) = ap (λ (d : Claim). d .cnt) (own-between c l r (p .ordered) m n) in
     let g : c .cnt ≤ own c l .cnt = ltb-false (own c l .cnt) (c .cnt) t in
@@ -145,9 +147,10 @@ pub record Part (lo hi : ℕ) (l m : List ℕ) : Type 0 where
 pub data Answered (c : Claim) (l : List ℕ) : Answer → Type 0 where
   matched : spanClaim (between (c .lo) (c .hi) l) ≡ c → Answered c l Match
   asked : {d : Claim} → d ≡ spanClaim (between (c .lo) (c .hi) l) → length (between (c .lo) (c .hi) l) < c .cnt → Answered c l (Ask d)
-  helped-one : {d : Claim} → c .cnt ≤ length (between (c .lo) (c .hi) l) → c .lo < c .hi → d ≡ spanClaim (inside (c .lo) (c .hi) l) → Part (c .lo) (c .hi) l (inside (c .lo) (c .hi) l)
-      → Answered c l (One d)
-  helped-two : {d e : Claim} (m n : List ℕ) → c .cnt ≤ length (between (c .lo) (c .hi) l) → c .lo < c .hi → d ≡ spanClaim m → e ≡ spanClaim n → inside (c .lo) (c .hi) l ≡ m ++ n
+  helped-one : {d : Claim} → c .cnt ≤ length (between (c .lo) (c .hi) l) → c .lo < c .hi
+      → d ≡ spanClaim (inside (c .lo) (c .hi) l) → Part (c .lo) (c .hi) l (inside (c .lo) (c .hi) l) → Answered c l (One d)
+  helped-two : {d e : Claim} (m n : List ℕ) → c .cnt ≤ length (between (c .lo) (c .hi) l) → c .lo < c .hi
+      → d ≡ spanClaim m → e ≡ spanClaim n → inside (c .lo) (c .hi) l ≡ m ++ n
       → Part (c .lo) (c .hi) l m → Part (c .lo) (c .hi) l n → last m < first n → Answered c l (Two d e)
 
 span-part : (lo hi i a b j : ℕ) (l : List ℕ) → Rising l → getD l i 0 ≡ lo → getD l j 0 ≡ hi → i < a → a ≤ b → b < j → j < length l → Part lo hi l (span a b l)
@@ -170,7 +173,8 @@ help-answered c l r i j p q h g n o = go (ltb (j - 1 - (i + 1)) 3) refl
     middle : span (i + 1) (j - 1) l ≡ inside (c .lo) (c .hi) l
     middle = span-inside i j l r h g ∙ ap₂ (λ (x y : ℕ). inside x y l) p q
 
-    go : (t : Bool) → ltb (j - 1 - (i + 1)) 3 ≡ t → Answered c l (cond t (One (claimOf (i + 1) (j - 1) l)) (Two (claimOf (i + 1) (i + 1 + half (i + 1) (j - 1)) l) (claimOf (i + 1 + half (i + 1) (j - 1) + 1) (j - 1) l)))
+    go : (t : Bool) → ltb (j - 1 - (i + 1)) 3 ≡ t
+        → Answered c l (cond t (One (claimOf (i + 1) (j - 1) l)) (Two (claimOf (i + 1) (i + 1 + half (i + 1) (j - 1)) l) (claimOf (i + 1 + half (i + 1) (j - 1) + 1) (j - 1) l)))
     go true e =
         helped-one n o
         (claimOf-span (i + 1) (j - 1) l h (omega arith) ∙ ap spanClaim middle)
@@ -197,7 +201,8 @@ answered c l r p m n = go (same (own c l) c) refl (ltb (own c l .cnt) (c .cnt)) 
     own-cnt : own c l .cnt ≡ length (between (c .lo) (c .hi) l)
     own-cnt = ap (λ (d : Claim). d .cnt) own-is
 
-    go : (t : Bool) → same (own c l) c ≡ t → (u : Bool) → ltb (own c l .cnt) (c .cnt) ≡ u → Answered c l (cond t Match (cond u (Ask (own c l)) (help (position (c .lo) l + 1) (position (c .hi) l - 1) l)))
+    go : (t : Bool) → same (own c l) c ≡ t → (u : Bool) → ltb (own c l .cnt) (c .cnt) ≡ u
+        → Answered c l (cond t Match (cond u (Ask (own c l)) (help (position (c .lo) l + 1) (position (c .hi) l - 1) l)))
     go true e u f = matched (sym own-is ∙ same-claim (own c l) c e)
     go false e true f = let h : own c l .cnt < c .cnt = ltb-true (own c l .cnt) (c .cnt) f in let k = own-cnt in asked own-is (omega arith)
     go false e false f =
@@ -288,14 +293,16 @@ matches-match (Two c d) h = absurd (false≢true h)
 pub match-same : (held : List ℕ) (c : Claim) (l : List ℕ) → falseMatch held c l ≡ false → reply c l ≡ Match → held ≡ between (c .lo) (c .hi) (hear c l)
 match-same held c l h e = go (matches (reply c l)) (ap matches e) (sameKeys held (between (c .lo) (c .hi) (hear c l))) refl h
   where
-    go : (t : Bool) → t ≡ true → (u : Bool) → sameKeys held (between (c .lo) (c .hi) (hear c l)) ≡ u → (t && not u) ≡ false → held ≡ between (c .lo) (c .hi) (hear c l)
+    go : (t : Bool) → t ≡ true → (u : Bool) → sameKeys held (between (c .lo) (c .hi) (hear c l)) ≡ u → (t && not u) ≡ false
+        → held ≡ between (c .lo) (c .hi) (hear c l)
     go true p true q f = sameKeys-equal held (between (c .lo) (c .hi) (hear c l)) q
     go true p false q f = absurd (true≢false f)
     go false p u q f = absurd (false≢true p)
 
 -- .. and the other way round
 pub same-match : (held : List ℕ) (c : Claim) (l : List ℕ) → held ≡ between (c .lo) (c .hi) (hear c l) → falseMatch held c l ≡ false
-same-match held c l e = go (matches (reply c l)) (sameKeys held (between (c .lo) (c .hi) (hear c l))) (subst (λ (k : List ℕ). sameKeys held k ≡ true) e (sameKeys-refl held))
+same-match held c l e =
+    go (matches (reply c l)) (sameKeys held (between (c .lo) (c .hi) (hear c l))) (subst (λ (k : List ℕ). sameKeys held k ≡ true) e (sameKeys-refl held))
   where
     go : (t u : Bool) → u ≡ true → (t && not u) ≡ false
     go true true h = refl
@@ -303,7 +310,8 @@ same-match held c l e = go (matches (reply c l)) (sameKeys held (between (c .lo)
     go false u h = refl
 
 -- a false match is a match, and the keys differ
-pub falseMatch-differs : (held : List ℕ) (c : Claim) (l : List ℕ) → falseMatch held c l ≡ true → (reply c l ≡ Match) × (held ≡ between (c .lo) (c .hi) (hear c l) → ⊥)
+pub falseMatch-differs : (held : List ℕ) (c : Claim) (l : List ℕ) → falseMatch held c l ≡ true
+    → (reply c l ≡ Match) × (held ≡ between (c .lo) (c .hi) (hear c l) → ⊥)
 falseMatch-differs held c l h = (
   matches-match (reply c l) (and-left (matches (reply c l)) (not (sameKeys held (between (c .lo) (c .hi) (hear c l)))) h),
   λ (e : held ≡ between (c .lo) (c .hi) (hear c l)). false≢true (sym (same-match held c l e) ∙ h),

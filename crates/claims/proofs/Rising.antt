@@ -4,7 +4,8 @@
 -- Membership is `List·Memᴰ`. Not here: what `insert`, `position` and `between` make of a rising list (Insert, Position, Between). Assumes nothing.
 use Prim.Native.Nat.{ℕ, zero, suc, _≤_, _<_, suc-le-suc}
 use mathlib.Core.Bool.{Bool, true, false, cond, false≢true}
-use mathlib.Core.List.{List, [], _∷_, _++_, List·Memᴰ, List·Memᴰ·head, List·Memᴰ·tail, List·Memᴰ·not-nil, List·Memᴰ·cases-cons, Memᴰ·append-left, Memᴰ·append-right, List·Memᴰ·append-cases}
+use mathlib.Core.List.{List, [], _∷_, _++_, Memᴰ·append-left, Memᴰ·append-right}
+use mathlib.Core.List.{List·Memᴰ, List·Memᴰ·head, List·Memᴰ·tail, List·Memᴰ·not-nil, List·Memᴰ·cases-cons, List·Memᴰ·append-cases}
 use mathlib.Core.Logic.{_⊎_, inl, inr, ⊎-elim}
 use mathlib.Core.Path.{_≡_, refl, sym, _∙_, subst}
 use native.Mathlib.Nat.{le-of-suc-le-suc, not-suc-le-zero}
@@ -13,7 +14,7 @@ use borrow.Author.Tests.{ltb-true, lt-ltb, eqb-true, eq-eqb}
 use lib.Dec.{ltb, eqb}
 use lib.ListN.{length, take, drop, getD, take-append-drop}
 use Rattle.claims.specs.Store.{rising, risesFrom, holds}
-use Rattle.claims.proofs.Tests.{and-left, and-right, and-both, lt-or-le}
+use Rattle.claims.proofs.Tests.{and-left, and-right, and-both, le-unless}
 
 -- ---- the facts
 
@@ -102,7 +103,9 @@ sub-drop n l k m = subst (λ (x : List ℕ). List·Memᴰ k x) (take-append-drop
 
 -- a key that no key of l can be is no loss
 pub sub-uncons : (j : ℕ) (l m : List ℕ) → Above j l → Sub l (j ∷ m) → Sub l m
-sub-uncons j l m a s k h = ⊎-elim {C = List·Memᴰ k m} (λ (e : k ≡ j). let p : j < k = above-mem j l a k h in absurd (omega arith)) (λ (g : List·Memᴰ k m). g) (List·Memᴰ·cases-cons (s k h))
+sub-uncons j l m a s k h =
+    let p : j < k = above-mem j l a k h in
+    ⊎-elim {C = List·Memᴰ k m} (λ (e : k ≡ j). absurd (omega arith)) (λ (g : List·Memᴰ k m). g) (List·Memᴰ·cases-cons (s k h))
 
 -- ---- parts of a rising list
 
@@ -123,7 +126,7 @@ rising-append-lt (x ∷ xs) b r j k (List·Memᴰ·tail m) n = rising-append-lt 
 pub rising-append : (a b : List ℕ) → Rising a → Rising b → ((j k : ℕ) → List·Memᴰ j a → List·Memᴰ k b → j < k) → Rising (a ++ b)
 rising-append [] b r s f = s
 rising-append (x ∷ xs) b r s f = (
-  mem-above x (xs ++ b) (λ k m. ⊎-elim {C = x < k} (λ (h : List·Memᴰ k xs). above-mem x xs (r .0) k h) (λ (h : List·Memᴰ k b). f x k (List·Memᴰ·head refl) h) (List·Memᴰ·append-cases xs m)),
+  mem-above x (xs ++ b) (λ k m. ⊎-elim {C = x < k} (above-mem x xs (r .0) k) (f x k (List·Memᴰ·head refl)) (List·Memᴰ·append-cases xs m)),
   rising-append xs b (r .1) s (λ j k m n. f j k (List·Memᴰ·tail m) n),
 )
 
@@ -146,7 +149,9 @@ rising-length (k ∷ ks) (j ∷ js) r q s =
     ⊎-elim
     {C = length (k ∷ ks) ≤ length (j ∷ js)}
     (λ (e : k ≡ j). suc-le-suc (rising-length ks js (r .1) (q .1) (sub-uncons j ks js (above-le j k ks (omega arith) (r .0)) (λ x m. s x (List·Memᴰ·tail m)))))
-    (λ (h : List·Memᴰ k js). let p : length (k ∷ ks) ≤ length js = rising-length (k ∷ ks) js r (q .1) (sub-uncons j (k ∷ ks) js (rising-above-mem j k js ks (q .0) (r .0) h) s) in omega arith)
+    (λ (h : List·Memᴰ k js).
+    let p : length (k ∷ ks) ≤ length js = rising-length (k ∷ ks) js r (q .1) (sub-uncons j (k ∷ ks) js (rising-above-mem j k js ks (q .0) (r .0) h) s) in
+    omega arith)
     (List·Memᴰ·cases-cons (s k (List·Memᴰ·head refl)))
 
 pub rising-same : (l m : List ℕ) → Rising l → Rising m → Sub l m → length m ≤ length l → l ≡ m
@@ -157,9 +162,12 @@ rising-same (k ∷ ks) (j ∷ js) r q s h =
     ⊎-elim
     {C = k ∷ ks ≡ j ∷ js}
     (λ (e : k ≡ j).
-    let p : ks ≡ js = rising-same ks js (r .1) (q .1) (sub-uncons j ks js (above-le j k ks (omega arith) (r .0)) (λ x m. s x (List·Memᴰ·tail m))) (le-of-suc-le-suc h) in
+    let t : Sub ks js = sub-uncons j ks js (above-le j k ks (omega arith) (r .0)) (λ x m. s x (List·Memᴰ·tail m)) in
+    let p : ks ≡ js = rising-same ks js (r .1) (q .1) t (le-of-suc-le-suc h) in
     cc)
-    (λ (g : List·Memᴰ k js). let p : length (k ∷ ks) ≤ length js = rising-length (k ∷ ks) js r (q .1) (sub-uncons j (k ∷ ks) js (rising-above-mem j k js ks (q .0) (r .0) g) s) in absurd (omega arith))
+    (λ (g : List·Memᴰ k js).
+    let p : length (k ∷ ks) ≤ length js = rising-length (k ∷ ks) js r (q .1) (sub-uncons j (k ∷ ks) js (rising-above-mem j k js ks (q .0) (r .0) g) s) in
+    absurd (omega arith))
     (List·Memᴰ·cases-cons (s k (List·Memᴰ·head refl)))
 
 pub rising-ext : (l m : List ℕ) → Rising l → Rising m → Sub l m → Sub m l → l ≡ m
@@ -197,10 +205,10 @@ rising-getD-le (x ∷ xs) r (suc i) (suc j) h g = rising-getD-le xs (r .1) i j (
 
 -- .. and so an index is told by its key
 pub getD-rising-lt : (l : List ℕ) → Rising l → (i j : ℕ) → i < length l → getD l i 0 < getD l j 0 → i < j
-getD-rising-lt l r i j h g = ⊎-elim {C = i < j} (λ (p : i < j). p) (λ (p : j ≤ i). let q : getD l j 0 ≤ getD l i 0 = rising-getD-le l r j i p h in absurd (omega arith)) (lt-or-le i j)
+getD-rising-lt l r i j h g = le-unless (suc i) j (λ p. let q : getD l j 0 ≤ getD l i 0 = rising-getD-le l r j i (le-of-suc-le-suc p) h in omega arith)
 
 pub getD-rising-le : (l : List ℕ) → Rising l → (i j : ℕ) → i < length l → getD l i 0 ≤ getD l j 0 → i ≤ j
-getD-rising-le l r i j h g = ⊎-elim {C = i ≤ j} (λ (p : j < i). let q : getD l j 0 < getD l i 0 = rising-getD l r j i p h in absurd (omega arith)) (λ (p : i ≤ j). p) (lt-or-le j i)
+getD-rising-le l r i j h g = le-unless i j (λ p. let q : getD l j 0 < getD l i 0 = rising-getD l r j i p h in omega arith)
 
 pub getD-rising-eq : (l : List ℕ) → Rising l → (i j : ℕ) → i < length l → j < length l → getD l i 0 ≡ getD l j 0 → i ≡ j
 getD-rising-eq l r i j h g e =

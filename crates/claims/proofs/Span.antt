@@ -10,8 +10,10 @@ use native.Mathlib.Omega.{arith}
 use lib.ListN.{length, take, drop, getD, length-drop}
 use lib.Seq.{length-take-le, getD-take, getD-drop, take-add, drop-drop}
 use Rattle.claims.specs.Claim.{span, between}
-use Rattle.claims.proofs.Rising.{Rising, above-mem, rising-head, rising-append-left, rising-append-right, rising-append-lt, rising-take, rising-drop, mem-getD, mem-length, mem-index, rising-getD, rising-getD-le, getD-rising-lt, rising-ext}
-use Rattle.claims.proofs.Between.{between-within, between-below, between-all, between-none, between-append, between-mem, mem-between, between-rising, between-widen, inside, inside-mem}
+use Rattle.claims.proofs.Rising.{Rising, above-mem, rising-head, rising-append-left, rising-append-right, rising-append-lt, rising-take, rising-drop, rising-ext}
+use Rattle.claims.proofs.Rising.{mem-getD, mem-length, mem-index, rising-getD, rising-getD-le, getD-rising-lt}
+use Rattle.claims.proofs.Between.{between-within, between-below, between-all, between-none, between-append, between-mem, mem-between}
+use Rattle.claims.proofs.Between.{between-rising, between-widen, inside, inside-mem}
 
 -- ---- the first and the last key
 
@@ -98,8 +100,11 @@ pub between-part : (a m b : List ℕ) → Rising (a ++ (m ++ b)) → 0 < length 
 between-part a m b r h =
     let q : Rising (m ++ b) = rising-append-right a (m ++ b) r in
     let rm : Rising m = rising-append-left m b q in
-    let before : between (first m) (last m) a ≡ [] = between-none (first m) (last m) a (λ k n g i. let p : k < first m = rising-append-lt a (m ++ b) r k (first m) n (Memᴰ·append-left b (mem-first m h)) in omega arith) in
-    let after : between (first m) (last m) b ≡ [] = between-none (first m) (last m) b (λ k n g i. let p : last m < k = rising-append-lt m b q (last m) k (mem-last m h) n in omega arith) in
+    let before : between (first m) (last m) a ≡ []
+    = between-none (first m) (last m) a
+    (λ k n g i. let p : k < first m = rising-append-lt a (m ++ b) r k (first m) n (Memᴰ·append-left b (mem-first m h)) in omega arith) in
+    let after : between (first m) (last m) b ≡ []
+    = between-none (first m) (last m) b (λ k n g i. let p : last m < k = rising-append-lt m b q (last m) k (mem-last m h) n in omega arith) in
     between-append (first m) (last m) a (m ++ b)
     ∙ ap (λ (t : List ℕ). t ++ between (first m) (last m) (m ++ b)) before
     ∙ between-append (first m) (last m) m b
@@ -188,7 +193,8 @@ span-inside i j l r h g =
     let after : getD l i 0 < getD l (i + 1) 0 = rising-getD l r i (i + 1) (omega arith) (omega arith) in
     let before : getD l (j - 1) 0 < getD l j 0 = rising-getD l r (j - 1) j (omega arith) g in
     span-between (i + 1) (j - 1) l r h (omega arith)
-    ∙ rising-ext (between (getD l (i + 1) 0) (getD l (j - 1) 0) l) (inside (getD l i 0) (getD l j 0) l) (between-rising (getD l (i + 1) 0) (getD l (j - 1) 0) l r) (between-rising (suc (getD l i 0)) (getD l j 0 - 1) l r)
+    ∙ rising-ext (between (getD l (i + 1) 0) (getD l (j - 1) 0) l) (inside (getD l i 0) (getD l j 0) l)
+    (between-rising (getD l (i + 1) 0) (getD l (j - 1) 0) l r) (between-rising (suc (getD l i 0)) (getD l j 0 - 1) l r)
     (between-widen (suc (getD l i 0)) (getD l j 0 - 1) (getD l (i + 1) 0) (getD l (j - 1) 0) l after (omega arith))
     (λ k m.
     let t = inside-mem (getD l i 0) (getD l j 0) l k m in

@@ -2,7 +2,7 @@
 -- Not here: what a single test says (`ltb-true`, `lt-ltb` and the rest, in borrow.Author.Tests). Assumes nothing.
 use Prim.Native.Nat.{ℕ, _≤_, _<_}
 use mathlib.Core.Bool.{Bool, true, false, _&&_, false≢true}
-use mathlib.Core.Logic.{_⊎_, inl, inr}
+use mathlib.Core.Logic.{_⊎_, inl, inr, ⊎-elim}
 use mathlib.Core.Path.{_≡_, refl}
 use native.Mathlib.Omega.{arith}
 use borrow.Author.Tests.{ltb-true, ltb-false, eqb-true, eqb-false}
@@ -26,6 +26,10 @@ lt-or-le a b = go (ltb a b) refl
     go : (t : Bool) → ltb a b ≡ t → (a < b) ⊎ (b ≤ a)
     go true e = inl (ltb-true a b e)
     go false e = inr (ltb-false a b e)
+
+-- a bound, by what its failing would say
+pub le-unless : (a b : ℕ) → (b < a → ⊥) → a ≤ b
+le-unless a b f = ⊎-elim {C = a ≤ b} (λ (h : b < a). absurd (f h)) (λ (h : a ≤ b). h) (lt-or-le b a)
 
 pub eq-or-ne : (a b : ℕ) → (a ≡ b) ⊎ (a ≡ b → ⊥)
 eq-or-ne a b = go (eqb a b) refl
