@@ -11,6 +11,10 @@
 --   ClaimLaws     claims of spans
 --   ReplyLaws     what a reply says; a match that is not false
 --   Cases         the twelve lettered cases
+-- The laws of the code. Not cited from outside, but for LentLaws.
+--   Loops, Halving, Putting     one loop each
+--   Judging, Lending, Adding, HalfSums     each way that the code of src/claim.rt and src/lent.rt goes
+--   LentLaws      what the calls on a lent run mean where the run is a store in order
 pub mod Tests
 pub mod Rising
 pub mod Insert
@@ -23,3 +27,13 @@ pub mod QuestionLaws
 pub mod ClaimLaws
 pub mod ReplyLaws
 pub mod Cases
+mod Loops
+mod Halving
+mod Putting
+mod Judging
+mod HalfSums
+mod Lending
+mod Adding
+mod Finding
+pub mod LentLaws
+mod Calling

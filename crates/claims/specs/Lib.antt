@@ -11,4 +11,5 @@ pub mod Claim
 pub mod Question
 pub mod Reply
 pub mod Call
+pub mod Lent
 pub mod Cases

@@ -41,15 +41,13 @@ help a b l =
     (One (claimOf a b l))
     (Two (claimOf a (a + half a b) l) (claimOf (a + half a b + 1) b l))
 
--- The answer of a store whose keys l have lo and hi among them. Lines 20 to 35: "match", "cnt greater than own cnt: ask, which carries own",
--- "Otherwise help. Let a be the position after lo and b the one before hi."
+-- "Own equals the claim in all four fields: match. cnt greater than own cnt: ask, which carries own. Otherwise help." Lines 21 to 26.
+abbrev pub decide : Claim → Claim → Answer → Answer
+decide mine c helped = cond (same mine c) Match (cond (ltb (mine .cnt) (c .cnt)) (Ask mine) helped)
+
+-- The answer of a store whose keys l have lo and hi among them. "Let a be the position after lo and b the one before hi."
 unfoldable pub answer : Claim → List ℕ → Answer
-answer c l =
-    cond (same (own c l) c)
-    Match
-    (cond (ltb (own c l .cnt) (c .cnt))
-    (Ask (own c l))
-    (help (position (c .lo) l + 1) (position (c .hi) l - 1) l))
+answer c l = decide (own c l) c (help (position (c .lo) l + 1) (position (c .hi) l - 1) l)
 
 -- The reply of a store with the keys l: lo and hi are added first.
 abbrev pub reply : Claim → List ℕ → Answer

@@ -1,0 +1,199 @@
+-- The sums of the two halves of a span (specs/Lent, `Halves`), from which one pass over the keys gives own and the claims that help.
+-- The span is the left half and then the right one; the left one begins with lo, and the right one ends with hi. Assumes nothing.
+use mathlib.Core.Path.{_≡_, refl, sym, _∙_, ap, ap₂}
+use mathlib.Core.Bool.{Bool, true, false}
+use mathlib.Core.List.{List, [], _∷_, _++_}
+use Prim.Native.Nat.{ℕ, zero, suc, _+_, _-_, _/_, _≤_, _<_}
+use native.Mathlib.Numerals.{add-one}
+use native.Mathlib.Omega.{arith}
+use borrow.Author.Tests.{lt-ltb, le-ltb}
+use lib.Bits.{bitXor, xor-comm, xor-self, xor-zero-r}
+use lib.ListN.{length, take, drop, getD, length-drop}
+use lib.Seq.{take-add, drop-drop, take-suc, drop-cons, getD-drop}
+use Rattle.claims.specs.declared.answer.Answer.the-variants.{Refused, Match, Ask, One, Two}
+use Rattle.claims.specs.declared.claim.Claim.{Claim}
+use Rattle.claims.specs.Claim.{xorAll, span, claimOf}
+use Rattle.claims.specs.Reply.{same, half, decide}
+use Rattle.claims.specs.Lent.{middle, Halves, helpIn}
+use Rattle.claims.proofs.Xor.{xor-assoc, xorAll-append, xorAll-snoc}
+
+-- the numbers at positions i to i + n - 1
+abbrev pub part : ℕ → ℕ → List ℕ → List ℕ
+part i n l = take n (drop i l)
+
+-- two parts, one right after the other, are one
+pub part-join : (i m n : ℕ) (l : List ℕ) → part i m l ++ part (i + m) n l ≡ part i (m + n) l
+part-join i m n l = rw (← (drop-drop m i l)) (sym (take-add m n (drop i l)))
+
+pub xor-join : (i m n : ℕ) (l : List ℕ) → bitXor (xorAll (part i m l)) (xorAll (part (i + m) n l)) ≡ xorAll (part i (m + n) l)
+xor-join i m n l = sym (xorAll-append (part i m l) (part (i + m) n l)) ∙ ap xorAll (part-join i m n l)
+
+-- a part without its first number, and without its last
+pub xor-first : (i n : ℕ) (l : List ℕ) → i < length l → bitXor (xorAll (part i (suc n) l)) (getD l i 0) ≡ xorAll (part (suc i) n l)
+xor-first i n l h =
+    rw (drop-cons l i 0)
+    (ap (λ (x : ℕ). bitXor x (getD l i 0)) (xor-comm (getD l i 0) (xorAll (take n (drop (suc i) l))))
+    ∙ (xor-assoc (xorAll (take n (drop (suc i) l))) (getD l i 0) (getD l i 0)
+    ∙ rw (xor-self, xor-zero-r)))
+
+pub xor-last : (i n : ℕ) (l : List ℕ) → i + n < length l → bitXor (xorAll (part i (suc n) l)) (getD l (i + n) 0) ≡ xorAll (part i n l)
+xor-last i n l h =
+    let e : take (suc n) (drop i l) ≡ take n (drop i l) ++ (getD (drop i l) n 0 ∷ []) =
+    take-suc (drop i l) n 0 (omega (arith, length-drop i l)) in
+    rw (e, getD-drop, xorAll-snoc, xor-assoc, xor-self, xor-zero-r)
+
+-- a claim by its fields
+pub claimOf-fields : (keys : List ℕ) (i j i′ j′ sum cnt : ℕ) → i ≡ i′ → j ≡ j′ → sum ≡ xorAll (span i′ j′ keys) → cnt ≡ j′ - i′ + 1
+    → record { lo = getD keys i 0; hi = getD keys j 0; sum = sum; cnt = cnt } ≡ claimOf i′ j′ keys
+claimOf-fields keys i j i′ j′ sum cnt p q r s = λ t. record { lo = getD keys (p t) 0; hi = getD keys (q t) 0; sum = r t; cnt = s t }
+
+-- the code's part of a slice is the span
+pub part-span : (keys : List ℕ) (first last : ℕ) → first ≤ last → xorAll (part first (last + 1 - first) keys) ≡ xorAll (span first last keys)
+part-span keys first last h = let e : last + 1 - first ≡ last - first + 1 = omega arith in rw e
+
+-- where the first of two claims ends, and how many keys each has
+pub middle-half : (first last : ℕ) → first + 1 < last → middle first last ≡ first + 1 + half (first + 1) (last - 1) + 1
+middle-half first last h = omega arith
+
+pub middle-lt : (first last : ℕ) → 3 ≤ last - 1 - (first + 1) → middle first last < last
+middle-lt first last h = omega arith
+
+left-count : (m first end : ℕ) → first + 1 < m → m ≡ end + 1 → end - (first + 1) + 1 ≡ m - first - 1
+left-count m first end h e = omega arith
+
+left-end : (m end : ℕ) → m ≡ end + 1 → m - 1 ≡ end
+left-end m end e = omega arith
+
+left-cnt : (m first : ℕ) → m - (first + 1) ≡ m - first - 1
+left-cnt m first = omega arith
+
+right-cnt : (m last : ℕ) → m < last → last - 1 + 1 - m ≡ last - m
+right-cnt m last h = omega arith
+
+right-count : (m last : ℕ) → m < last → last - 1 - m + 1 ≡ last - m
+right-count m last h = omega arith
+
+module _ (keys : List ℕ) (first last left right : ℕ) (halves : Halves keys first last left right) where
+  -- both halves are the span
+  pub halves-sum : bitXor left right ≡ xorAll (span first last keys)
+  halves-sum =
+      let places = halves .places in
+      let m : first + (middle first last - first) ≡ middle first last = omega arith in
+      let n : middle first last - first + (last + 1 - middle first last) ≡ last - first + 1 = omega arith in
+      rw (halves .left-sum, halves .right-sum)
+      (rw (m, n) at (xor-join first (middle first last - first) (last + 1 - middle first last) keys))
+
+  -- own, as one pass gives it
+  abbrev pub ownWith : Claim
+  ownWith = record { lo = getD keys first 0; hi = getD keys last 0; sum = bitXor left right; cnt = last - first + 1 }
+
+  pub own-halves : ownWith ≡ claimOf first last keys
+  own-halves = claimOf-fields keys first last first last (bitXor left right) (last - first + 1) refl refl halves-sum refl
+
+  -- the help
+  pub help-none : last ≤ first + 1 → Refused 7 ≡ helpIn keys first last
+  help-none h = rw (le-ltb (first + 1) last h)
+
+  pub one-sum : first + 1 < last
+      → bitXor (bitXor (bitXor left right) (getD keys first 0)) (getD keys last 0) ≡ xorAll (span (first + 1) (last - 1) keys)
+  one-sum h =
+      let places = halves .places in
+      let n : ℕ = last - first - 1 in
+      let e : last - first + 1 ≡ suc (suc n) = omega arith in
+      let f : suc first + n ≡ last = omega arith in
+      let g : last - 1 - (first + 1) + 1 ≡ n = omega arith in
+      let a : bitXor (xorAll (part first (suc (suc n)) keys)) (getD keys first 0) ≡ xorAll (part (suc first) (suc n) keys) = xor-first first (suc n) keys (omega arith) in
+      let b : bitXor (xorAll (part (suc first) (suc n) keys)) (getD keys (suc first + n) 0) ≡ xorAll (part (suc first) n keys) = xor-last (suc first) n keys (omega arith) in
+      rw (halves-sum, e, a, g, add-one first) (rw f at b)
+
+  pub help-one : first + 1 < last → last - 1 - (first + 1) < 3
+      → One (record {
+        lo = getD keys (first + 1) 0;
+        hi = getD keys (last - 1) 0;
+        sum = bitXor (bitXor (bitXor left right) (getD keys first 0)) (getD keys last 0);
+        cnt = last - 1 - (first + 1) + 1;
+      })
+      ≡ helpIn keys first last
+  help-one h g =
+      rw (lt-ltb (first + 1) last h, lt-ltb (last - 1 - (first + 1)) 3 g)
+      (ap One (claimOf-fields keys (first + 1) (last - 1) (first + 1) (last - 1) (bitXor (bitXor (bitXor left right) (getD keys first 0)) (getD keys last 0)) (last - 1 - (first + 1) + 1) refl refl (one-sum h) refl))
+
+  pub left-help : first + 1 < last → 3 ≤ last - 1 - (first + 1)
+      → record {
+        lo = getD keys (first + 1) 0;
+        hi = getD keys (middle first last - 1) 0;
+        sum = bitXor left (getD keys first 0);
+        cnt = middle first last - (first + 1);
+      }
+      ≡ claimOf (first + 1) (first + 1 + half (first + 1) (last - 1)) keys
+  left-help h g =
+      let places = halves .places in
+      let n : ℕ = middle first last - first - 1 in
+      let e : middle first last - first ≡ suc n = omega arith in
+      let i = middle-half first last h in
+      let j : middle first last - 1 ≡ first + 1 + half (first + 1) (last - 1) = left-end (middle first last) (first + 1 + half (first + 1) (last - 1)) i in
+      let k : first + 1 + half (first + 1) (last - 1) - (first + 1) + 1 ≡ n =
+      left-count (middle first last) first (first + 1 + half (first + 1) (last - 1)) (omega arith) i in
+      let l = left-cnt (middle first last) first in
+      let c : middle first last - (first + 1) ≡ first + 1 + half (first + 1) (last - 1) - (first + 1) + 1 = l ∙ sym k in
+      let a : bitXor (xorAll (part first (suc n) keys)) (getD keys first 0) ≡ xorAll (part (suc first) n keys) = xor-first first n keys (omega arith) in
+      let s : bitXor left (getD keys first 0) ≡ xorAll (span (first + 1) (first + 1 + half (first + 1) (last - 1)) keys) =
+      rw (halves .left-sum, e, k) (rw (← (add-one first)) at a) in
+      claimOf-fields keys (first + 1) (middle first last - 1) (first + 1) (first + 1 + half (first + 1) (last - 1)) (bitXor left (getD keys first 0)) (middle first last - (first + 1)) refl j s c
+
+  pub right-help : first + 1 < last → 3 ≤ last - 1 - (first + 1)
+      → record {
+        lo = getD keys (middle first last) 0;
+        hi = getD keys (last - 1) 0;
+        sum = bitXor right (getD keys last 0);
+        cnt = last - 1 + 1 - middle first last;
+      }
+      ≡ claimOf (first + 1 + half (first + 1) (last - 1) + 1) (last - 1) keys
+  right-help h g =
+      let places = halves .places in
+      let n : ℕ = last - middle first last in
+      let below = middle-lt first last g in
+      let e : last + 1 - middle first last ≡ suc n = omega arith in
+      let f : middle first last + n ≡ last = omega arith in
+      let i = middle-half first last h in
+      let k : last - 1 - (first + 1 + half (first + 1) (last - 1) + 1) + 1 ≡ n = rw (← i) (right-count (middle first last) last below) in
+      let l = right-cnt (middle first last) last below in
+      let c : last - 1 + 1 - middle first last ≡ last - 1 - (first + 1 + half (first + 1) (last - 1) + 1) + 1 = l ∙ sym k in
+      let a : bitXor (xorAll (part (middle first last) (suc n) keys)) (getD keys (middle first last + n) 0) ≡ xorAll (part (middle first last) n keys) = xor-last (middle first last) n keys (omega arith) in
+      let s : bitXor right (getD keys last 0) ≡ xorAll (span (first + 1 + half (first + 1) (last - 1) + 1) (last - 1) keys) =
+      rw (halves .right-sum, e, k, ← i) (rw f at a) in
+      claimOf-fields keys (middle first last) (last - 1) (first + 1 + half (first + 1) (last - 1) + 1) (last - 1) (bitXor right (getD keys last 0)) (last - 1 + 1 - middle first last) i refl s c
+
+  pub help-two : first + 1 < last → 3 ≤ last - 1 - (first + 1)
+      → Two
+      (record {
+        lo = getD keys (first + 1) 0;
+        hi = getD keys (middle first last - 1) 0;
+        sum = bitXor left (getD keys first 0);
+        cnt = middle first last - (first + 1);
+      })
+      (record {
+        lo = getD keys (middle first last) 0;
+        hi = getD keys (last - 1) 0;
+        sum = bitXor right (getD keys last 0);
+        cnt = last - 1 + 1 - middle first last;
+      })
+      ≡ helpIn keys first last
+  help-two h g =
+      rw (lt-ltb (first + 1) last h, le-ltb (last - 1 - (first + 1)) 3 g) (ap₂ Two (left-help h g) (right-help h g))
+
+  -- the answer, from what comparing own with the claim said
+  module _ (c : Claim) (alike : Bool) (compared : alike ≡ same ownWith c) where
+    same-own : same (claimOf first last keys) c ≡ alike
+    same-own = ap (λ (own : Claim). same own c) (sym own-halves) ∙ sym compared
+
+    pub decide-match : alike ≡ true → Match ≡ decide (claimOf first last keys) c (helpIn keys first last)
+    decide-match e = rw (same-own, e)
+
+    pub decide-ask : alike ≡ false → last - first + 1 < c .cnt
+        → Ask ownWith ≡ decide (claimOf first last keys) c (helpIn keys first last)
+    decide-ask e h = rw (same-own, e, lt-ltb (last - first + 1) (c .cnt) h) (ap Ask own-halves)
+
+    pub decide-help : alike ≡ false → c .cnt ≤ last - first + 1
+        → helpIn keys first last ≡ decide (claimOf first last keys) c (helpIn keys first last)
+    decide-help e h = rw (same-own, e, le-ltb (last - first + 1) (c .cnt) h)

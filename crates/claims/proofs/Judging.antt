@@ -1,0 +1,84 @@
+-- The questions of a single claim as the code puts them (src/claim.rt): one law for each way that the code goes. Assumes nothing.
+use mathlib.Core.Path.{_≡_, refl, sym, _∙_}
+use mathlib.Core.Bool.{Bool, true, false}
+use Prim.Native.Nat.{ℕ, _+_, _-_, _≤_, _<_}
+use native.Mathlib.Omega.{arith}
+use borrow.Author.Tests.{le-leb, lt-leb, leb-true, leb-false, eq-eqb, ne-eqb}
+use lib.Bits.{bitXor}
+use lib.Dec.{leb, eqb}
+use Rattle.claims.specs.declared.claim.Claim.{Claim}
+use Rattle.claims.specs.Store.{limit}
+use Rattle.claims.specs.Question.{question3, question4, question5}
+use Rattle.claims.specs.Reply.{same}
+use Rattle.claims.specs.Call.{judged}
+
+-- 1 taken off on both sides of a comparison
+pub leb-pred : (m n : ℕ) → 0 < m → leb (m - 1) n ≡ leb m (n + 1)
+leb-pred m n h = go (leb m (n + 1)) refl
+  where
+    go : (t : Bool) → leb m (n + 1) ≡ t → leb (m - 1) n ≡ t
+    go true e = let g : m ≤ n + 1 = leb-true m (n + 1) e in le-leb (m - 1) n (omega arith)
+    go false e = let g : n + 1 < m = leb-false m (n + 1) e in lt-leb (m - 1) n (omega arith)
+
+module _ (c : Claim) where
+  -- question 3
+  pub counts-none : c .cnt < 1 → false ≡ question3 c .yes
+  counts-none h = rw (lt-leb 1 (c .cnt) h)
+
+  pub counts-some : 1 ≤ c .cnt → leb (c .cnt) limit ≡ question3 c .yes
+  counts-some h = rw (le-leb 1 (c .cnt) h)
+
+  -- question 4
+  pub spans-one : c .lo ≡ c .hi → eqb (c .cnt) 1 ≡ question4 c .yes
+  spans-one e = rw (eq-eqb (c .lo) (c .hi) e)
+
+  pub spans-few : (c .lo ≡ c .hi → ⊥) → c .cnt < 2 → false ≡ question4 c .yes
+  spans-few f h = rw (ne-eqb (c .lo) (c .hi) f, lt-leb 2 (c .cnt) h)
+
+  pub spans-many : (c .lo ≡ c .hi → ⊥) → 2 ≤ c .cnt → leb (c .cnt - 1) (c .hi - c .lo) ≡ question4 c .yes
+  spans-many f h = rw (ne-eqb (c .lo) (c .hi) f, le-leb 2 (c .cnt) h) (leb-pred (c .cnt) (c .hi - c .lo) (omega arith))
+
+  -- question 5
+  pub sums-one : c .cnt ≡ 1 → eqb (c .sum) (c .lo) ≡ question5 c .yes
+  sums-one e = rw (eq-eqb (c .cnt) 1 e)
+
+  pub sums-two : (c .cnt ≡ 1 → ⊥) → c .cnt ≡ 2 → eqb (c .sum) (bitXor (c .lo) (c .hi)) ≡ question5 c .yes
+  sums-two f e = rw (ne-eqb (c .cnt) 1 f, eq-eqb (c .cnt) 2 e)
+
+  pub sums-more : (c .cnt ≡ 1 → ⊥) → (c .cnt ≡ 2 → ⊥) → true ≡ question5 c .yes
+  sums-more f g = rw (ne-eqb (c .cnt) 1 f, ne-eqb (c .cnt) 2 g)
+
+  -- the four in order
+  pub judged-2 : c .hi < c .lo → 2 ≡ judged c
+  unfolding judged
+  judged-2 h = rw (lt-leb (c .lo) (c .hi) h)
+
+  pub judged-3 : c .lo ≤ c .hi → question3 c .yes ≡ false → 3 ≡ judged c
+  unfolding judged
+  judged-3 h e = rw (le-leb (c .lo) (c .hi) h, e)
+
+  pub judged-4 : c .lo ≤ c .hi → question3 c .yes ≡ true → question4 c .yes ≡ false → 4 ≡ judged c
+  unfolding judged
+  judged-4 h e f = rw (le-leb (c .lo) (c .hi) h, e, f)
+
+  pub judged-5 : c .lo ≤ c .hi → question3 c .yes ≡ true → question4 c .yes ≡ true → question5 c .yes ≡ false → 5 ≡ judged c
+  unfolding judged
+  judged-5 h e f g = rw (le-leb (c .lo) (c .hi) h, e, f, g)
+
+  pub judged-0 : c .lo ≤ c .hi → question3 c .yes ≡ true → question4 c .yes ≡ true → question5 c .yes ≡ true → 0 ≡ judged c
+  unfolding judged
+  judged-0 h e f g = rw (le-leb (c .lo) (c .hi) h, e, f, g)
+
+-- equal in all four fields
+module _ (c d : Claim) where
+  pub same-lo : (c .lo ≡ d .lo → ⊥) → false ≡ same c d
+  same-lo f = rw (ne-eqb (c .lo) (d .lo) f)
+
+  pub same-hi : c .lo ≡ d .lo → (c .hi ≡ d .hi → ⊥) → false ≡ same c d
+  same-hi e f = rw (eq-eqb (c .lo) (d .lo) e, ne-eqb (c .hi) (d .hi) f)
+
+  pub same-sum : c .lo ≡ d .lo → c .hi ≡ d .hi → (c .sum ≡ d .sum → ⊥) → false ≡ same c d
+  same-sum e g f = rw (eq-eqb (c .lo) (d .lo) e, eq-eqb (c .hi) (d .hi) g, ne-eqb (c .sum) (d .sum) f)
+
+  pub same-cnt : c .lo ≡ d .lo → c .hi ≡ d .hi → c .sum ≡ d .sum → eqb (c .cnt) (d .cnt) ≡ same c d
+  same-cnt e g f = rw (eq-eqb (c .lo) (d .lo) e, eq-eqb (c .hi) (d .hi) g, eq-eqb (c .sum) (d .sum) f)

@@ -1,0 +1,13 @@
+-- `claims::store::Store::empty` meets its contract. Assumes nothing.
+use mathlib.Core.Path.{refl}
+use borrow.Author.Needs.{needs}
+use Rattle.claims.specs.Store.{zeros, emptyStore, inOrder}
+use Rattle.claims.proofs.store.Store.empty.Statement.{statement}
+use Rattle.claims.proofs.store.Store.empty.Tie as tie
+
+returns : tie.Need-returns
+unfolding zeros emptyStore inOrder
+returns c = (refl, refl)
+
+pub empty-spec : {M : Type 1} → statement M
+empty-spec = tie.close (tie.spec returns)

@@ -1,0 +1,156 @@
+-- The calls on a lent run of keys, for any content of the run: what the loops of the crate above use, so that they neither copy a store nor put
+-- question 1 again at each step. They are given a run of keys and a count, and no store: question 1 is not theirs, and they are no rule of document 01.
+-- What they mean where the run is a store in order is said by laws (proofs/LentLaws), by the definitions of Store, Claim and Reply. Assumes nothing.
+use mathlib.Core.Path.{_≡_}
+use Prim.Native.Nat.{ℕ, zero, suc, _+_, _-_, _/_, _≤_, _<_}
+use mathlib.Core.Bool.{Bool, true, false, cond, _&&_}
+use mathlib.Core.List.{List, [], _∷_, _++_}
+use lib.Dec.{ltb, leb, eqb}
+use lib.ListN.{length, take, drop, getD}
+use Rattle.claims.specs.declared.claim.Claim.{Claim}
+use Rattle.claims.specs.declared.answer.Answer.{Answer}
+use Rattle.claims.specs.declared.answer.Answer.the-variants.{Refused}
+use Rattle.claims.specs.declared.answer.Made.{Made}
+use Rattle.claims.specs.declared.lent.Place.{Place}
+use Rattle.claims.specs.declared.lent.Heard.{Heard}
+use Rattle.claims.specs.declared.lent.Told.{Told}
+use Rattle.claims.specs.Store.{limit, rising, allZero}
+use Rattle.claims.specs.Claim.{claimOf, noClaim, xorAll}
+use Rattle.claims.specs.Reply.{decide, help}
+
+-- is a run of keys with a count that of a store in order?
+unfoldable pub orderedIn : List ℕ → ℕ → Bool
+orderedIn keys count = leb count limit && (leb count (length keys) && (rising (take count keys) && allZero (drop count keys)))
+
+-- Halving: of the `size` keys from `base` on, the half in which the last key that is at most `key` stands; n times over.
+abbrev pub halved : ℕ → List ℕ → ℕ → ℕ → ℕ → ℕ
+halved zero keys key base size = base
+halved (suc n) keys key base size =
+    halved n keys key (cond (leb (getD keys (base + size / 2) 0) key) (base + size / 2) base) (size - size / 2)
+
+-- where a key stands, or would stand, from the key found by halving
+abbrev pub placeAt : ℕ → ℕ → ℕ → Place
+placeAt at found key = cond (ltb found key) (record { at = at + 1; held = false }) (record { at = at; held = eqb found key })
+
+-- the place of a key among the first `count` keys; none are searched where the run has fewer
+unfoldable pub placeIn : List ℕ → ℕ → ℕ → Place
+placeIn keys count key =
+    cond (ltb 0 count && leb count (length keys))
+    (placeAt (halved count keys key 0 count) (getD keys (halved count keys key 0 count) 0) key)
+    (record { at = 0; held = false })
+
+-- the run with `key` put in at a place, and the keys from there to the count moved up by one
+unfoldable pub putAt : ℕ → ℕ → ℕ → List ℕ → List ℕ
+putAt at count key keys = take at keys ++ (key ∷ (take (count - at) (drop at keys) ++ drop (count + 1) keys))
+
+-- how many keys are missing at a place: one where it is not held
+abbrev pub lacking : Place → ℕ
+lacking p = cond (p .held) 0 1
+
+-- the run once a key is put in at its place, unless it is held
+abbrev pub putIn : Place → ℕ → ℕ → List ℕ → List ℕ
+putIn p count key keys = cond (p .held) keys (putAt (p .at) count key keys)
+
+-- is there room for m keys more?
+abbrev pub room : ℕ → ℕ → Bool
+room count m = leb (count + m) limit
+
+-- what hearing gives: the count, and where lo and hi stand then; or the number 6, and the count as it was
+abbrev pub heardAt : ℕ → ℕ → ℕ → Heard
+heardAt count first last = record { number = 0; count = count; first = first; last = last }
+
+abbrev pub noRoom : ℕ → Heard
+noRoom count = record { number = 6; count = count; first = 0; last = 0 }
+
+-- one key added at its place p: the answer, and the run
+abbrev pub addOne : Place → ℕ → Heard
+addOne p count = cond (room count (lacking p)) (heardAt (count + lacking p) (p .at) (p .at)) (noRoom count)
+
+abbrev pub keysOne : Place → ℕ → ℕ → List ℕ → List ℕ
+keysOne p count key keys = cond (room count (lacking p)) (putIn p count key keys) keys
+
+-- the place q of a greater key, once the lesser one is put in at p
+abbrev pub raised : Place → Place → Place
+raised p q = record { at = q .at + lacking p; held = q .held }
+
+-- two keys added, the lesser one at p and the greater one at q: the answer, and the run
+abbrev pub addTwo : Place → Place → ℕ → Heard
+addTwo p q count =
+    cond (room count (lacking p + lacking q))
+    (heardAt (count + lacking p + lacking q) (p .at) (q .at + lacking p))
+    (noRoom count)
+
+abbrev pub keysTwo : Place → Place → ℕ → ℕ → ℕ → List ℕ → List ℕ
+keysTwo p q count lo hi keys =
+    cond (room count (lacking p + lacking q))
+    (putIn (raised p q) (count + lacking p) hi (putIn p count lo keys))
+    keys
+
+-- `add_in`: one key entered
+unfoldable pub addIn : List ℕ → ℕ → ℕ → Heard
+addIn keys count key = addOne (placeIn keys count key) count
+
+unfoldable pub keysAdding : List ℕ → ℕ → ℕ → List ℕ
+keysAdding keys count key = keysOne (placeIn keys count key) count key keys
+
+-- `hear_in`: what hearing a claim adds, its ends
+unfoldable pub hearIn : List ℕ → ℕ → Claim → Heard
+hearIn keys count c =
+    cond (eqb (c .lo) (c .hi))
+    (addOne (placeIn keys count (c .lo)) count)
+    (addTwo (placeIn keys count (c .lo)) (placeIn keys count (c .hi)) count)
+
+unfoldable pub keysHearing : List ℕ → ℕ → Claim → List ℕ
+keysHearing keys count c =
+    cond (eqb (c .lo) (c .hi))
+    (keysOne (placeIn keys count (c .lo)) count (c .lo) keys)
+    (keysTwo (placeIn keys count (c .lo)) (placeIn keys count (c .hi)) count (c .lo) (c .hi) keys)
+
+-- is first ≤ last < count, within the run and the limit?
+abbrev pub within : List ℕ → ℕ → ℕ → ℕ → Bool
+within keys count first last = leb first last && (ltb last count && (leb count (length keys) && leb count limit))
+
+-- `make_in`: the claim of two positions; 7 where they are not positions
+unfoldable pub makeIn : List ℕ → ℕ → ℕ → ℕ → Made
+makeIn keys count first last =
+    cond (within keys count first last)
+    (record { number = 0; claim = claimOf first last keys })
+    (record { number = 7; claim = noClaim })
+
+-- where the second half of the positions first to last begins: after the first of two claims that help
+abbrev pub middle : ℕ → ℕ → ℕ
+middle first last = first + 1 + (last - first + 1) / 2
+
+-- first and last are positions of a run, within the limit
+pub record Positions (keys : List ℕ) (first last : ℕ) : Type 0 where
+  pub rise : first ≤ last
+  pub short : last < limit
+  pub inside : last < length keys
+
+-- `left` and `right` are the sums of both halves of the positions first to last
+pub record Halves (keys : List ℕ) (first last left right : ℕ) : Type 0 where
+  pub places : Positions keys first last
+  pub left-sum : left ≡ xorAll (take (middle first last - first) (drop first keys))
+  pub right-sum : right ≡ xorAll (take (last + 1 - middle first last) (drop (middle first last) keys))
+
+-- the help of a store whose lo and hi stand at first and last; 7 where there is no position between them
+abbrev pub helpIn : List ℕ → ℕ → ℕ → Answer
+helpIn keys first last = cond (ltb (first + 1) last) (help (first + 1) (last - 1) keys) (Refused 7)
+
+-- `answer_in`: the answer to a claim whose lo and hi stand at first and last; 7 where these are not positions
+unfoldable pub answerIn : List ℕ → ℕ → ℕ → ℕ → Claim → Answer
+answerIn keys count first last c =
+    cond (within keys count first last)
+    (decide (claimOf first last keys) c (helpIn keys first last))
+    (Refused 7)
+
+-- what is told of a claim once it is heard, by the run as it is then
+abbrev pub toldAfter : Heard → List ℕ → Claim → Told
+toldAfter h keys c =
+    cond (eqb (h .number) 0)
+    (record { count = h .count; answer = answerIn keys (h .count) (h .first) (h .last) c })
+    (record { count = h .count; answer = Refused (h .number) })
+
+-- `reply_in`: a claim is heard and answered; where there is no room, refused with 6
+unfoldable pub replyIn : List ℕ → ℕ → Claim → Told
+replyIn keys count c = toldAfter (hearIn keys count c) (keysHearing keys count c) c

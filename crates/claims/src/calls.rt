@@ -1,0 +1,78 @@
+// The public calls of document 01: for any content, the first question answered no decides, and then the rule.
+use crate::answer::Answer;
+use crate::answer::Entered;
+use crate::answer::Made;
+use crate::answer::Replied;
+use crate::claim::Claim;
+use crate::claim::judge;
+use crate::lent::add_in;
+use crate::lent::make_in;
+use crate::lent::ordered_in;
+use crate::lent::reply_in;
+use crate::store::Store;
+ghost use mathlib.Core.Path.{_≡_};
+ghost use Rattle.claims.specs.Call.{entered, made, replied};
+
+// Enters a key. Asks 1 and 6.
+pub fn enter(store: Store, key: u64) -> Entered
+    ensures { λ r. ⌜ r ≡ entered store key ⌝ }
+{
+    let mut s = store;
+    let count = s.count;
+    if !ordered_in(&s.keys, count) {
+        return Entered {
+            number: 1,
+            store: s,
+        };
+    }
+    let added = add_in(&mut s.keys, count, key);
+    s.count = added.count;
+    Entered {
+        number: added.number,
+        store: s,
+    }
+}
+
+// Makes the claim of positions first to last. Asks 1 and 7.
+pub fn make(store: Store, first: usize, last: usize) -> Made
+    ensures { λ r. ⌜ r ≡ made store first last ⌝ }
+{
+    let count = store.count;
+    if !ordered_in(&store.keys, count) {
+        return Made {
+            number: 1,
+            claim: Claim {
+                lo: 0,
+                hi: 0,
+                sum: 0,
+                cnt: 0,
+            },
+        };
+    }
+    make_in(&store.keys, count, first, last)
+}
+
+// Replies to a claim. Asks 1, 2 to 5 and 6.
+pub fn reply(store: Store, claim: Claim) -> Replied
+    ensures { λ r. ⌜ r ≡ replied store claim ⌝ }
+{
+    let mut s = store;
+    let count = s.count;
+    if !ordered_in(&s.keys, count) {
+        return Replied {
+            store: s,
+            answer: Answer::Refused(1),
+        };
+    }
+    let number = judge(claim);
+    if number != 0 {
+        return Replied {
+            store: s,
+            answer: Answer::Refused(number),
+        };
+    }
+    let told = reply_in(&mut s.keys, count, claim);
+    let answer = told.answer;
+    s.count = told.count;
+    Replied { store: s, answer }
+}
