@@ -1,0 +1,79 @@
+-- Pending table and beat (document 01, the section of that name; the paper's Algorithm 1, lines 15 to 36): the order of claims, taking one into
+-- the table, serving the table. A table is the list of its claims. Not here: the node that has a table (Node), the calls (Call). Assumes nothing.
+use Prim.Native.Nat.{ℕ, _+_, _*_}
+use mathlib.Core.Bool.{Bool, true, false, cond, _&&_}
+use mathlib.Core.List.{List, [], _∷_, _++_}
+use lib.Dec.{ltb, eqb}
+use lib.ListN.{take}
+use Rattle.claims.specs.declared.claim.Claim.{Claim}
+use Rattle.claims.specs.declared.answer.Answer.{Answer}
+use Rattle.claims.specs.declared.answer.Answer.the-variants.{Refused, Match, Ask, One, Two}
+use Rattle.claims.specs.Claim.{wholeClaim}
+use Rattle.claims.specs.Reply.{same, reply, claimsOf}
+
+-- "up to 64 pending claims"
+abbrev pub tableLimit : ℕ
+tableLimit = 64
+
+-- "strictly rising by cnt, then lo, hi, sum": what a claim is ordered by, as one list of words
+abbrev pub ranking : Claim → List ℕ
+ranking c = c .cnt ∷ c .lo ∷ c .hi ∷ c .sum ∷ []
+
+-- the first words that differ decide
+abbrev pub wordsBefore : List ℕ → List ℕ → Bool
+wordsBefore [] [] = false
+wordsBefore [] (y ∷ ys) = true
+wordsBefore (x ∷ xs) [] = false
+wordsBefore (x ∷ xs) (y ∷ ys) = cond (eqb x y) (wordsBefore xs ys) (ltb x y)
+
+abbrev pub before : Claim → Claim → Bool
+before c d = wordsBefore (ranking c) (ranking d)
+
+-- the claims rise strictly, the first of them from above c
+abbrev pub climbsFrom : Claim → List Claim → Bool
+climbsFrom c [] = true
+climbsFrom c (d ∷ ds) = before c d && climbsFrom d ds
+
+-- the claims rise strictly
+abbrev pub climbs : List Claim → Bool
+climbs [] = true
+climbs (c ∷ cs) = climbsFrom c cs
+
+-- a claim put in its place, "unless an equal one is pending"
+abbrev pub insertClaim : Claim → List Claim → List Claim
+insertClaim c [] = c ∷ []
+insertClaim c (d ∷ ds) = cond (before d c) (d ∷ insertClaim c ds) (cond (same d c) (d ∷ ds) (c ∷ (d ∷ ds)))
+
+-- "then the claim unless an equal one is pending; of 65 the last in order is dropped"
+abbrev pub tableWith : Claim → List Claim → List Claim
+tableWith c t = take tableLimit (insertClaim c t)
+
+-- "Matched and helped claims leave the table; asked ones remain."
+abbrev pub remains : Answer → Bool
+remains (Refused n) = false
+remains Match = false
+remains (Ask c) = true
+remains (One c) = false
+remains (Two c d) = false
+
+-- what a beat sends for the pending claims, and which of them it keeps
+pub record Served : Type 0 where
+  pub sent : List Claim
+  pub kept : List Claim
+
+-- one pending claim served, before those that come after it in table order
+abbrev pub serving : List ℕ → Claim → Served → Served
+serving l c rest = record { sent = claimsOf (reply c l) ++ rest .sent; kept = cond (remains (reply c l)) (c ∷ rest .kept) (rest .kept) }
+
+-- "in table order each pending claim's reply claims", by a store with the keys l
+abbrev pub serve : List ℕ → List Claim → Served
+serve l [] = record { sent = []; kept = [] }
+serve l (c ∷ cs) = serving l c (serve l cs)
+
+-- what a beat writes: "the whole claim (none if empty), then in table order each pending claim's reply claims"
+abbrev pub sending : List ℕ → List Claim → List Claim
+sending l t = wholeClaim l ++ serve l t .sent
+
+-- the claims that a beat may write, whatever is pending: the whole claim, and at most two for each pending one
+abbrev pub beatLimit : ℕ
+beatLimit = 1 + 2 * tableLimit

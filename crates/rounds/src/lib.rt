@@ -1,0 +1,10 @@
+// The upper library: nodes with their pending claims, beats and rounds (document 01, "A round", "Pending table and beat").
+mod answer;
+mod delivery;
+mod node;
+
+pub use answer::Beaten;
+pub use answer::Met;
+pub use answer::Taken;
+pub use delivery::Delivery;
+pub use node::Node;
