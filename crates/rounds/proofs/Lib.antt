@@ -1,3 +1,4 @@
 pub mod TableLaws
 pub mod NodeLaws
+pub mod Union
 pub mod Cases
