@@ -1,4 +1,5 @@
 pub mod TableLaws
 pub mod NodeLaws
 pub mod Union
+pub mod Pair
 pub mod Cases
