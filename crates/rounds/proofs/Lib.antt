@@ -2,4 +2,5 @@ pub mod TableLaws
 pub mod NodeLaws
 pub mod Union
 pub mod Pair
+pub mod Entry
 pub mod Cases
