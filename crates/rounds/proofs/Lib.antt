@@ -3,4 +3,6 @@ pub mod NodeLaws
 pub mod Union
 pub mod Pair
 pub mod Entry
+pub mod Deliver
+pub mod Half
 pub mod Cases
