@@ -5,4 +5,5 @@ pub mod Pair
 pub mod Entry
 pub mod Deliver
 pub mod Half
+pub mod CallLaws
 pub mod Cases

@@ -16,6 +16,7 @@ use Rattle.claims.specs.declared.answer.Answer.the-variants.{Refused, Match, As
 use Rattle.claims.specs.Claim.{wholeClaim}
 use Rattle.claims.specs.Reply.{same, reply, claimsOf}
 use Rattle.claims.proofs.Tests.{and-left, and-right, and-both, Order, less, equal, greater, order}
+use Rattle.claims.proofs.ClaimLaws.{claim-ext, claim-same}
 use Rattle.rounds.specs.Table.{tableLimit, ranking, wordsBefore, before, climbsFrom, climbs, insertClaim, tableWith, remains, serve, sending, beatLimit}
 
 -- ---- words compared
@@ -65,12 +66,7 @@ before-trans b c d h g = wordsBefore-trans (ranking b) (ranking c) (ranking d) h
 
 -- equal words are equal fields
 ranking-same : (c d : Claim) → ranking c ≡ ranking d → same c d ≡ true
-ranking-same c d e =
-    let p : c .lo ≡ d .lo = cc in
-    let q : c .hi ≡ d .hi = cc in
-    let r : c .sum ≡ d .sum = cc in
-    let s : c .cnt ≡ d .cnt = cc in
-    rw (eq-eqb (c .lo) (d .lo) p, eq-eqb (c .hi) (d .hi) q, eq-eqb (c .sum) (d .sum) r, eq-eqb (c .cnt) (d .cnt) s)
+ranking-same c d e = claim-same c d (claim-ext c d (cc) (cc) (cc) (cc))
 
 pub before-total : (c d : Claim) → before d c ≡ false → same d c ≡ false → before c d ≡ true
 before-total c d h g = go (before c d) refl
