@@ -1,2 +1,3 @@
 pub mod Progress
 pub mod Apart
+pub mod Backed
