@@ -1,3 +1,4 @@
 pub mod Progress
 pub mod Apart
 pub mod Backed
+pub mod Outcomes

@@ -1,0 +1,273 @@
+-- What a call comes to, as an event: `outcome` of World. In order: one kiosk's node replaced; what is read off the lent places is what was written; for
+-- each kind of event, what it says that its questions were answered yes, and its outcome carried out and refused; a refused call changes no kiosk, makes no claim and enters no key
+-- (`outcome-refused`): that is proved here of the calls' own definitions. Assumes nothing.
+use Prim.Native.Nat.{ℕ, zero, suc, _+_, _≤_, _<_}
+use mathlib.Core.Bool.{Bool, true, false, cond}
+use mathlib.Core.List.{List, [], _∷_, _++_, map, List·Memᴰ, append-nil}
+use mathlib.Core.Logic.{_⊎_, inl, inr, ⊎-elim}
+use mathlib.Core.Path.{_≡_, refl, sym, ap, _∙_, subst, fun-ext}
+use native.Mathlib.Omega.{arith}
+use borrow.Author.Tests.{ltb-true, leb-true, eqb-true, eq-eqb, ne-eqb}
+use lib.Dec.{leb, ltb, eqb}
+use lib.ListN.{length, take, drop, length-map}
+use lib.Seq.{take-append-seam, take-at}
+use Rattle.claims.specs.declared.claim.Claim.{Claim}
+use Rattle.claims.specs.declared.store.Store.{Store}
+use Rattle.claims.specs.declared.answer.Answer.the-variants.{Refused}
+use Rattle.claims.specs.declared.answer.Entered.{Entered}
+use Rattle.claims.specs.declared.answer.Made.{Made}
+use Rattle.claims.specs.declared.answer.Replied.{Replied}
+use Rattle.claims.specs.Store.{limit, keysOf, storeOf, inOrder, insert, insertAll}
+use Rattle.claims.specs.Claim.{claimOf, noClaim}
+use Rattle.claims.specs.Question.{firstNo, settle, question1, question6, question7, claimQuestions}
+use Rattle.claims.specs.Reply.{ends, hear, reply, numberOf, claimsOf}
+use Rattle.claims.specs.Call.{enterQuestions, entered, makeQuestions, made, replyQuestions, replied}
+use Rattle.claims.proofs.Tests.{and-left, and-right, eq-or-ne}
+use Rattle.claims.proofs.QuestionLaws.{firstNo-zero, firstNo-append-zero, firstNo-append-no, settle-done, settle-refused, Passes, passes, claimQuestions-numbered}
+use Rattle.claims.proofs.ReplyLaws.{numberOf-answer}
+use Rattle.rounds.specs.declared.node.Node.{Node}
+use Rattle.rounds.specs.declared.delivery.Delivery.{Delivery}
+use Rattle.rounds.specs.declared.answer.Taken.{Taken}
+use Rattle.rounds.specs.Table.{tableWith, serve, sending}
+use Rattle.rounds.specs.Node.{nodeKeys, pendingOf, nodeOf}
+use Rattle.rounds.specs.Round.{Line, transcript}
+use Rattle.rounds.specs.Call.{writtenOver, takeQuestions, taken, claimWords, beatQuestions, beaten, beatenLent, roundQuestions, roundBy, met, metLent}
+use Rattle.rounds.proofs.CallLaws.{taken-done, taken-refused, beaten-done, beaten-refused, beatenLent-done, met-done, met-refused, metLent-done}
+use Rattle.meeting.specs.Event.{Event, To, enters, makes, delivers, beats, meets}
+use Rattle.meeting.specs.World.{withNode, withStore, Outcome, readClaims, readRecords, outcome, enteredBy}
+
+-- ---- one kiosk's node replaced
+
+pub withNode-here : (k : ℕ) (n : Node) (kiosks : ℕ → Node) → withNode k n kiosks k ≡ n
+withNode-here k n kiosks = rw (eq-eqb k k refl)
+
+pub withNode-there : (k j : ℕ) (n : Node) (kiosks : ℕ → Node) → (j ≡ k → ⊥) → withNode k n kiosks j ≡ kiosks j
+withNode-there k j n kiosks f = rw (ne-eqb j k f)
+
+pub withNode-each : (P : ℕ → Node → Type 0) (k : ℕ) (n : Node) (kiosks : ℕ → Node) → P k n → ((j : ℕ) → P j (kiosks j)) → (j : ℕ) → P j (withNode k n kiosks j)
+withNode-each P k n kiosks h f j = go (eqb j k) refl
+  where
+    go : (t : Bool) → eqb j k ≡ t → P j (cond t n (kiosks j))
+    go true e = subst (λ (i : ℕ). P i n) (sym (eqb-true j k e)) h
+    go false e = f j
+
+pub withNode-same : (k : ℕ) (kiosks : ℕ → Node) → withNode k (kiosks k) kiosks ≡ kiosks
+withNode-same k kiosks = fun-ext (λ j. go j (eqb j k) refl)
+  where
+    go : (j : ℕ) (t : Bool) → eqb j k ≡ t → cond t (kiosks k) (kiosks j) ≡ kiosks j
+    go j true e = ap kiosks (sym (eqb-true j k e))
+    go j false e = refl
+
+pub withStore-same : (k : ℕ) (kiosks : ℕ → Node) → withStore k (kiosks k .store) kiosks ≡ kiosks
+withStore-same k kiosks = withNode-same k kiosks
+
+-- ---- what is read off the lent places
+
+pub readClaims-words : (cs : List Claim) (rest : List ℕ) → readClaims (length cs) (claimWords cs ++ rest) ≡ cs
+readClaims-words [] rest = refl
+readClaims-words (c ∷ cs) rest = ap (λ (x : List Claim). c ∷ x) (readClaims-words cs rest)
+
+pub readRecords-lines : (xs : List Line) (rest : List Delivery) → readRecords (length xs) (map (λ (x : Line). x .delivery) xs ++ rest) ≡ map (λ (x : Line). x .delivery .claim) xs
+readRecords-lines [] rest = refl
+readRecords-lines (x ∷ xs) rest = ap (λ (y : List Claim). x .delivery .claim ∷ y) (readRecords-lines xs rest)
+
+-- ---- entering
+
+pub record EnterYes (s : Store) (x : ℕ) : Type 0 where
+  pub store : inOrder s ≡ true
+  pub room : length (insert x (keysOf s)) ≤ limit
+
+pub enterQuestions-yes : (s : Store) (x : ℕ) → firstNo (enterQuestions s x) ≡ 0 → EnterYes s x
+enterQuestions-yes s x h =
+    let q = question6 (x ∷ []) (keysOf s) in
+    let a = firstNo-zero (question1 s) (q ∷ []) (omega arith) h in
+    let b = firstNo-zero q [] (omega arith) (a .1) in
+    let c : length (insert x (keysOf s)) < limit + 1 = ltb-true (length (insert x (keysOf s))) (limit + 1) (b .0) in
+    record { store = a .0; room = omega arith }
+
+entering : ℕ → (ℕ → Node) → Entered → Outcome
+entering k kiosks a = record { number = a .number; kiosks = withStore k (a .store) kiosks; claims = [] }
+
+pub enters-done : (k x : ℕ) (kiosks : ℕ → Node) → firstNo (enterQuestions (kiosks k .store) x) ≡ 0 →
+    outcome (enters k x) kiosks ≡ record { number = 0; kiosks = withStore k (storeOf (insert x (keysOf (kiosks k .store)))) kiosks; claims = [] }
+unfolding outcome entered entering
+enters-done k x kiosks h =
+    ap (entering k kiosks)
+    (settle-done (firstNo (enterQuestions (kiosks k .store) x)) (record { number = 0; store = storeOf (insert x (keysOf (kiosks k .store))) }) (λ n. record { number = n; store = kiosks k .store }) h)
+
+pub enters-refused : (k x : ℕ) (kiosks : ℕ → Node) → (firstNo (enterQuestions (kiosks k .store) x) ≡ 0 → ⊥) →
+    outcome (enters k x) kiosks ≡ record { number = firstNo (enterQuestions (kiosks k .store) x); kiosks = kiosks; claims = [] }
+unfolding outcome entered entering
+enters-refused k x kiosks f =
+    ap (entering k kiosks)
+    (settle-refused (firstNo (enterQuestions (kiosks k .store) x)) (record { number = 0; store = storeOf (insert x (keysOf (kiosks k .store))) }) (λ n. record { number = n; store = kiosks k .store }) f)
+    ∙ ap (λ (g : ℕ → Node). record { number = firstNo (enterQuestions (kiosks k .store) x); kiosks = g; claims = [] }) (withStore-same k kiosks)
+
+-- ---- making
+
+pub record MakeYes (s : Store) (i j : ℕ) : Type 0 where
+  pub store : inOrder s ≡ true
+  pub ordered : i ≤ j
+  pub below : j < s .count
+
+pub makeQuestions-yes : (s : Store) (i j : ℕ) → firstNo (makeQuestions s i j) ≡ 0 → MakeYes s i j
+makeQuestions-yes s i j h =
+    let a = firstNo-zero (question1 s) (question7 i j (s .count) ∷ []) (omega arith) h in
+    let b = firstNo-zero (question7 i j (s .count)) [] (omega arith) (a .1) in
+    record {
+      store = a .0;
+      ordered = leb-true i j (and-left (leb i j) (ltb j (s .count)) (b .0));
+      below = ltb-true j (s .count) (and-right (leb i j) (ltb j (s .count)) (b .0));
+    }
+
+making : (ℕ → Node) → Made → Outcome
+making kiosks a = record { number = a .number; kiosks = kiosks; claims = cond (eqb (a .number) 0) (a .claim ∷ []) [] }
+
+pub makes-done : (k i j : ℕ) (kiosks : ℕ → Node) → firstNo (makeQuestions (kiosks k .store) i j) ≡ 0 →
+    outcome (makes k i j) kiosks ≡ record { number = 0; kiosks = kiosks; claims = claimOf i j (keysOf (kiosks k .store)) ∷ [] }
+unfolding outcome made making
+makes-done k i j kiosks h =
+    ap (making kiosks) (settle-done (firstNo (makeQuestions (kiosks k .store) i j)) (record { number = 0; claim = claimOf i j (keysOf (kiosks k .store)) }) (λ n. record { number = n; claim = noClaim }) h)
+
+pub makes-refused : (k i j : ℕ) (kiosks : ℕ → Node) → (firstNo (makeQuestions (kiosks k .store) i j) ≡ 0 → ⊥) →
+    outcome (makes k i j) kiosks ≡ record { number = firstNo (makeQuestions (kiosks k .store) i j); kiosks = kiosks; claims = [] }
+unfolding outcome made making
+makes-refused k i j kiosks f =
+    ap (making kiosks) (settle-refused (firstNo (makeQuestions (kiosks k .store) i j)) (record { number = 0; claim = claimOf i j (keysOf (kiosks k .store)) }) (λ n. record { number = n; claim = noClaim }) f)
+    ∙ rw (ne-eqb (firstNo (makeQuestions (kiosks k .store) i j)) 0 f)
+
+-- ---- a claim delivered to the reply
+
+pub record ReplyYes (s : Store) (c : Claim) : Type 0 where
+  pub store : inOrder s ≡ true
+  pub passes : Passes c
+  pub room : length (insertAll (ends c) (keysOf s)) ≤ limit
+
+pub replyQuestions-yes : (s : Store) (c : Claim) → firstNo (replyQuestions s c) ≡ 0 → ReplyYes s c
+replyQuestions-yes s c h =
+    let q = question6 (ends c) (keysOf s) in
+    let a = firstNo-zero (question1 s) (claimQuestions c ++ (q ∷ [])) (omega arith) h in
+    let j : firstNo (claimQuestions c) ≡ 0
+    = ⊎-elim
+    {C = firstNo (claimQuestions c) ≡ 0}
+    (λ (e : firstNo (claimQuestions c) ≡ 0). e)
+    (λ (f : firstNo (claimQuestions c) ≡ 0 → ⊥). absurd (f (sym (firstNo-append-no (claimQuestions c) (q ∷ []) f) ∙ a .1)))
+    (eq-or-ne (firstNo (claimQuestions c)) 0) in
+    let b : firstNo (q ∷ []) ≡ 0 = sym (firstNo-append-zero (claimQuestions c) (q ∷ []) (claimQuestions-numbered c) j) ∙ a .1 in
+    let d = firstNo-zero q [] (omega arith) b in
+    let z : length (insertAll (ends c) (keysOf s)) < limit + 1 = ltb-true (length (insertAll (ends c) (keysOf s))) (limit + 1) (d .0) in
+    record { store = a .0; passes = passes c j; room = omega arith }
+
+replying : ℕ → (ℕ → Node) → Replied → Outcome
+replying k kiosks a = record { number = numberOf (a .answer); kiosks = withStore k (a .store) kiosks; claims = claimsOf (a .answer) }
+
+pub replies-done : (k : ℕ) (c : Claim) (kiosks : ℕ → Node) → firstNo (replyQuestions (kiosks k .store) c) ≡ 0 →
+    outcome (delivers k To.reply c) kiosks
+    ≡ record { number = 0; kiosks = withStore k (storeOf (hear c (keysOf (kiosks k .store)))) kiosks; claims = claimsOf (reply c (keysOf (kiosks k .store))) }
+unfolding outcome replied replying
+replies-done k c kiosks h =
+    let l : List ℕ = keysOf (kiosks k .store) in
+    ap (replying k kiosks) (settle-done (firstNo (replyQuestions (kiosks k .store) c)) (record { store = storeOf (hear c l); answer = reply c l }) (λ n. record { store = kiosks k .store; answer = Refused n }) h)
+    ∙ ap (λ (n : ℕ). record { number = n; kiosks = withStore k (storeOf (hear c l)) kiosks; claims = claimsOf (reply c l) }) (numberOf-answer c (hear c l))
+
+pub replies-refused : (k : ℕ) (c : Claim) (kiosks : ℕ → Node) → (firstNo (replyQuestions (kiosks k .store) c) ≡ 0 → ⊥) →
+    outcome (delivers k To.reply c) kiosks ≡ record { number = firstNo (replyQuestions (kiosks k .store) c); kiosks = kiosks; claims = [] }
+unfolding outcome replied replying
+replies-refused k c kiosks f =
+    let l : List ℕ = keysOf (kiosks k .store) in
+    ap (replying k kiosks) (settle-refused (firstNo (replyQuestions (kiosks k .store) c)) (record { store = storeOf (hear c l); answer = reply c l }) (λ n. record { store = kiosks k .store; answer = Refused n }) f)
+    ∙ ap (λ (g : ℕ → Node). record { number = firstNo (replyQuestions (kiosks k .store) c); kiosks = g; claims = [] }) (withStore-same k kiosks)
+
+-- ---- a claim delivered to the table
+
+taking : ℕ → (ℕ → Node) → Taken → Outcome
+taking k kiosks a = record { number = a .number; kiosks = withNode k (a .node) kiosks; claims = [] }
+
+pub takes-done : (k : ℕ) (c : Claim) (kiosks : ℕ → Node) → firstNo (takeQuestions (kiosks k) c) ≡ 0 →
+    outcome (delivers k To.table c) kiosks ≡ record { number = 0; kiosks = withNode k (nodeOf (hear c (nodeKeys (kiosks k))) (tableWith c (pendingOf (kiosks k)))) kiosks; claims = [] }
+unfolding outcome taking
+takes-done k c kiosks h = ap (taking k kiosks) (taken-done (kiosks k) c h)
+
+pub takes-refused : (k : ℕ) (c : Claim) (kiosks : ℕ → Node) → (firstNo (takeQuestions (kiosks k) c) ≡ 0 → ⊥) →
+    outcome (delivers k To.table c) kiosks ≡ record { number = firstNo (takeQuestions (kiosks k) c); kiosks = kiosks; claims = [] }
+unfolding outcome taking
+takes-refused k c kiosks f =
+    ap (taking k kiosks) (taken-refused (kiosks k) c f)
+    ∙ ap (λ (g : ℕ → Node). record { number = firstNo (takeQuestions (kiosks k) c); kiosks = g; claims = [] }) (withNode-same k kiosks)
+
+-- ---- a beat
+
+pub beats-done : (k : ℕ) (lent : List ℕ) (kiosks : ℕ → Node) → firstNo (beatQuestions (kiosks k) lent) ≡ 0 →
+    outcome (beats k lent) kiosks
+    ≡ record { number = 0; kiosks = withNode k (nodeOf (nodeKeys (kiosks k)) (serve (nodeKeys (kiosks k)) (pendingOf (kiosks k)) .kept)) kiosks; claims = sending (nodeKeys (kiosks k)) (pendingOf (kiosks k)) }
+unfolding outcome
+beats-done k lent kiosks h =
+    let cs : List Claim = sending (nodeKeys (kiosks k)) (pendingOf (kiosks k)) in
+    rw (beaten-done (kiosks k) lent h, beatenLent-done (kiosks k) lent h, readClaims-words cs (drop (length (claimWords cs)) lent))
+
+pub beats-refused : (k : ℕ) (lent : List ℕ) (kiosks : ℕ → Node) → (firstNo (beatQuestions (kiosks k) lent) ≡ 0 → ⊥) →
+    outcome (beats k lent) kiosks ≡ record { number = firstNo (beatQuestions (kiosks k) lent); kiosks = kiosks; claims = [] }
+unfolding outcome
+beats-refused k lent kiosks f =
+    rw (beaten-refused (kiosks k) lent f)
+    (ap (λ (g : ℕ → Node). record { number = firstNo (beatQuestions (kiosks k) lent); kiosks = g; claims = [] }) (withNode-same k kiosks))
+
+-- ---- a round
+
+pub meets-done : (k m : ℕ) (lent : List Delivery) (kiosks : ℕ → Node) → firstNo (roundQuestions (kiosks k .store) (kiosks m .store) (length lent)) ≡ 0 →
+    outcome (meets k m lent) kiosks
+    ≡ record {
+      number = 0;
+      kiosks = withStore m (storeOf (roundBy (kiosks k .store) (kiosks m .store) .stores .right)) (withStore k (storeOf (roundBy (kiosks k .store) (kiosks m .store) .stores .left)) kiosks);
+      claims = map (λ (x : Line). x .delivery .claim) (roundBy (kiosks k .store) (kiosks m .store) .lines);
+    }
+unfolding outcome
+meets-done k m lent kiosks h =
+    let s : Store = kiosks k .store in
+    let t : Store = kiosks m .store in
+    rw (met-done s t (length lent) h, metLent-done s t lent h, readRecords-lines (roundBy s t .lines) (drop (length (transcript (roundBy s t))) lent))
+
+pub meets-refused : (k m : ℕ) (lent : List Delivery) (kiosks : ℕ → Node) → (firstNo (roundQuestions (kiosks k .store) (kiosks m .store) (length lent)) ≡ 0 → ⊥) →
+    outcome (meets k m lent) kiosks ≡ record { number = firstNo (roundQuestions (kiosks k .store) (kiosks m .store) (length lent)); kiosks = kiosks; claims = [] }
+unfolding outcome
+meets-refused k m lent kiosks f =
+    let s : Store = kiosks k .store in
+    let t : Store = kiosks m .store in
+    rw (met-refused s t (length lent) f)
+    (ap (λ (g : ℕ → Node). record { number = firstNo (roundQuestions s t (length lent)); kiosks = withStore m t g; claims = [] }) (withStore-same k kiosks)
+    ∙ ap (λ (g : ℕ → Node). record { number = firstNo (roundQuestions s t (length lent)); kiosks = g; claims = [] }) (withStore-same m kiosks))
+
+-- ---- a refused call
+
+-- one call: it is refused just where its questions say so
+refused-by : (o : Outcome) (n : ℕ) (kiosks : ℕ → Node) → (n ≡ 0 → o .number ≡ 0) → ((n ≡ 0 → ⊥) → o ≡ record { number = n; kiosks = kiosks; claims = [] }) →
+    (o .number ≡ 0 → ⊥) → (o .kiosks ≡ kiosks) × (o .claims ≡ [])
+refused-by o n kiosks d f h =
+    ⊎-elim
+    {C = (o .kiosks ≡ kiosks) × (o .claims ≡ [])}
+    (λ (z : n ≡ 0). absurd (h (d z)))
+    (λ (z : n ≡ 0 → ⊥). (ap (λ (x : Outcome). x .kiosks) (f z), ap (λ (x : Outcome). x .claims) (f z)))
+    (eq-or-ne n 0)
+
+-- "A refused call is an event that changes no kiosk and makes no claim."
+pub outcome-refused : (e : Event) (kiosks : ℕ → Node) → (outcome e kiosks .number ≡ 0 → ⊥) → (outcome e kiosks .kiosks ≡ kiosks) × (outcome e kiosks .claims ≡ [])
+outcome-refused (enters k x) kiosks =
+    refused-by (outcome (enters k x) kiosks) (firstNo (enterQuestions (kiosks k .store) x)) kiosks (λ z. ap (λ (o : Outcome). o .number) (enters-done k x kiosks z)) (enters-refused k x kiosks)
+outcome-refused (makes k i j) kiosks =
+    refused-by (outcome (makes k i j) kiosks) (firstNo (makeQuestions (kiosks k .store) i j)) kiosks (λ z. ap (λ (o : Outcome). o .number) (makes-done k i j kiosks z)) (makes-refused k i j kiosks)
+outcome-refused (delivers k To.reply c) kiosks =
+    refused-by (outcome (delivers k To.reply c) kiosks) (firstNo (replyQuestions (kiosks k .store) c)) kiosks (λ z. ap (λ (o : Outcome). o .number) (replies-done k c kiosks z)) (replies-refused k c kiosks)
+outcome-refused (delivers k To.table c) kiosks =
+    refused-by (outcome (delivers k To.table c) kiosks) (firstNo (takeQuestions (kiosks k) c)) kiosks (λ z. ap (λ (o : Outcome). o .number) (takes-done k c kiosks z)) (takes-refused k c kiosks)
+outcome-refused (beats k lent) kiosks =
+    refused-by (outcome (beats k lent) kiosks) (firstNo (beatQuestions (kiosks k) lent)) kiosks (λ z. ap (λ (o : Outcome). o .number) (beats-done k lent kiosks z)) (beats-refused k lent kiosks)
+outcome-refused (meets k m lent) kiosks =
+    refused-by (outcome (meets k m lent) kiosks) (firstNo (roundQuestions (kiosks k .store) (kiosks m .store) (length lent))) kiosks (λ z. ap (λ (o : Outcome). o .number) (meets-done k m lent kiosks z)) (meets-refused k m lent kiosks)
+
+-- a refused call enters no key
+pub enteredBy-refused : (e : Event) (n : ℕ) → (n ≡ 0 → ⊥) → enteredBy e n ≡ []
+enteredBy-refused (enters k x) n f = rw (ne-eqb n 0 f)
+enteredBy-refused (makes k i j) n f = refl
+enteredBy-refused (delivers k to c) n f = refl
+enteredBy-refused (beats k lent) n f = refl
+enteredBy-refused (meets k m lent) n f = refl
