@@ -2,3 +2,5 @@ pub mod Progress
 pub mod Apart
 pub mod Backed
 pub mod Outcomes
+pub mod Invariant
+pub mod Meeting
