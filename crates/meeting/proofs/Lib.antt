@@ -4,3 +4,4 @@ pub mod Backed
 pub mod Outcomes
 pub mod Invariant
 pub mod Meeting
+pub mod Theorem
