@@ -5,3 +5,4 @@ pub mod Outcomes
 pub mod Invariant
 pub mod Meeting
 pub mod Theorem
+pub mod Examples

@@ -7,3 +7,4 @@ pub mod Event
 pub mod World
 pub mod Premise
 pub mod Statement
+pub mod Examples

@@ -1,0 +1,40 @@
+-- Lists of events that meet every premise of the statement, so that none of it is empty. That they do is computed in proofs/Examples.
+-- Assumes nothing.
+use Prim.Native.Nat.{ℕ}
+use mathlib.Core.List.{List, [], _∷_}
+use lib.ListN.{replicate}
+use Rattle.claims.specs.declared.claim.Claim.{Claim}
+use Rattle.claims.specs.Cases.{claim}
+use Rattle.rounds.specs.declared.delivery.Delivery.{Delivery}
+use Rattle.rounds.specs.Cases.{stale}
+use Rattle.meeting.specs.Event.{Event, To, enters, makes, delivers, beats, meets}
+use Rattle.meeting.specs.Statement.{Turn, straight, turned}
+
+-- so many records lent, with something in them
+abbrev pub lentRecords : ℕ → List Delivery
+lentRecords n = replicate n stale
+
+-- Three kiosks. The keys 5 and 9 cross by a round; by a beat and a delivery to the table they come to a third kiosk; the claim of 5, made first of all,
+-- arrives late and twice; a claim that no store made is refused, and so is one made of positions that are not there.
+abbrev pub crossing : List Event
+crossing =
+    enters 0 5
+    ∷ makes 0 0 0
+    ∷ enters 1 9
+    ∷ meets 0 1 (lentRecords 4)
+    ∷ enters 0 7
+    ∷ beats 0 (replicate 516 7)
+    ∷ delivers 2 To.table (claim 5 9 11 3)
+    ∷ makes 2 2 1
+    ∷ delivers 2 To.reply (claim 5 5 5 1)
+    ∷ delivers 2 To.reply (claim 5 5 5 1)
+    ∷ delivers 1 To.reply (claim 9 5 12 2)
+    ∷ []
+
+-- the stores of document 01's rehearsal, entered key by key, with 0 and 10 brought over by a round
+abbrev pub apartThree : List Event
+apartThree = enters 0 0 ∷ enters 0 10 ∷ meets 0 1 (lentRecords 4) ∷ enters 0 1 ∷ enters 1 5 ∷ enters 1 6 ∷ []
+
+-- three keys are held by just one of the two: three rounds, sides alternating
+abbrev pub threeTurns : List Turn
+threeTurns = straight (lentRecords 10) ∷ turned (lentRecords 10) ∷ straight (lentRecords 12) ∷ []
