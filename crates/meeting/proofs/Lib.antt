@@ -1,3 +1,12 @@
+-- The proof of demand 3.
+--   Progress   a round in which no match is false brings a key across, if the stores differ
+--   Apart      how many keys just one of two stores holds, and that a round leaves fewer
+--   Backed     what a claim is worth, whoever made it and whenever it arrives
+--   Outcomes   what each event comes to; a refused one changes nothing
+--   Invariant  what every event keeps, from any world that has it
+--   Meeting    two kiosks that meet come away with the same keys
+--   Theorem    demand 3, for every list of events
+--   Examples   lists that meet every premise
 pub mod Progress
 pub mod Apart
 pub mod Backed

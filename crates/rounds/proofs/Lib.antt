@@ -1,3 +1,14 @@
+-- Laws of the definitions of `rounds`. The worked examples stand first: a definition that is wrong fails there.
+--   Cases      the worked examples
+--   TableLaws  the pending table
+--   NodeLaws   a node in order
+--   Union      the union of two stores
+--   Pair       both stores of a round
+--   Entry      what waits in a round, and its weight
+--   Deliver    one delivery
+--   Half       a half of a round ends, and its deliveries and what waits fit the union; a round
+--   CallLaws   what the calls return, one law a return path
+pub mod Cases
 pub mod TableLaws
 pub mod NodeLaws
 pub mod Union
@@ -6,4 +17,3 @@ pub mod Entry
 pub mod Deliver
 pub mod Half
 pub mod CallLaws
-pub mod Cases

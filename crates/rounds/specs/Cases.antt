@@ -88,6 +88,9 @@ table =
     -- one record too few: 9, both stores as given, and nothing written
     ∷ row (round-is (met rehearsedLeft rehearsedRight 9)) (round-is (metWith 9 (0 ∷ 1 ∷ 10 ∷ []) (0 ∷ 5 ∷ 6 ∷ 10 ∷ []) 0))
     ∷ row (records-are (metLent rehearsedLeft rehearsedRight (replicate 9 stale))) (records-are (replicate 9 stale))
+    -- first come, first served: of two claims that wait, the second is delivered before what follows from the first
+    ∷ row (records-are (metLent (storeOf (1 ∷ 32 ∷ [])) (storeOf (1 ∷ 2 ∷ 4 ∷ 8 ∷ 16 ∷ 32 ∷ [])) (replicate 12 stale)))
+    (records-are (record5 0 1 32 33 2 ∷ record5 1 2 8 14 3 ∷ record5 1 16 16 16 1 ∷ record5 0 2 8 10 2 ∷ record5 1 4 4 4 1 ∷ record5 1 1 32 63 6 ∷ replicate 6 stale))
     -- {1, 2, 5, 16} with {1, 3, 4, 16}: both matches are false, and the stores stay unequal
     ∷ row (round-is (met alikeLeft alikeRight 12)) (round-is (metWith 0 (1 ∷ 2 ∷ 5 ∷ 16 ∷ []) (1 ∷ 3 ∷ 4 ∷ 16 ∷ []) 2))
     ∷ row (truth-is (anyFalse (roundBy alikeLeft alikeRight .lines))) (truth-is true)
