@@ -6,6 +6,7 @@
 --   Invariant  what every event keeps, from any world that has it
 --   Meeting    two kiosks that meet come away with the same keys
 --   Theorem    demand 3, for every list of events
+--   Beyond     what follows besides: nothing is turned away for want of space before the limit is reached
 --   Examples   lists that meet every premise
 pub mod Progress
 pub mod Apart
@@ -14,4 +15,5 @@ pub mod Outcomes
 pub mod Invariant
 pub mod Meeting
 pub mod Theorem
+pub mod Beyond
 pub mod Examples

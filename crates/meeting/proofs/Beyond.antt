@@ -1,0 +1,224 @@
+-- What follows besides. In order: any beginning of a list that is meant is one, with no more keys entered; at any time in a list with at most 1,024 different
+-- keys entered in all, no round gets 8 (`never-8`), no delivery of a claim made before is refused (`made-accepted`), and entering gets 6 only when 1,024
+-- different keys are entered already and this is none of them (`entering-6`): nothing is turned away for want of space before the limit is really reached.
+-- Then, without that premise: claims once made pass questions 2 to 5 for ever; both stores stay within their union. Assumes nothing.
+use Prim.Native.Nat.{ℕ, zero, suc, _+_, _*_, _≤_, _<_}
+use mathlib.Core.Bool.{Bool, true, false, cond}
+use mathlib.Core.List.{List, [], _∷_, _++_, List·Memᴰ, List·Memᴰ·not-nil, Memᴰ·append-left, append-assoc}
+use mathlib.Core.Logic.{_⊎_, ⊎-elim}
+use mathlib.Core.Path.{_≡_, refl, sym, ap, _∙_, subst}
+use native.Mathlib.Omega.{arith}
+use borrow.Author.Tests.{leb-true, le-leb, lt-ltb, ltb-false, leb-false}
+use lib.Dec.{leb, ltb}
+use lib.ListN.{length}
+use Rattle.claims.specs.declared.claim.Claim.{Claim}
+use Rattle.claims.specs.declared.store.Store.{Store}
+use Rattle.claims.specs.Store.{limit, keysOf, storeOf, insert, insertAll}
+use Rattle.claims.specs.Question.{Question, firstNo, question, question1, question6, claimQuestions}
+use Rattle.claims.specs.Reply.{ends}
+use Rattle.claims.specs.Call.{judged, enterQuestions, replyQuestions}
+use Rattle.claims.proofs.Tests.{eq-or-ne}
+use Rattle.claims.proofs.Rising.{Rising, Sub, sub-refl, sub-trans, rising-length, sub-append-left}
+use Rattle.claims.proofs.Insert.{length-insert-le, insert-sub, insert-rising, insertAll-sub, insertAll-rising, mem-insertAll-new}
+use Rattle.claims.proofs.Order.{inOrder-rising, keysOf-storeOf}
+use Rattle.claims.proofs.QuestionLaws.{firstNo-yes, firstNo-no, firstNo-append-zero, claimQuestions-numbered, passes-firstNo, judged-firstNo}
+use Rattle.rounds.specs.declared.node.Node.{Node}
+use Rattle.rounds.specs.declared.delivery.Delivery.{Delivery}
+use Rattle.rounds.specs.Node.{nodeKeys, nodeInOrder}
+use Rattle.rounds.specs.Round.{union, leftEnd, rightEnd}
+use Rattle.rounds.specs.Question.{nodeQuestion1, question8, question9}
+use Rattle.rounds.specs.Call.{takeQuestions, roundQuestions, roundBy, met}
+use Rattle.rounds.proofs.NodeLaws.{ordered-nodeInOrder}
+use Rattle.rounds.proofs.Union.{union-rising, union-left, union-right, union-sub}
+use Rattle.rounds.proofs.Half.{Rounded}
+use Rattle.rounds.proofs.CallLaws.{met-done, met-refused, roundQuestions-yes, roundYes-rounded}
+use Rattle.meeting.specs.Event.{Event, To, enters, delivers, meets}
+use Rattle.meeting.specs.World.{World, start, Outcome, outcome, after, afterAll, numbers, enteredBy, keysEntered}
+use Rattle.meeting.specs.Premise.{AllMeant}
+use Rattle.meeting.specs.Statement.{end, keysIn, enteredIn, different}
+use Rattle.meeting.proofs.Backed.{Backed, backed-passes, backed-adding}
+use Rattle.meeting.proofs.Outcomes.{enters-done, enters-refused, replies-done, takes-done, meets-done, meets-refused}
+use Rattle.meeting.proofs.Invariant.{Good, good-all}
+use Rattle.meeting.proofs.Theorem.{good-end}
+
+-- ---- any beginning of a list
+
+pub allMeant-before : (n : ℕ) (a b : List Event) (w : World) → AllMeant n (a ++ b) w → AllMeant n a w
+allMeant-before n [] b w m = tt
+allMeant-before n (e ∷ es) b w m = (m .0, allMeant-before n es b (after e w) (m .1))
+
+pub entered-append : (a b : List Event) (w : World) → keysEntered (a ++ b) (numbers (a ++ b) w) ≡ keysEntered a (numbers a w) ++ keysEntered b (numbers b (afterAll a w))
+entered-append [] b w = refl
+entered-append (e ∷ es) b w =
+    ap (λ (x : List ℕ). enteredBy e (outcome e (w .kiosks) .number) ++ x) (entered-append es b (after e w))
+    ∙ sym (append-assoc (enteredBy e (outcome e (w .kiosks) .number)) (keysEntered es (numbers es (after e w))) (keysEntered b (numbers b (afterAll es (after e w)))))
+
+pub entered-before : (a b : List Event) → Sub (enteredIn a) (enteredIn (a ++ b))
+entered-before a b k m = subst (λ (x : List ℕ). List·Memᴰ k x) (sym (entered-append a b start)) (Memᴰ·append-left (keysEntered b (numbers b (end a))) m)
+
+-- rising keys among ks are at most as many as ks has different ones
+pub length-different : (l ks : List ℕ) → Rising l → Sub l ks → length l ≤ different ks
+length-different l ks r s = rising-length l (insertAll ks []) r (insertAll-rising ks [] tt) (sub-trans l ks (insertAll ks []) s (mem-insertAll-new ks []))
+
+pub different-sub : (a b : List ℕ) → Sub a b → different a ≤ different b
+different-sub a b s = length-different (insertAll a []) b (insertAll-rising a [] tt) (insertAll-sub a [] b s (λ k m. absurd (List·Memᴰ·not-nil m)))
+
+-- the invariant at any time in a list that is meant
+good-before : (n : ℕ) (a b es : List Event) → AllMeant n es start → a ++ b ≡ es → Good n (end a) (enteredIn a)
+good-before n a b es m e = good-end n a (allMeant-before n a b start (subst (λ (x : List Event). AllMeant n x start) (sym e) m))
+
+few-before : (a b es : List Event) → a ++ b ≡ es → different (enteredIn es) ≤ limit → different (enteredIn a) ≤ limit
+few-before a b es e h =
+    let p : different (enteredIn a) ≤ different (enteredIn (a ++ b)) = different-sub (enteredIn a) (enteredIn (a ++ b)) (entered-before a b) in
+    let q : different (enteredIn (a ++ b)) ≡ different (enteredIn es) = ap (λ (x : List Event). different (enteredIn x)) e in
+    omega arith
+
+-- ---- no round gets 8
+
+meets-number : (k m : ℕ) (lent : List Delivery) (kiosks : ℕ → Node) → outcome (meets k m lent) kiosks .number ≡ firstNo (roundQuestions (kiosks k .store) (kiosks m .store) (length lent))
+meets-number k m lent kiosks =
+    let n : ℕ = firstNo (roundQuestions (kiosks k .store) (kiosks m .store) (length lent)) in
+    ⊎-elim
+    {C = outcome (meets k m lent) kiosks .number ≡ n}
+    (λ (z : n ≡ 0). ap (λ (o : Outcome). o .number) (meets-done k m lent kiosks z) ∙ sym z)
+    (λ (f : n ≡ 0 → ⊥). ap (λ (o : Outcome). o .number) (meets-refused k m lent kiosks f))
+    (eq-or-ne n 0)
+
+good-never-8 : (n : ℕ) (w : World) (ks : List ℕ) → Good n w ks → different ks ≤ limit → (k m : ℕ) (lent : List Delivery) → outcome (meets k m lent) (w .kiosks) .number ≡ 8 → ⊥
+good-never-8 n w ks g h k m lent e = go (q9 .yes) refl
+  where
+    s : Store
+    s = w .kiosks k .store
+
+    t : Store
+    t = w .kiosks m .store
+
+    q8 : Question
+    q8 = question8 (keysOf s) (keysOf t)
+
+    q9 : Question
+    q9 = question9 (keysOf s) (keysOf t) (length lent)
+
+    rt : Rising (keysOf t)
+    rt = inOrder-rising t (g .ordered m .store)
+
+    room : length (union (keysOf s) (keysOf t)) ≤ limit
+    room =
+        let p : length (union (keysOf s) (keysOf t)) ≤ different ks = length-different (union (keysOf s) (keysOf t)) ks (union-rising (keysOf s) (keysOf t) rt) (union-sub (keysOf s) (keysOf t) ks (g .within k) (g .within m)) in
+        omega arith
+
+    is : firstNo (q9 ∷ []) ≡ 8
+    is =
+        sym
+        (firstNo-yes (question1 s) (question1 t ∷ q8 ∷ q9 ∷ []) (g .ordered k .store)
+        ∙ firstNo-yes (question1 t) (q8 ∷ q9 ∷ []) (g .ordered m .store)
+        ∙ firstNo-yes q8 (q9 ∷ []) (le-leb (length (union (keysOf s) (keysOf t))) limit room))
+        ∙ sym (meets-number k m lent (w .kiosks))
+        ∙ e
+
+    go : (b : Bool) → q9 .yes ≡ b → ⊥
+    go true i = let z : _≡_ {A = ℕ} 0 8 = sym (firstNo-yes q9 [] i) ∙ is in omega arith
+    go false i = let z : _≡_ {A = ℕ} 9 8 = sym (firstNo-no q9 [] i) ∙ is in omega arith
+
+pub never-8 : (n : ℕ) (es : List Event) → AllMeant n es start → different (enteredIn es) ≤ limit → (before others : List Event) → before ++ others ≡ es →
+    (k m : ℕ) (lent : List Delivery) → outcome (meets k m lent) (end before .kiosks) .number ≡ 8 → ⊥
+never-8 n es m h before others e = good-never-8 n (end before) (enteredIn before) (good-before n before others es m e) (few-before before others es e h)
+
+-- ---- no delivery of a claim made before is refused
+
+-- its ends fit, beside any kiosk's keys
+good-room : (n : ℕ) (w : World) (ks : List ℕ) → Good n w ks → different ks ≤ limit → (k : ℕ) (c : Claim) → Backed ks c → question6 (ends c) (keysIn w k) .yes ≡ true
+good-room n w ks g h k c b =
+    let l : List ℕ = insertAll (ends c) (keysIn w k) in
+    let p : length l ≤ different ks
+    = length-different l ks (insertAll-rising (ends c) (keysIn w k) (inOrder-rising (w .kiosks k .store) (g .ordered k .store))) (insertAll-sub (ends c) (keysIn w k) ks (backed-adding ks c (keysIn w k) b) (g .within k)) in
+    lt-ltb (length l) (limit + 1) (omega arith)
+
+good-accepted : (n : ℕ) (w : World) (ks : List ℕ) → Good n w ks → different ks ≤ limit → (k : ℕ) (to : To) (c : Claim) → List·Memᴰ c (w .made) → outcome (delivers k to c) (w .kiosks) .number ≡ 0
+good-accepted n w ks g h k To.reply c m =
+    let b : Backed ks c = g .backed c m in
+    let q = question6 (ends c) (keysIn w k) in
+    let z : firstNo (replyQuestions (w .kiosks k .store) c) ≡ 0
+    = firstNo-yes (question1 (w .kiosks k .store)) (claimQuestions c ++ (q ∷ [])) (g .ordered k .store)
+    ∙ firstNo-append-zero (claimQuestions c) (q ∷ []) (claimQuestions-numbered c) (passes-firstNo c (backed-passes ks c b))
+    ∙ firstNo-yes q [] (good-room n w ks g h k c b) in
+    ap (λ (o : Outcome). o .number) (replies-done k c (w .kiosks) z)
+good-accepted n w ks g h k To.table c m =
+    let b : Backed ks c = g .backed c m in
+    let q = question6 (ends c) (keysIn w k) in
+    let z : firstNo (takeQuestions (w .kiosks k) c) ≡ 0
+    = firstNo-yes (nodeQuestion1 (w .kiosks k)) (claimQuestions c ++ (q ∷ [])) (ordered-nodeInOrder (w .kiosks k) (g .ordered k))
+    ∙ firstNo-append-zero (claimQuestions c) (q ∷ []) (claimQuestions-numbered c) (passes-firstNo c (backed-passes ks c b))
+    ∙ firstNo-yes q [] (good-room n w ks g h k c b) in
+    ap (λ (o : Outcome). o .number) (takes-done k c (w .kiosks) z)
+
+pub made-accepted : (n : ℕ) (es : List Event) → AllMeant n es start → different (enteredIn es) ≤ limit → (before others : List Event) → before ++ others ≡ es →
+    (k : ℕ) (to : To) (c : Claim) → List·Memᴰ c (end before .made) → outcome (delivers k to c) (end before .kiosks) .number ≡ 0
+made-accepted n es m h before others e = good-accepted n (end before) (enteredIn before) (good-before n before others es m e) (few-before before others es e h)
+
+-- ---- entering gets 6 only when the limit is really reached
+
+enters-number : (k x : ℕ) (kiosks : ℕ → Node) → outcome (enters k x) kiosks .number ≡ firstNo (enterQuestions (kiosks k .store) x)
+enters-number k x kiosks =
+    let n : ℕ = firstNo (enterQuestions (kiosks k .store) x) in
+    ⊎-elim
+    {C = outcome (enters k x) kiosks .number ≡ n}
+    (λ (z : n ≡ 0). ap (λ (o : Outcome). o .number) (enters-done k x kiosks z) ∙ sym z)
+    (λ (f : n ≡ 0 → ⊥). ap (λ (o : Outcome). o .number) (enters-refused k x kiosks f))
+    (eq-or-ne n 0)
+
+good-entering-6 : (n : ℕ) (w : World) (ks : List ℕ) → Good n w ks → different ks ≤ limit → (k x : ℕ) → outcome (enters k x) (w .kiosks) .number ≡ 6 → (different ks ≡ limit) × (List·Memᴰ x ks → ⊥)
+good-entering-6 n w ks g h k x e =
+    let a : limit + 1 ≤ length (insert x l) = full (q .yes) refl in
+    let b : length (insert x l) ≤ suc (length l) = length-insert-le x l in
+    let c : length l ≤ different ks = length-different l ks r (g .within k) in (
+      omega arith,
+      λ (m : List·Memᴰ x ks). let d : length (insert x l) ≤ different ks = length-different (insert x l) ks (insert-rising x l r) (insert-sub x l ks m (g .within k)) in omega arith,
+    )
+  where
+    l : List ℕ
+    l = keysIn w k
+
+    r : Rising l
+    r = inOrder-rising (w .kiosks k .store) (g .ordered k .store)
+
+    q : Question
+    q = question6 (x ∷ []) l
+
+    is : firstNo (q ∷ []) ≡ 6
+    is = sym (firstNo-yes (question1 (w .kiosks k .store)) (q ∷ []) (g .ordered k .store)) ∙ sym (enters-number k x (w .kiosks)) ∙ e
+
+    full : (b : Bool) → q .yes ≡ b → limit + 1 ≤ length (insert x l)
+    full true i = let z : _≡_ {A = ℕ} 0 6 = sym (firstNo-yes q [] i) ∙ is in absurd (omega arith)
+    full false i = ltb-false (length (insert x l)) (limit + 1) i
+
+pub entering-6 : (n : ℕ) (es : List Event) → AllMeant n es start → different (enteredIn es) ≤ limit → (before others : List Event) → before ++ others ≡ es →
+    (k x : ℕ) → outcome (enters k x) (end before .kiosks) .number ≡ 6 → (different (enteredIn before) ≡ limit) × (List·Memᴰ x (enteredIn before) → ⊥)
+entering-6 n es m h before others e = good-entering-6 n (end before) (enteredIn before) (good-before n before others es m e) (few-before before others es e h)
+
+-- ---- claims once made pass questions 2 to 5 for ever, however many keys are entered
+
+pub made-judged : (n : ℕ) (es : List Event) → AllMeant n es start → (c : Claim) → List·Memᴰ c (end es .made) → judged c ≡ 0
+made-judged n es m c i = judged-firstNo c ∙ passes-firstNo c (backed-passes (enteredIn es) c (good-end n es m .backed c i))
+
+-- ---- both stores stay within their union, refused or not, and lose no key
+
+pub met-within : (s t : Store) (n : ℕ) → Sub (keysOf (met s t n .left)) (union (keysOf s) (keysOf t)) × Sub (keysOf (met s t n .right)) (union (keysOf s) (keysOf t))
+met-within s t n =
+    ⊎-elim
+    {C = Sub (keysOf (met s t n .left)) (union (keysOf s) (keysOf t)) × Sub (keysOf (met s t n .right)) (union (keysOf s) (keysOf t))}
+    (λ (z : firstNo (roundQuestions s t n) ≡ 0).
+    let o : Rounded (keysOf s) (keysOf t) = roundYes-rounded s t n (roundQuestions-yes s t n z) in
+    rw (met-done s t n z, keysOf-storeOf (roundBy s t .stores .left), keysOf-storeOf (roundBy s t .stores .right)) (o .within leftEnd, o .within rightEnd))
+    (λ (f : firstNo (roundQuestions s t n) ≡ 0 → ⊥). rw (met-refused s t n f) (union-left (keysOf s) (keysOf t), union-right (keysOf s) (keysOf t)))
+    (eq-or-ne (firstNo (roundQuestions s t n)) 0)
+
+pub met-keeps : (s t : Store) (n : ℕ) → Sub (keysOf s) (keysOf (met s t n .left)) × Sub (keysOf t) (keysOf (met s t n .right))
+met-keeps s t n =
+    ⊎-elim
+    {C = Sub (keysOf s) (keysOf (met s t n .left)) × Sub (keysOf t) (keysOf (met s t n .right))}
+    (λ (z : firstNo (roundQuestions s t n) ≡ 0).
+    let o : Rounded (keysOf s) (keysOf t) = roundYes-rounded s t n (roundQuestions-yes s t n z) in
+    rw (met-done s t n z, keysOf-storeOf (roundBy s t .stores .left), keysOf-storeOf (roundBy s t .stores .right)) (o .grown leftEnd, o .grown rightEnd))
+    (λ (f : firstNo (roundQuestions s t n) ≡ 0 → ⊥). rw (met-refused s t n f) (sub-refl (keysOf s), sub-refl (keysOf t)))
+    (eq-or-ne (firstNo (roundQuestions s t n)) 0)
