@@ -7,6 +7,7 @@
 --   Meeting    two kiosks that meet come away with the same keys
 --   Theorem    demand 3, for every list of events
 --   Beyond     what follows besides: nothing is turned away for want of space before the limit is reached
+--   Equal      a round of two equal stores
 --   Examples   lists that meet every premise
 pub mod Progress
 pub mod Apart
@@ -16,4 +17,5 @@ pub mod Invariant
 pub mod Meeting
 pub mod Theorem
 pub mod Beyond
+pub mod Equal
 pub mod Examples
