@@ -18,4 +18,5 @@ pub mod Meeting
 pub mod Theorem
 pub mod Beyond
 pub mod Equal
+pub mod Local
 pub mod Examples

@@ -1,0 +1,237 @@
+-- A delivery depends only on the keys in its claim's range, and changes none outside it. In order: keys added, seen through a range; a reply; what
+-- waits, its answers and its line; a whole run (`run-local`). Assumes nothing.
+use Prim.Native.Nat.{ℕ, zero, suc, _+_, _-_, _/_, _≤_, _<_}
+use mathlib.Core.Bool.{Bool, true, false, cond, not, _&&_}
+use mathlib.Core.List.{List, [], _∷_, _++_, List·Memᴰ, List·Memᴰ·head, List·Memᴰ·tail, List·Memᴰ·not-nil, List·Memᴰ·append-cases, List·Memᴰ·eq-of-singleton}
+use mathlib.Core.Logic.{_⊎_, inl, inr, ⊎-elim}
+use mathlib.Core.Path.{_≡_, refl, sym, ap, ap₂, _∙_, subst}
+use native.Mathlib.Omega.{arith}
+use borrow.Author.Tests.{ltb-true, ltb-false}
+use lib.Dec.{ltb}
+use lib.ListN.{length, take, drop}
+use lib.Seq.{take-at, drop-at}
+use Rattle.claims.specs.declared.claim.Claim.{Claim}
+use Rattle.claims.specs.declared.answer.Answer.{Answer}
+use Rattle.claims.specs.declared.answer.Answer.the-variants.{Match, Ask, One, Two}
+use Rattle.claims.specs.Store.{position, insert, insertAll}
+use Rattle.claims.specs.Claim.{span, claimOf, between}
+use Rattle.claims.specs.Reply.{adding, hear, own, same, half, help, answer, reply, claimsOf, matches, sameKeys, falseMatch}
+use Rattle.claims.proofs.Rising.{Rising}
+use Rattle.claims.proofs.Insert.{insert-rising, insertAll-rising}
+use Rattle.claims.proofs.Position.{getD-position}
+use Rattle.claims.proofs.Between.{Lies, within, below, beyond, lies, inside, between-between, between-insert-within, between-insert-outside}
+use Rattle.claims.proofs.Span.{first, last, length-span, span-join, span-inside, first-between, last-between}
+use Rattle.claims.proofs.QuestionLaws.{Passes}
+use Rattle.claims.proofs.ClaimLaws.{spanClaim, claimOf-span}
+use Rattle.claims.proofs.ReplyLaws.{hear-rising, hear-lo, hear-hi, own-between, helper-positions, Answered, matched, asked, helped-one, helped-two, Part, reply-answered}
+use Rattle.rounds.specs.Round.{End, Pair, keysAt, holding, Entry, waits, receiver, keysBefore, delivered, answers, Line, line, run}
+use Rattle.rounds.proofs.Pair.{Rises, holding-each, keysAt-holding, delivered-rises}
+use Rattle.rounds.proofs.Entry.{Sound, sound-limit, entry}
+use Rattle.rounds.proofs.Half.{Fine, fine-step}
+
+-- ---- keys added, seen through a range
+
+between-insert-local : (a b k : ℕ) (l m : List ℕ) → Rising l → Rising m → between a b l ≡ between a b m → between a b (insert k l) ≡ between a b (insert k m)
+between-insert-local a b k l m r q e = go (lies a b k)
+  where
+    go : Lies a b k → between a b (insert k l) ≡ between a b (insert k m)
+    go (within h g) = between-insert-within a b k l r h g ∙ ap (insert k) e ∙ sym (between-insert-within a b k m q h g)
+    go (below h) = between-insert-outside a b k l (inl h) ∙ e ∙ sym (between-insert-outside a b k m (inl h))
+    go (beyond h) = between-insert-outside a b k l (inr h) ∙ e ∙ sym (between-insert-outside a b k m (inr h))
+
+pub between-insertAll-local : (a b : ℕ) (ks l m : List ℕ) → Rising l → Rising m → between a b l ≡ between a b m → between a b (insertAll ks l) ≡ between a b (insertAll ks m)
+between-insertAll-local a b [] l m r q e = e
+between-insertAll-local a b (k ∷ ks) l m r q e = between-insertAll-local a b ks (insert k l) (insert k m) (insert-rising k l r) (insert-rising k m q) (between-insert-local a b k l m r q e)
+
+pub between-insertAll-outside : (a b : ℕ) (ks l : List ℕ) → ((k : ℕ) → List·Memᴰ k ks → (k < a) ⊎ (b < k)) → between a b (insertAll ks l) ≡ between a b l
+between-insertAll-outside a b [] l f = refl
+between-insertAll-outside a b (k ∷ ks) l f = between-insertAll-outside a b ks (insert k l) (λ x m. f x (List·Memᴰ·tail m)) ∙ between-insert-outside a b k l (f k (List·Memᴰ·head refl))
+
+pub hear-local : (c : Claim) (a b : ℕ) (l m : List ℕ) → Rising l → Rising m → between a b l ≡ between a b m → between a b (hear c l) ≡ between a b (hear c m)
+hear-local c a b l m r q e = between-insertAll-local a b (adding c l) l m r q e
+
+-- ---- a reply
+
+-- help, of the keys m strictly between lo and hi
+abbrev helpBy : List ℕ → Answer
+helpBy m = cond (ltb (length m - 1) 3) (One (spanClaim m)) (Two (spanClaim (take (length m / 2 + 1) m)) (spanClaim (drop (length m / 2 + 1) m)))
+
+help-span : (a b : ℕ) (l : List ℕ) → a ≤ b → b < length l → help a b l ≡ helpBy (span a b l)
+help-span a b l h g = go (ltb (b - a) 3) refl (length-span a b l h g)
+  where
+    m : List ℕ
+    m = span a b l
+
+    go : (t : Bool) → ltb (b - a) 3 ≡ t → length m ≡ b - a + 1 → help a b l ≡ helpBy m
+    go true e n =
+        let size : length m - 1 ≡ b - a = omega arith in
+        rw (e, ap (λ (x : ℕ). ltb x 3) size, e) (ap (λ (c : Claim). One c) (claimOf-span a b l h g))
+    go false e n =
+        let size : length m - 1 ≡ b - a = omega arith in
+        let z : b + 1 - a ≡ length m = omega arith in
+        let w : 3 ≤ b - a = ltb-false (b - a) 3 e in
+        let i : half a b ≡ length m / 2 = ap (λ (x : ℕ). x / 2) z in
+        let cut : ℕ = a + half a b in
+        let f : a + half a b < b = omega arith in
+        let j : m ≡ span a cut l ++ span (cut + 1) b l = span-join a cut b l (omega arith) f in
+        let k : length (span a cut l) ≡ length m / 2 + 1 = length-span a cut l (omega arith) (omega arith) ∙ (omega arith) in
+        let x : take (length m / 2 + 1) m ≡ span a cut l = ap (take (length m / 2 + 1)) j ∙ take-at (span a cut l) (span (cut + 1) b l) (length m / 2 + 1) k in
+        let y : drop (length m / 2 + 1) m ≡ span (cut + 1) b l = ap (drop (length m / 2 + 1)) j ∙ drop-at (span a cut l) (span (cut + 1) b l) (length m / 2 + 1) k in
+        rw (e, ap (λ (q : ℕ). ltb q 3) size, e)
+        (ap₂ (λ (c d : Claim). Two c d) (claimOf-span a cut l (omega arith) (omega arith) ∙ ap spanClaim (sym x)) (claimOf-span (cut + 1) b l (omega arith) (omega arith) ∙ ap spanClaim (sym y)))
+
+-- an answer, of the keys from lo to hi alone
+abbrev answerBy : Claim → List ℕ → List ℕ → Answer
+answerBy c k m = cond (same (spanClaim k) c) Match (cond (ltb (spanClaim k .cnt) (c .cnt)) (Ask (spanClaim k)) (helpBy m))
+
+answer-by : (c : Claim) (l : List ℕ) → Rising l → Passes c → List·Memᴰ (c .lo) l → List·Memᴰ (c .hi) l → answer c l ≡ answerBy c (between (c .lo) (c .hi) l) (inside (c .lo) (c .hi) l)
+unfolding answer
+answer-by c l r p m n = ap (λ (o : Claim). cond (same o c) Match (cond (ltb (o .cnt) (c .cnt)) (Ask o) (help (position (c .lo) l + 1) (position (c .hi) l - 1) l))) is ∙ go (same k c) refl (ltb (k .cnt) (c .cnt)) refl
+  where
+    k : Claim
+    k = spanClaim (between (c .lo) (c .hi) l)
+
+    is : own c l ≡ k
+    is = own-between c l r (p .ordered) m n
+
+    helped : same k c ≡ false → ltb (k .cnt) (c .cnt) ≡ false → help (position (c .lo) l + 1) (position (c .hi) l - 1) l ≡ helpBy (inside (c .lo) (c .hi) l)
+    helped e f =
+        let a = getD-position (c .lo) l r m in
+        let b = getD-position (c .hi) l r n in
+        let q : position (c .hi) l < length l = b .0 in
+        let h : position (c .lo) l + 1 ≤ position (c .hi) l - 1 = helper-positions c l r p m n (ap (λ (o : Claim). same o c) is ∙ e) (ap (λ (o : Claim). ltb (o .cnt) (c .cnt)) is ∙ f) in
+        help-span (position (c .lo) l + 1) (position (c .hi) l - 1) l h (omega arith)
+        ∙ ap helpBy (span-inside (position (c .lo) l) (position (c .hi) l) l r h (b .0) ∙ ap₂ (λ (x y : ℕ). inside x y l) (a .1) (b .1))
+
+    go : (t : Bool) → same k c ≡ t → (u : Bool) → ltb (k .cnt) (c .cnt) ≡ u →
+        cond (same k c) Match (cond (ltb (k .cnt) (c .cnt)) (Ask k) (help (position (c .lo) l + 1) (position (c .hi) l - 1) l)) ≡ answerBy c (between (c .lo) (c .hi) l) (inside (c .lo) (c .hi) l)
+    go true e u f = rw e
+    go false e true f = rw (e, f)
+    go false e false f = rw (e, f) (helped e f)
+
+pub answer-local : (c : Claim) (l m : List ℕ) → Rising l → Rising m → Passes c → List·Memᴰ (c .lo) l → List·Memᴰ (c .hi) l → List·Memᴰ (c .lo) m → List·Memᴰ (c .hi) m →
+    between (c .lo) (c .hi) l ≡ between (c .lo) (c .hi) m → answer c l ≡ answer c m
+answer-local c l m r q p a b x y e =
+    let i : inside (c .lo) (c .hi) l ≡ inside (c .lo) (c .hi) m
+    = sym (between-between (c .lo) (c .hi) (suc (c .lo)) (c .hi - 1) l (omega arith) (omega arith))
+    ∙ ap (between (suc (c .lo)) (c .hi - 1)) e
+    ∙ between-between (c .lo) (c .hi) (suc (c .lo)) (c .hi - 1) m (omega arith) (omega arith) in
+    answer-by c l r p a b ∙ ap₂ (answerBy c) e i ∙ sym (answer-by c m q p x y)
+
+-- a reply depends only on the keys from lo to hi
+pub reply-local : (c : Claim) (l m : List ℕ) → Rising l → Rising m → Passes c → between (c .lo) (c .hi) l ≡ between (c .lo) (c .hi) m → reply c l ≡ reply c m
+reply-local c l m r q p e =
+    answer-local c (hear c l) (hear c m) (hear-rising c l r) (hear-rising c m q) p (hear-lo c l) (hear-hi c l) (hear-lo c m) (hear-hi c m) (hear-local c (c .lo) (c .hi) l m r q e)
+
+-- .. and its claims lie within lo to hi
+pub reply-range : (c : Claim) (l : List ℕ) → Rising l → Passes c → (d : Claim) → List·Memᴰ d (claimsOf (reply c l)) → (c .lo ≤ d .lo) × (d .hi ≤ c .hi)
+reply-range c l r p d m = go (reply c l) (reply-answered c l r p) m
+  where
+    k : List ℕ
+    k = hear c l
+
+    part : (y : List ℕ) → d ≡ spanClaim y → Part (c .lo) (c .hi) k y → (c .lo ≤ d .lo) × (d .hi ≤ c .hi)
+    part y e t =
+        let a : c .lo < first y = t .after in
+        let b : last y < c .hi = t .before in
+        let x : d .lo ≡ first y = ap (λ (z : Claim). z .lo) e in
+        let w : d .hi ≡ last y = ap (λ (z : Claim). z .hi) e in
+        (omega arith, omega arith)
+
+    go : (a : Answer) → Answered c k a → List·Memᴰ d (claimsOf a) → (c .lo ≤ d .lo) × (d .hi ≤ c .hi)
+    go _ (matched i) n = absurd (List·Memᴰ·not-nil n)
+    go _ (asked i g) n =
+        let e : d ≡ spanClaim (between (c .lo) (c .hi) k) = List·Memᴰ·eq-of-singleton n ∙ i in
+        let a : d .lo ≡ c .lo = ap (λ (z : Claim). z .lo) e ∙ first-between (c .lo) (c .hi) k (hear-rising c l r) (p .ordered) (hear-lo c l) in
+        let b : d .hi ≡ c .hi = ap (λ (z : Claim). z .hi) e ∙ last-between (c .lo) (c .hi) k (hear-rising c l r) (p .ordered) (hear-hi c l) in
+        (omega arith, omega arith)
+    go _ (helped-one g o i t) n = part (inside (c .lo) (c .hi) k) (List·Memᴰ·eq-of-singleton n ∙ i) t
+    go _ (helped-two y z g o i j x t v w) (List·Memᴰ·head e) = part y (e ∙ i) t
+    go _ (helped-two y z g o i j x t v w) (List·Memᴰ·tail n) = part z (List·Memᴰ·eq-of-singleton n ∙ j) v
+
+-- ---- what waits
+
+-- two pairs of stores agree on the range of an entry
+abbrev pub AgreeOn : Pair → Pair → Entry → Type 0
+AgreeOn p p′ e = (s : End) → between (e .claim .lo) (e .claim .hi) (keysAt s p) ≡ between (e .claim .lo) (e .claim .hi) (keysAt s p′)
+
+-- claims within a range wait alike at keys that agree there
+waits-local : (s : End) (a b : ℕ) (l m : List ℕ) (cs : List Claim) → between a b l ≡ between a b m → ((d : Claim) → List·Memᴰ d cs → (a ≤ d .lo) × (d .hi ≤ b)) → waits s l cs ≡ waits s m cs
+waits-local s a b l m [] e f = refl
+waits-local s a b l m (c ∷ cs) e f =
+    let t = f c (List·Memᴰ·head refl) in
+    let h : between (c .lo) (c .hi) l ≡ between (c .lo) (c .hi) m
+    = sym (between-between a b (c .lo) (c .hi) l (t .0) (t .1)) ∙ ap (between (c .lo) (c .hi)) e ∙ between-between a b (c .lo) (c .hi) m (t .0) (t .1) in
+    ap₂ (λ (x : List ℕ) (y : List Entry). record { sender = s; claim = c; held = x } ∷ y) h (waits-local s a b l m cs e (λ d i. f d (List·Memᴰ·tail i)))
+
+-- an entry that waits is one of the claims
+waits-mem : (s : End) (l : List ℕ) (cs : List Claim) (x : Entry) → List·Memᴰ x (waits s l cs) → List·Memᴰ (x .claim) cs
+waits-mem s l [] x m = absurd (List·Memᴰ·not-nil m)
+waits-mem s l (c ∷ cs) x (List·Memᴰ·head e) = List·Memᴰ·head (ap (λ (y : Entry). y .claim) e)
+waits-mem s l (c ∷ cs) x (List·Memᴰ·tail m) = List·Memᴰ·tail (waits-mem s l cs x m)
+
+-- the answers to an entry lie within its range
+pub answers-range : (p : Pair) (e : Entry) → Rises p → Passes (e .claim) → (x : Entry) → List·Memᴰ x (answers e p) → (e .claim .lo ≤ x .claim .lo) × (x .claim .hi ≤ e .claim .hi)
+answers-range p e r q x m = reply-range (e .claim) (keysBefore e p) (r (receiver e)) q (x .claim) (waits-mem (receiver e) (hear (e .claim) (keysBefore e p)) (claimsOf (reply (e .claim) (keysBefore e p))) x m)
+
+pub answers-local : (p p′ : Pair) (e : Entry) → Rises p → Rises p′ → Passes (e .claim) → AgreeOn p p′ e → answers e p ≡ answers e p′
+answers-local p p′ e r r′ q a =
+    let c : Claim = e .claim in
+    let h : reply c (keysBefore e p) ≡ reply c (keysBefore e p′) = reply-local c (keysBefore e p) (keysBefore e p′) (r (receiver e)) (r′ (receiver e)) q (a (receiver e)) in
+    waits-local (receiver e) (c .lo) (c .hi) (hear c (keysBefore e p)) (hear c (keysBefore e p′)) (claimsOf (reply c (keysBefore e p)))
+    (hear-local c (c .lo) (c .hi) (keysBefore e p) (keysBefore e p′) (r (receiver e)) (r′ (receiver e)) (a (receiver e)))
+    (reply-range c (keysBefore e p) (r (receiver e)) q)
+    ∙ ap (λ (x : Answer). waits (receiver e) (hear c (keysBefore e p′)) (claimsOf x)) h
+
+pub line-local : (p p′ : Pair) (e : Entry) → Rises p → Rises p′ → Passes (e .claim) → AgreeOn p p′ e → line e p ≡ line e p′
+line-local p p′ e r r′ q a =
+    let c : Claim = e .claim in
+    let h : reply c (keysBefore e p) ≡ reply c (keysBefore e p′) = reply-local c (keysBefore e p) (keysBefore e p′) (r (receiver e)) (r′ (receiver e)) q (a (receiver e)) in
+    let g : between (c .lo) (c .hi) (hear c (keysBefore e p)) ≡ between (c .lo) (c .hi) (hear c (keysBefore e p′))
+    = hear-local c (c .lo) (c .hi) (keysBefore e p) (keysBefore e p′) (r (receiver e)) (r′ (receiver e)) (a (receiver e)) in
+    ap (λ (b : Bool). record { delivery = line e p .delivery; isFalse = b }) (ap₂ (λ (x : Answer) (y : List ℕ). matches x && not (sameKeys (e .held) y)) h g)
+
+-- where two pairs agree on a range, they do so after the same delivery to both
+pub delivered-local : (p p′ : Pair) (e f : Entry) → Rises p → Rises p′ → AgreeOn p p′ f → AgreeOn (delivered e p) (delivered e p′) f
+delivered-local p p′ e f r r′ a =
+    both (receiver e) (hear-local (e .claim) (f .claim .lo) (f .claim .hi) (keysBefore e p) (keysBefore e p′) (r (receiver e)) (r′ (receiver e)) (a (receiver e)))
+  where
+    b : List ℕ → List ℕ
+    b = between (f .claim .lo) (f .claim .hi)
+
+    both : (t : End) → b (hear (e .claim) (keysBefore e p)) ≡ b (hear (e .claim) (keysBefore e p′)) → (s : End) →
+        b (keysAt s (holding t (hear (e .claim) (keysBefore e p)) p)) ≡ b (keysAt s (holding t (hear (e .claim) (keysBefore e p′)) p′))
+    both End.leftEnd h End.leftEnd = h
+    both End.leftEnd h End.rightEnd = a End.rightEnd
+    both End.rightEnd h End.leftEnd = a End.leftEnd
+    both End.rightEnd h End.rightEnd = h
+
+-- ---- a whole run
+
+agreeOn-within : (p p′ : Pair) (e x : Entry) → AgreeOn p p′ e → (e .claim .lo ≤ x .claim .lo) × (x .claim .hi ≤ e .claim .hi) → AgreeOn p p′ x
+agreeOn-within p p′ e x a t s =
+    sym (between-between (e .claim .lo) (e .claim .hi) (x .claim .lo) (x .claim .hi) (keysAt s p) (t .0) (t .1))
+    ∙ ap (between (x .claim .lo) (x .claim .hi)) (a s)
+    ∙ between-between (e .claim .lo) (e .claim .hi) (x .claim .lo) (x .claim .hi) (keysAt s p′) (t .0) (t .1)
+
+-- stores that agree on the ranges of what waits give the same lines
+pub run-local : (n : ℕ) (u : List ℕ) (p p′ : Pair) (q : List Entry) → Fine u p q → Fine u p′ q → ((e : Entry) → List·Memᴰ e q → AgreeOn p p′ e) → run n p q .lines ≡ run n p′ q .lines
+unfolding run
+run-local zero u p p′ q f f′ a = refl
+run-local (suc n) u p p′ [] f f′ a = refl
+run-local (suc n) u p p′ (e ∷ q) f f′ a =
+    let here : AgreeOn p p′ e = a e (List·Memᴰ·head refl) in
+    let k : Passes (e .claim) = sound-limit p e u (f .sound e (List·Memᴰ·head refl)) (f .within) (f .whole) (f .fits) in
+    let same-answers : answers e p ≡ answers e p′ = answers-local p p′ e (f .rises) (f′ .rises) k here in
+    let f₁ : Fine u (delivered e p) (q ++ answers e p) = fine-step u p e q f in
+    let f₂ : Fine u (delivered e p′) (q ++ answers e p) = subst (λ (x : List Entry). Fine u (delivered e p′) (q ++ x)) (sym same-answers) (fine-step u p′ e q f′) in
+    let later : run n (delivered e p) (q ++ answers e p) .lines ≡ run n (delivered e p′) (q ++ answers e p) .lines
+    = run-local n u (delivered e p) (delivered e p′) (q ++ answers e p) f₁ f₂
+    (λ x m.
+    ⊎-elim
+    {C = AgreeOn (delivered e p) (delivered e p′) x}
+    (λ (i : List·Memᴰ x q). delivered-local p p′ e x (f .rises) (f′ .rises) (a x (List·Memᴰ·tail i)))
+    (λ (i : List·Memᴰ x (answers e p)). agreeOn-within (delivered e p) (delivered e p′) e x (delivered-local p p′ e e (f .rises) (f′ .rises) here) (answers-range p e (f .rises) k x i))
+    (List·Memᴰ·append-cases q m)) in
+    ap₂ (λ (x : Line) (y : List Line). x ∷ y) (line-local p p′ e (f .rises) (f′ .rises) k here)
+    (later ∙ ap (λ (x : List Entry). run n (delivered e p′) (q ++ x) .lines) same-answers)
