@@ -8,6 +8,8 @@
 --   Theorem    demand 3, for every list of events
 --   Beyond     what follows besides: nothing is turned away for want of space before the limit is reached
 --   Equal      a round of two equal stores
+--   Local      a delivery depends only on the keys in its range
+--   Sum        what waits has disjoint ranges, so deliveries add up
 --   Examples   lists that meet every premise
 pub mod Progress
 pub mod Apart
@@ -19,4 +21,5 @@ pub mod Theorem
 pub mod Beyond
 pub mod Equal
 pub mod Local
+pub mod Sum
 pub mod Examples

@@ -9,8 +9,8 @@ use mathlib.Core.Path.{_≡_, refl, sym, ap, _∙_, subst}
 use native.Mathlib.Omega.{arith}
 use borrow.Author.Tests.{leb-true, le-leb, eqb-true, eq-eqb}
 use lib.Dec.{leb, eqb}
-use lib.ListN.{length, drop, length-replicate}
-use lib.Seq.{take-append-seam, drop-append-seam}
+use lib.ListN.{length, drop, length-drop, length-replicate, take-append-drop}
+use lib.Seq.{length-take-le, take-append-seam, drop-append-seam}
 use Rattle.claims.specs.declared.claim.Claim.{Claim}
 use Rattle.claims.specs.declared.store.Store.{Store}
 use Rattle.claims.specs.Store.{limit, keysOf, storeOf, inOrder, holds}
@@ -19,7 +19,8 @@ use Rattle.claims.specs.Call.{judged}
 use Rattle.claims.specs.Claim.{noClaim}
 use Rattle.claims.proofs.Tests.{and-left, and-right, and-both}
 use Rattle.claims.proofs.Rising.{Rising, Sub, sub-trans, holds-mem, mem-holds}
-use Rattle.claims.proofs.Order.{keysOf-storeOf, inOrder-storeOf, emptyStore-storeOf}
+use Rattle.claims.proofs.Order.{keysOf-storeOf, storeOf-keysOf, inOrder-storeOf, emptyStore-storeOf}
+use Rattle.claims.proofs.ClaimLaws.{same-claim}
 use Rattle.rounds.specs.declared.node.Node.{Node}
 use Rattle.rounds.specs.Table.{tableLimit, climbs}
 use Rattle.rounds.specs.Node.{blanks, pendingOf, nodeKeys, nodeOf, emptyNode, holdsAll, allFit, allUnused, nodeInOrder}
@@ -69,6 +70,14 @@ pub allUnused-blanks : (n : ℕ) → allUnused (blanks n) ≡ true
 unfolding blanks
 allUnused-blanks zero = refl
 allUnused-blanks (suc n) = allUnused-blanks n
+
+pub blanks-allUnused : (t : List Claim) → allUnused t ≡ true → t ≡ blanks (length t)
+unfolding blanks
+blanks-allUnused [] h = refl
+blanks-allUnused (c ∷ cs) h =
+    let e : c ≡ noClaim = same-claim c noClaim (and-left (same c noClaim) (allUnused cs) h) in
+    let p : cs ≡ blanks (length cs) = blanks-allUnused cs (and-right (same c noClaim) (allUnused cs) h) in
+    cc
 
 -- ---- what "in order" says
 
@@ -147,6 +156,18 @@ ordered-nodeOf l t r h g u f = record {
   fit = rw (take-append-seam t (blanks (tableLimit - length t)), keysOf-storeOf l) f;
   unused = rw (drop-append-seam t (blanks (tableLimit - length t))) (allUnused-blanks (tableLimit - length t));
 }
+
+-- a node in order, with as many places as the limits say, is the node of its keys and its pending claims
+pub nodeOf-same : (n : Node) → length (n .store .keys) ≡ limit → length (n .pending) ≡ tableLimit → Ordered n → n ≡ nodeOf (nodeKeys n) (pendingOf n)
+unfolding nodeOf
+nodeOf-same n k p o =
+    let s : n .store ≡ storeOf (nodeKeys n) = storeOf-keysOf (n .store) k (o .store) in
+    let h : n .count ≤ tableLimit = o .count in
+    let c : length (pendingOf n) ≡ n .count = length-take-le (n .count) (n .pending) (omega arith) in
+    let d : length (drop (n .count) (n .pending)) ≡ tableLimit - length (pendingOf n) = length-drop (n .count) (n .pending) ∙ (omega arith) in
+    let b : drop (n .count) (n .pending) ≡ blanks (tableLimit - length (pendingOf n)) = blanks-allUnused (drop (n .count) (n .pending)) (o .unused) ∙ ap blanks d in
+    let t : n .pending ≡ pendingOf n ++ blanks (tableLimit - length (pendingOf n)) = sym (take-append-drop (n .count) (n .pending)) ∙ ap (λ (x : List Claim). pendingOf n ++ x) b in
+    λ i. record { store = s i; pending = t i; count = sym c i }
 
 -- ---- the empty node
 
