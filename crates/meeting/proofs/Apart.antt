@@ -2,14 +2,14 @@
 -- stores; a round in which no match is false leaves at least one fewer (`apart-round`). Assumes nothing.
 use Prim.Native.Nat.{ℕ, suc, _+_, _-_, _*_, _≤_, _<_}
 use mathlib.Core.Bool.{Bool, true, false, cond}
-use mathlib.Core.List.{List, [], _∷_, List·Memᴰ, List·Memᴰ·head, List·Memᴰ·tail}
-use mathlib.Core.Logic.{_⊎_, inl, inr, ⊎-elim}
-use mathlib.Core.Path.{_≡_, refl, sym, ap, _∙_, subst}
+use mathlib.Core.List.{List, [], _∷_}
+use mathlib.Core.Logic.{⊎-elim}
+use mathlib.Core.Path.{_≡_, refl, sym, ap, _∙_}
 use native.Mathlib.Omega.{arith}
 use lib.ListN.{length}
 use Rattle.claims.specs.Store.{limit, holds, insert}
 use Rattle.claims.proofs.Tests.{lt-or-le}
-use Rattle.claims.proofs.Rising.{Above, Rising, Sub, above-mem, rising-same, mem-holds, holds-mem, holds-absent, absent-holds}
+use Rattle.claims.proofs.Rising.{Above, Rising, rising-same, mem-holds, holds-mem, holds-absent, absent-holds}
 use Rattle.claims.proofs.Insert.{mem-insert-old, insert-mem, insert-rising, insert-held, length-insert-missing}
 use Rattle.rounds.specs.Round.{union, leftEnd, rightEnd, pair, anyFalse, roundOf}
 use Rattle.rounds.proofs.Union.{union-self, union-comm, union-rising, union-left, union-right, length-left-union, length-right-union}

@@ -2,8 +2,8 @@
 -- stays so while u grows, however late or often the claim is delivered; such a claim passes questions 2 to 5 and adds only keys of u; all claims that
 -- the calls make are backed: of positions, of a reply, of a beat, of a round. Assumes nothing.
 use Prim.Native.Nat.{ℕ, zero, suc, _+_, _-_, _≤_, _<_}
-use mathlib.Core.List.{List, [], _∷_, _++_, map, List·Memᴰ, List·Memᴰ·head, List·Memᴰ·tail, List·Memᴰ·not-nil, List·Memᴰ·append-cases, List·Memᴰ·eq-of-singleton, Memᴰ·cast}
-use mathlib.Core.Logic.{_⊎_, ⊎-elim}
+use mathlib.Core.List.{List, [], _∷_, _++_, List·Memᴰ, List·Memᴰ·head, List·Memᴰ·tail, List·Memᴰ·not-nil, List·Memᴰ·append-cases, List·Memᴰ·eq-of-singleton, Memᴰ·cast}
+use mathlib.Core.Logic.{⊎-elim}
 use mathlib.Core.Path.{_≡_, refl, sym, ap, _∙_, subst}
 use native.Mathlib.Omega.{arith}
 use lib.ListN.{length, drop}
@@ -11,19 +11,17 @@ use Rattle.claims.specs.declared.claim.Claim.{Claim}
 use Rattle.claims.specs.Store.{limit}
 use Rattle.claims.specs.Claim.{span, claimOf, wholeClaim, between}
 use Rattle.claims.specs.Reply.{adding, hear, reply, claimsOf}
-use Rattle.claims.specs.Call.{judged}
 use Rattle.claims.proofs.Rising.{Rising, Sub, sub-trans, sub-take, sub-drop, rising-length}
 use Rattle.claims.proofs.Between.{between-rising, between-sub}
 use Rattle.claims.proofs.Span.{first, last, mem-first, mem-last, length-span, span-rising}
 use Rattle.claims.proofs.QuestionLaws.{Passes, passes, judged-firstNo}
 use Rattle.claims.proofs.ClaimLaws.{spanClaim, spanClaim-passes, claimOf-span, wholeClaim-span}
 use Rattle.claims.proofs.ReplyLaws.{adding-mem, hear-rising, hear-held, Spanned, reply-spanned}
-use Rattle.rounds.specs.declared.delivery.Delivery.{Delivery}
 use Rattle.rounds.specs.Table.{serve, sending}
 use Rattle.rounds.specs.Round.{union, End, leftEnd, rightEnd, Pair, pair, Entry, delivered, answers, Line, Run, run, half, roundOf}
 use Rattle.rounds.proofs.TableLaws.{sent-mem}
 use Rattle.rounds.proofs.NodeLaws.{Fits}
-use Rattle.rounds.proofs.Pair.{Within, Rises, rises-pair, unionOf}
+use Rattle.rounds.proofs.Pair.{Rises, rises-pair, unionOf}
 use Rattle.rounds.proofs.Entry.{Sound}
 use Rattle.rounds.proofs.Deliver.{sound-within}
 use Rattle.rounds.proofs.Half.{Fine, fine-step, opening, halfway-opening, half-run, half-fine, half-union}

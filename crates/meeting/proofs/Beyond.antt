@@ -2,29 +2,27 @@
 -- keys entered in all, no round gets 8 (`never-8`), no delivery of a claim made before is refused (`made-accepted`), and entering gets 6 only when 1,024
 -- different keys are entered already and this is none of them (`entering-6`): nothing is turned away for want of space before the limit is really reached.
 -- Then, without that premise: claims once made pass questions 2 to 5 for ever; both stores stay within their union. Assumes nothing.
-use Prim.Native.Nat.{ℕ, zero, suc, _+_, _*_, _≤_, _<_}
-use mathlib.Core.Bool.{Bool, true, false, cond}
+use Prim.Native.Nat.{ℕ, suc, _+_, _≤_}
+use mathlib.Core.Bool.{Bool, true, false}
 use mathlib.Core.List.{List, [], _∷_, _++_, List·Memᴰ, List·Memᴰ·not-nil, Memᴰ·append-left, append-assoc}
-use mathlib.Core.Logic.{_⊎_, ⊎-elim}
+use mathlib.Core.Logic.{⊎-elim}
 use mathlib.Core.Path.{_≡_, refl, sym, ap, _∙_, subst}
 use native.Mathlib.Omega.{arith}
-use borrow.Author.Tests.{leb-true, le-leb, lt-ltb, ltb-false, leb-false}
-use lib.Dec.{leb, ltb}
+use borrow.Author.Tests.{le-leb, lt-ltb, ltb-false}
 use lib.ListN.{length}
 use Rattle.claims.specs.declared.claim.Claim.{Claim}
 use Rattle.claims.specs.declared.store.Store.{Store}
-use Rattle.claims.specs.Store.{limit, keysOf, storeOf, insert, insertAll}
-use Rattle.claims.specs.Question.{Question, firstNo, question, question1, question6, claimQuestions}
+use Rattle.claims.specs.Store.{limit, keysOf, insert, insertAll}
+use Rattle.claims.specs.Question.{Question, firstNo, question1, question6, claimQuestions}
 use Rattle.claims.specs.Reply.{ends}
 use Rattle.claims.specs.Call.{judged, enterQuestions, replyQuestions}
 use Rattle.claims.proofs.Tests.{eq-or-ne}
-use Rattle.claims.proofs.Rising.{Rising, Sub, sub-refl, sub-trans, rising-length, sub-append-left}
+use Rattle.claims.proofs.Rising.{Rising, Sub, sub-refl, sub-trans, rising-length}
 use Rattle.claims.proofs.Insert.{length-insert-le, insert-sub, insert-rising, insertAll-sub, insertAll-rising, mem-insertAll-new}
 use Rattle.claims.proofs.Order.{inOrder-rising, keysOf-storeOf}
 use Rattle.claims.proofs.QuestionLaws.{firstNo-yes, firstNo-no, firstNo-append-zero, claimQuestions-numbered, passes-firstNo, judged-firstNo}
 use Rattle.rounds.specs.declared.node.Node.{Node}
 use Rattle.rounds.specs.declared.delivery.Delivery.{Delivery}
-use Rattle.rounds.specs.Node.{nodeKeys, nodeInOrder}
 use Rattle.rounds.specs.Round.{union, leftEnd, rightEnd}
 use Rattle.rounds.specs.Question.{nodeQuestion1, question8, question9}
 use Rattle.rounds.specs.Call.{takeQuestions, roundQuestions, roundBy, met}
@@ -38,7 +36,7 @@ use Rattle.meeting.specs.Premise.{AllMeant}
 use Rattle.meeting.specs.Statement.{end, keysIn, enteredIn, different}
 use Rattle.meeting.proofs.Backed.{Backed, backed-passes, backed-adding}
 use Rattle.meeting.proofs.Outcomes.{enters-done, enters-refused, replies-done, takes-done, meets-done, meets-refused}
-use Rattle.meeting.proofs.Invariant.{Good, good-all}
+use Rattle.meeting.proofs.Invariant.{Good}
 use Rattle.meeting.proofs.Theorem.{good-end}
 
 -- ---- any beginning of a list

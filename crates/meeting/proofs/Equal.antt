@@ -1,7 +1,7 @@
 -- A round of two equal stores changes nothing and makes at most two deliveries (`round-equal`): both whole claims match. Assumes nothing.
-use Prim.Native.Nat.{ℕ, zero, suc, _+_, _≤_, _<_}
+use Prim.Native.Nat.{ℕ, _≤_, _<_}
 use mathlib.Core.Bool.{true}
-use mathlib.Core.List.{List, [], _∷_, _++_}
+use mathlib.Core.List.{List, [], _∷_}
 use mathlib.Core.Path.{_≡_, refl, sym, ap, _∙_, subst}
 use native.Mathlib.Omega.{arith}
 use lib.ListN.{length, length-append}
@@ -12,16 +12,16 @@ use Rattle.claims.specs.declared.store.Store.{Store}
 use Rattle.claims.specs.Store.{limit, keysOf, storeOf}
 use Rattle.claims.specs.Claim.{wholeClaim}
 use Rattle.claims.specs.Question.{firstNo}
-use Rattle.claims.specs.Reply.{ends, hear, own, same, answer, reply, claimsOf}
-use Rattle.claims.proofs.Rising.{Rising, Sub}
+use Rattle.claims.specs.Reply.{hear, own, same, answer, reply, claimsOf}
+use Rattle.claims.proofs.Rising.{Rising}
 use Rattle.claims.proofs.Order.{inOrder-rising}
-use Rattle.claims.proofs.Span.{first, last, mem-first, mem-last, first-le-last, between-first-last}
+use Rattle.claims.proofs.Span.{mem-first, mem-last, first-le-last, between-first-last}
 use Rattle.claims.proofs.ClaimLaws.{spanClaim, claim-same, wholeClaim-span}
 use Rattle.claims.proofs.ReplyLaws.{hear-held, own-between}
-use Rattle.rounds.specs.Round.{union, End, leftEnd, rightEnd, other, Pair, pair, keysAt, holding, Entry, waits, receiver, delivered, answers, line, Run, noting, runAll, half, roundOf}
+use Rattle.rounds.specs.Round.{End, leftEnd, rightEnd, other, Pair, pair, keysAt, holding, Entry, waits, delivered, answers, line, Run, noting, runAll, half, roundOf}
 use Rattle.rounds.specs.Call.{roundQuestions, met}
 use Rattle.rounds.proofs.Union.{union-self}
-use Rattle.rounds.proofs.Pair.{Rises, rises-pair, holding-same, unionOf}
+use Rattle.rounds.proofs.Pair.{rises-pair, holding-same}
 use Rattle.rounds.proofs.Entry.{entry}
 use Rattle.rounds.proofs.Half.{Halfway, halfway-opening, opening, half-opening, runAll-nil, runAll-cons}
 use Rattle.rounds.proofs.CallLaws.{RoundYes, roundQuestions-yes, met-done}

@@ -1,8 +1,8 @@
 -- What every event keeps (`good-step`), from any world that has it. ks are the keys entered so far: each node is in order, its store laid out as the
 -- store of its keys, these among ks, each of ks is in some store, and every claim made is the claim of some span of ks (Backed). In order: the
 -- invariant and the start; nodes that grew; the next world; one law for each kind of event; one event; a list of events. Assumes nothing.
-use Prim.Native.Nat.{ℕ, _+_, _≤_, _<_}
-use mathlib.Core.List.{List, [], _∷_, _++_, map, List·Memᴰ, List·Memᴰ·head, List·Memᴰ·tail, List·Memᴰ·not-nil, List·Memᴰ·append-cases, List·Memᴰ·eq-of-singleton, Memᴰ·append-left, Memᴰ·append-right, Memᴰ·cast, append-nil, append-assoc}
+use Prim.Native.Nat.{ℕ, _≤_, _<_}
+use mathlib.Core.List.{List, [], _∷_, _++_, map, List·Memᴰ, List·Memᴰ·head, List·Memᴰ·tail, List·Memᴰ·not-nil, List·Memᴰ·append-cases, List·Memᴰ·eq-of-singleton, Memᴰ·append-right, Memᴰ·cast, append-nil, append-assoc}
 use mathlib.Core.Logic.{_⊎_, inl, inr, ⊎-elim}
 use mathlib.Core.Path.{_≡_, refl, sym, ap, _∙_, subst}
 use native.Mathlib.Omega.{arith}
@@ -17,24 +17,24 @@ use Rattle.claims.specs.Call.{enterQuestions, makeQuestions, replyQuestions}
 use Rattle.claims.proofs.Tests.{eq-or-ne}
 use Rattle.claims.proofs.Rising.{Rising, Sub, sub-refl, sub-trans, rising-length, sub-append-left}
 use Rattle.claims.proofs.Insert.{mem-insert-new, mem-insert-old, insert-sub, insert-rising}
-use Rattle.claims.proofs.Order.{keysOf-storeOf, count-storeOf, inOrder-rising, emptyStore-storeOf}
-use Rattle.claims.proofs.QuestionLaws.{Passes, passes, judged-firstNo}
+use Rattle.claims.proofs.Order.{keysOf-storeOf, count-storeOf, inOrder-rising}
+use Rattle.claims.proofs.QuestionLaws.{passes}
 use Rattle.claims.proofs.ReplyLaws.{hear-rising, hear-old, hear-sub}
 use Rattle.rounds.specs.declared.node.Node.{Node}
 use Rattle.rounds.specs.declared.delivery.Delivery.{Delivery}
 use Rattle.rounds.specs.Table.{serve, sending, tableWith}
-use Rattle.rounds.specs.Node.{nodeKeys, pendingOf, nodeOf, emptyNode}
-use Rattle.rounds.specs.Round.{union, leftEnd, rightEnd, Line, roundOf}
+use Rattle.rounds.specs.Node.{nodeKeys, pendingOf, nodeOf}
+use Rattle.rounds.specs.Round.{union, leftEnd, rightEnd, Line}
 use Rattle.rounds.specs.Call.{takeQuestions, beatQuestions, roundQuestions, roundBy}
 use Rattle.rounds.proofs.NodeLaws.{Ordered, restored, ordered-restored, nodeKeys-nodeOf, store-nodeOf, emptyNode-nodeOf, ordered-emptyNode}
 use Rattle.rounds.proofs.Union.{union-rising, union-sub}
 use Rattle.rounds.proofs.Half.{Rounded}
-use Rattle.rounds.proofs.CallLaws.{TakeYes, takeQuestions-yes, ordered-taken, BeatYes, beatQuestions-yes, ordered-beaten, length-nodeKeys, length-pendingOf, RoundYes, roundQuestions-yes, roundYes-rounded}
+use Rattle.rounds.proofs.CallLaws.{TakeYes, takeQuestions-yes, ordered-taken, ordered-beaten, length-nodeKeys, length-pendingOf, RoundYes, roundQuestions-yes, roundYes-rounded}
 use Rattle.meeting.specs.Event.{Event, To, enters, makes, delivers, beats, meets}
 use Rattle.meeting.specs.World.{World, start, withNode, withStore, Outcome, outcome, after, afterAll, numbers, enteredBy, keysEntered}
 use Rattle.meeting.specs.Premise.{Refused, Meant, AllMeant}
 use Rattle.meeting.specs.Statement.{keysIn, InSome}
-use Rattle.meeting.proofs.Backed.{Backed, backed-sub, backed-passes, backed-adding, claimOf-backed, reply-backed, sending-backed, round-backed}
+use Rattle.meeting.proofs.Backed.{Backed, backed-sub, backed-adding, claimOf-backed, reply-backed, sending-backed, round-backed}
 use Rattle.meeting.proofs.Outcomes.{withNode-each, withNode-here, withNode-there, EnterYes, enterQuestions-yes, enters-done, enters-refused, MakeYes, makeQuestions-yes, makes-done, makes-refused, ReplyYes, replyQuestions-yes, replies-done, replies-refused, takes-done, takes-refused, beats-done, beats-refused, meets-done, meets-refused, enteredBy-refused}
 
 -- ---- the invariant

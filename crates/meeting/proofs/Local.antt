@@ -6,7 +6,7 @@ use mathlib.Core.List.{List, [], _∷_, _++_, List·Memᴰ, List·Memᴰ·head, 
 use mathlib.Core.Logic.{_⊎_, inl, inr, ⊎-elim}
 use mathlib.Core.Path.{_≡_, refl, sym, ap, ap₂, _∙_, subst}
 use native.Mathlib.Omega.{arith}
-use borrow.Author.Tests.{ltb-true, ltb-false}
+use borrow.Author.Tests.{ltb-false}
 use lib.Dec.{ltb}
 use lib.ListN.{length, take, drop}
 use lib.Seq.{take-at, drop-at}
@@ -14,10 +14,10 @@ use Rattle.claims.specs.declared.claim.Claim.{Claim}
 use Rattle.claims.specs.declared.answer.Answer.{Answer}
 use Rattle.claims.specs.declared.answer.Answer.the-variants.{Match, Ask, One, Two}
 use Rattle.claims.specs.Store.{position, insert, insertAll}
-use Rattle.claims.specs.Claim.{span, claimOf, between}
-use Rattle.claims.specs.Reply.{adding, hear, own, same, half, help, answer, reply, claimsOf, matches, sameKeys, falseMatch}
+use Rattle.claims.specs.Claim.{span, between}
+use Rattle.claims.specs.Reply.{adding, hear, own, same, half, help, answer, reply, claimsOf, matches, sameKeys}
 use Rattle.claims.proofs.Rising.{Rising}
-use Rattle.claims.proofs.Insert.{insert-rising, insertAll-rising}
+use Rattle.claims.proofs.Insert.{insert-rising}
 use Rattle.claims.proofs.Position.{getD-position}
 use Rattle.claims.proofs.Between.{Lies, within, below, beyond, lies, inside, between-between, between-insert-within, between-insert-outside}
 use Rattle.claims.proofs.Span.{first, last, length-span, span-join, span-inside, first-between, last-between}
@@ -25,8 +25,8 @@ use Rattle.claims.proofs.QuestionLaws.{Passes}
 use Rattle.claims.proofs.ClaimLaws.{spanClaim, claimOf-span}
 use Rattle.claims.proofs.ReplyLaws.{hear-rising, hear-lo, hear-hi, own-between, helper-positions, Answered, matched, asked, helped-one, helped-two, Part, reply-answered}
 use Rattle.rounds.specs.Round.{End, Pair, keysAt, holding, Entry, waits, receiver, keysBefore, delivered, answers, Line, line, run}
-use Rattle.rounds.proofs.Pair.{Rises, holding-each, keysAt-holding, delivered-rises}
-use Rattle.rounds.proofs.Entry.{Sound, sound-limit, entry}
+use Rattle.rounds.proofs.Pair.{Rises}
+use Rattle.rounds.proofs.Entry.{sound-limit}
 use Rattle.rounds.proofs.Half.{Fine, fine-step}
 
 -- ---- keys added, seen through a range

@@ -1,11 +1,11 @@
 -- Two kiosks that meet come away with the same keys (`meeting`): further rounds of these two, as many as there are keys held by just one of them, none
 -- refused and no match false. Each round leaves the union as it was and the keys apart at least one fewer, unless there are none. In order: stores that
 -- are ready; one round as an event; the rounds, from any world. Assumes nothing.
-use Prim.Native.Nat.{ℕ, suc, _+_, _-_, _≤_, _<_}
-use mathlib.Core.Bool.{Bool, true, false, not, _&&_}
+use Prim.Native.Nat.{ℕ, _-_, _≤_}
+use mathlib.Core.Bool.{true, false, not}
 use mathlib.Core.List.{List, [], _∷_}
-use mathlib.Core.Logic.{_⊎_, ⊎-elim}
-use mathlib.Core.Path.{_≡_, refl, sym, ap, _∙_, subst}
+use mathlib.Core.Logic.{⊎-elim}
+use mathlib.Core.Path.{_≡_, sym, ap, _∙_, subst}
 use native.Mathlib.Omega.{arith}
 use borrow.Author.Tests.{eqb-true, not-true}
 use lib.Dec.{eqb}
@@ -18,7 +18,7 @@ use Rattle.claims.proofs.Rising.{Rising, Sub, rising-length}
 use Rattle.claims.proofs.Order.{keysOf-storeOf, inOrder-storeOf, inOrder-rising}
 use Rattle.rounds.specs.declared.node.Node.{Node}
 use Rattle.rounds.specs.declared.delivery.Delivery.{Delivery}
-use Rattle.rounds.specs.Round.{union, leftEnd, rightEnd, anyFalse}
+use Rattle.rounds.specs.Round.{union, leftEnd, rightEnd}
 use Rattle.rounds.specs.Call.{roundQuestions, roundBy}
 use Rattle.rounds.proofs.NodeLaws.{restored}
 use Rattle.rounds.proofs.Union.{union-comm, union-rising}
@@ -26,7 +26,7 @@ use Rattle.rounds.proofs.Half.{Rounded}
 use Rattle.rounds.proofs.CallLaws.{RoundYes, roundQuestions-yes, roundYes-rounded}
 use Rattle.meeting.specs.Event.{Event, meets}
 use Rattle.meeting.specs.World.{World, withStore, Outcome, outcome, after, afterAll, numbers}
-use Rattle.meeting.specs.Statement.{keysIn, without, apart, Turn, straight, turned, rounds, falseIn, noneFalse}
+use Rattle.meeting.specs.Statement.{keysIn, apart, Turn, straight, turned, rounds, falseIn, noneFalse}
 use Rattle.meeting.proofs.Apart.{apart-none, apart-round}
 use Rattle.meeting.proofs.Outcomes.{withNode-here, withNode-there, meets-done, meets-refused}
 

@@ -1,16 +1,15 @@
 -- What a call comes to, as an event: `outcome` of World. In order: one kiosk's node replaced; what is read off the lent places is what was written; for
 -- each kind of event, what it says that its questions were answered yes, and its outcome carried out and refused; a refused call changes no kiosk, makes no claim and enters no key
 -- (`outcome-refused`): that is proved here of the calls' own definitions. Assumes nothing.
-use Prim.Native.Nat.{ℕ, zero, suc, _+_, _≤_, _<_}
+use Prim.Native.Nat.{ℕ, _+_, _≤_, _<_}
 use mathlib.Core.Bool.{Bool, true, false, cond}
-use mathlib.Core.List.{List, [], _∷_, _++_, map, List·Memᴰ, append-nil}
-use mathlib.Core.Logic.{_⊎_, inl, inr, ⊎-elim}
+use mathlib.Core.List.{List, [], _∷_, _++_, map}
+use mathlib.Core.Logic.{⊎-elim}
 use mathlib.Core.Path.{_≡_, refl, sym, ap, _∙_, subst, fun-ext}
 use native.Mathlib.Omega.{arith}
 use borrow.Author.Tests.{ltb-true, leb-true, eqb-true, eq-eqb, ne-eqb}
 use lib.Dec.{leb, ltb, eqb}
-use lib.ListN.{length, take, drop, length-map}
-use lib.Seq.{take-append-seam, take-at}
+use lib.ListN.{length, drop}
 use Rattle.claims.specs.declared.claim.Claim.{Claim}
 use Rattle.claims.specs.declared.store.Store.{Store}
 use Rattle.claims.specs.declared.answer.Answer.the-variants.{Refused}
@@ -19,7 +18,7 @@ use Rattle.claims.specs.declared.answer.Made.{Made}
 use Rattle.claims.specs.declared.answer.Replied.{Replied}
 use Rattle.claims.specs.Store.{limit, keysOf, storeOf, inOrder, insert, insertAll}
 use Rattle.claims.specs.Claim.{claimOf, noClaim}
-use Rattle.claims.specs.Question.{firstNo, settle, question1, question6, question7, claimQuestions}
+use Rattle.claims.specs.Question.{firstNo, question1, question6, question7, claimQuestions}
 use Rattle.claims.specs.Reply.{ends, hear, reply, numberOf, claimsOf}
 use Rattle.claims.specs.Call.{enterQuestions, entered, makeQuestions, made, replyQuestions, replied}
 use Rattle.claims.proofs.Tests.{and-left, and-right, eq-or-ne}
@@ -31,7 +30,7 @@ use Rattle.rounds.specs.declared.answer.Taken.{Taken}
 use Rattle.rounds.specs.Table.{tableWith, serve, sending}
 use Rattle.rounds.specs.Node.{nodeKeys, pendingOf, nodeOf}
 use Rattle.rounds.specs.Round.{Line, transcript}
-use Rattle.rounds.specs.Call.{writtenOver, takeQuestions, taken, claimWords, beatQuestions, beaten, beatenLent, roundQuestions, roundBy, met, metLent}
+use Rattle.rounds.specs.Call.{takeQuestions, claimWords, beatQuestions, roundQuestions, roundBy}
 use Rattle.rounds.proofs.CallLaws.{taken-done, taken-refused, beaten-done, beaten-refused, beatenLent-done, met-done, met-refused, metLent-done}
 use Rattle.meeting.specs.Event.{Event, To, enters, makes, delivers, beats, meets}
 use Rattle.meeting.specs.World.{withNode, withStore, Outcome, readClaims, readRecords, outcome, enteredBy}

@@ -1,10 +1,10 @@
 -- A round in which no match is false brings a key across, if the stores differ (`progress`). The idea: if no store grew, every delivery left both as
 -- they were; then, from the end of the run backwards, every entry that ever waited agrees with its receiver, the whole claims too, so each store has
 -- all keys of the other. In order: growth by sizes; fresh entries; entries that agree; a half; a round. Assumes nothing.
-use Prim.Native.Nat.{ℕ, zero, suc, _+_, _≤_, _<_}
+use Prim.Native.Nat.{ℕ, zero, suc, _+_, _≤_}
 use mathlib.Core.Bool.{Bool, true, false, _||_, false≢true}
 use mathlib.Core.List.{List, [], _∷_, _++_, List·Memᴰ, List·Memᴰ·head, List·Memᴰ·tail, List·Memᴰ·not-nil, List·Memᴰ·append-cases, Memᴰ·append-left, Memᴰ·append-right, Memᴰ·cast}
-use mathlib.Core.Logic.{_⊎_, inl, inr, ⊎-elim}
+use mathlib.Core.Logic.{⊎-elim}
 use mathlib.Core.Path.{_≡_, refl, sym, ap, _∙_, subst}
 use native.Mathlib.Omega.{arith}
 use lib.ListN.{length}
@@ -19,11 +19,11 @@ use Rattle.claims.proofs.Between.{inside, mem-between, between-mem, between-ris
 use Rattle.claims.proofs.Span.{first, last, between-first-last}
 use Rattle.claims.proofs.QuestionLaws.{Passes}
 use Rattle.claims.proofs.ClaimLaws.{spanClaim, rangeClaim, spanClaim-range, wholeClaim-span}
-use Rattle.claims.proofs.ReplyLaws.{hear-rising, hear-lo, hear-hi, Answered, matched, asked, helped-one, helped-two, Part, reply-answered, match-same}
-use Rattle.rounds.specs.Round.{union, End, leftEnd, rightEnd, other, Pair, pair, keysAt, Entry, waits, receiver, keysBefore, delivered, answers, Line, line, Run, anyFalse, run, half, roundOf}
-use Rattle.rounds.proofs.Pair.{other-other, keysAt-receiver, keysAt-sender, Rises, Grown, unionOf, rises-pair, size, delivered-rises, delivered-size, delivered-heard, delivered-same}
-use Rattle.rounds.proofs.Entry.{Sound, sound-ends, sound-cnt, sound-limit, AllSound, entry}
-use Rattle.rounds.proofs.Half.{Fine, fine-step, run-fine, run-grown, halfway-opening, opening, half-opening, half-run, half-fine, half-ends, half-grown, half-union}
+use Rattle.claims.proofs.ReplyLaws.{hear-rising, hear-lo, hear-hi, Answered, matched, asked, helped-one, helped-two, reply-answered, match-same}
+use Rattle.rounds.specs.Round.{union, End, leftEnd, rightEnd, other, Pair, pair, keysAt, Entry, waits, receiver, keysBefore, delivered, answers, Line, Run, anyFalse, run, half, roundOf}
+use Rattle.rounds.proofs.Pair.{other-other, keysAt-receiver, Rises, Grown, unionOf, rises-pair, size, delivered-size, delivered-heard, delivered-same}
+use Rattle.rounds.proofs.Entry.{Sound, sound-ends, sound-cnt, sound-limit, entry}
+use Rattle.rounds.proofs.Half.{Fine, fine-step, run-fine, run-grown, halfway-opening, opening, half-run, half-fine, half-ends, half-grown, half-union}
 
 -- ---- growth, by sizes
 

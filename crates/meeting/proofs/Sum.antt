@@ -17,7 +17,7 @@ use Rattle.claims.proofs.QuestionLaws.{Passes}
 use Rattle.claims.proofs.ReplyLaws.{adding-mem, Answered, matched, asked, helped-one, helped-two, reply-answered}
 use Rattle.rounds.specs.Round.{End, Pair, keysAt, Entry, waits, receiver, keysBefore, delivered, answers, Run, run, runAll}
 use Rattle.rounds.proofs.Pair.{Rises, unionOf, holding-each}
-use Rattle.rounds.proofs.Entry.{Sound, sound-limit, entry, weight, weights, weights-append, weight-least}
+use Rattle.rounds.proofs.Entry.{sound-limit, entry, weight, weights, weights-append, weight-least}
 use Rattle.rounds.proofs.Half.{Fine, fine-step, weights-step, run-more, Halfway, opening, halfway-opening}
 use Rattle.meeting.proofs.Local.{between-insertAll-outside, AgreeOn, answers-range, run-local}
 

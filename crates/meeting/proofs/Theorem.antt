@@ -2,8 +2,7 @@
 -- specs/Premise. `every-list-meets` is the statement that is asked for, with at most 1,024 different keys entered in all; that premise turned out not to be
 -- needed for it, so it is derived from the stronger `every-list`. What needs it is in Beyond. Assumes nothing.
 use Prim.Native.Nat.{ℕ, _≤_}
-use mathlib.Core.List.{List, [], List·Memᴰ}
-use mathlib.Core.Path.{_≡_}
+use mathlib.Core.List.{List, []}
 use Rattle.claims.specs.Store.{limit}
 use Rattle.claims.proofs.Rising.{true-rising}
 use Rattle.claims.proofs.Order.{inOrder-rising}

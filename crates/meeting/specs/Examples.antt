@@ -3,7 +3,6 @@
 use Prim.Native.Nat.{ℕ}
 use mathlib.Core.List.{List, [], _∷_}
 use lib.ListN.{replicate}
-use Rattle.claims.specs.declared.claim.Claim.{Claim}
 use Rattle.claims.specs.Cases.{claim}
 use Rattle.rounds.specs.declared.delivery.Delivery.{Delivery}
 use Rattle.rounds.specs.Cases.{stale}

@@ -3,7 +3,6 @@ use Prim.Native.Nat.{ℕ, _<_}
 use mathlib.Core.List.{List, [], _∷_, List·Memᴰ}
 use mathlib.Core.Logic.{_⊎_}
 use mathlib.Core.Path.{_≡_}
-use Rattle.claims.specs.declared.claim.Claim.{Claim}
 use Rattle.meeting.specs.Event.{Event, enters, makes, delivers, beats, meets}
 use Rattle.meeting.specs.World.{World, outcome, after}
 

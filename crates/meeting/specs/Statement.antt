@@ -6,7 +6,7 @@ use mathlib.Core.List.{List, [], _∷_, _++_, List·Memᴰ}
 use mathlib.Core.Logic.{_↔_}
 use mathlib.Core.Path.{_≡_}
 use lib.ListN.{length}
-use Rattle.claims.specs.Store.{keysOf, storeOf, rising, holds, allZero, insertAll}
+use Rattle.claims.specs.Store.{storeOf, rising, holds, allZero, insertAll}
 use Rattle.rounds.specs.declared.delivery.Delivery.{Delivery}
 use Rattle.rounds.specs.Node.{nodeInOrder, nodeKeys}
 use Rattle.rounds.specs.Round.{union, anyFalse}

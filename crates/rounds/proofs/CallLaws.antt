@@ -4,26 +4,25 @@
 use Prim.Native.Nat.{ℕ, _+_, _*_, _/_, _≤_, _<_}
 use mathlib.Core.Bool.{true}
 use mathlib.Core.List.{List, [], _∷_, _++_, List·Memᴰ, Memᴰ·append-left}
-use mathlib.Core.Logic.{_⊎_, ⊎-elim}
-use mathlib.Core.Path.{_≡_, refl, sym, ap, _∙_, subst}
+use mathlib.Core.Logic.{⊎-elim}
+use mathlib.Core.Path.{_≡_, sym, _∙_, subst}
 use native.Mathlib.Omega.{arith}
 use borrow.Author.Tests.{ltb-true, leb-true}
 use lib.ListN.{length, take, drop, length-take, take-append-drop}
 use Rattle.claims.specs.declared.claim.Claim.{Claim}
 use Rattle.claims.specs.declared.store.Store.{Store}
 use Rattle.claims.specs.Store.{limit, keysOf, storeOf, inOrder, insertAll}
-use Rattle.claims.specs.Question.{Question, firstNo, settle, question1, question6, claimQuestions}
-use Rattle.claims.specs.Reply.{ends, adding, hear}
+use Rattle.claims.specs.Question.{firstNo, question1, question6, claimQuestions}
+use Rattle.claims.specs.Reply.{ends, hear}
 use Rattle.claims.specs.Call.{judged}
 use Rattle.claims.proofs.Tests.{eq-or-ne}
-use Rattle.claims.proofs.Rising.{Rising, Sub, sub-trans}
 use Rattle.claims.proofs.Order.{inOrder-count, inOrder-rising}
-use Rattle.claims.proofs.QuestionLaws.{firstNo-zero, firstNo-append-zero, firstNo-append-no, settle-done, settle-refused, Passes, passes, claimQuestions-numbered, judged-firstNo}
+use Rattle.claims.proofs.QuestionLaws.{firstNo-zero, firstNo-append-zero, firstNo-append-no, settle-done, settle-refused, passes, claimQuestions-numbered, judged-firstNo}
 use Rattle.claims.proofs.ReplyLaws.{hear-rising, hear-old, hear-new}
 use Rattle.rounds.specs.declared.node.Node.{Node}
 use Rattle.rounds.specs.declared.delivery.Delivery.{Delivery}
-use Rattle.rounds.specs.Table.{tableLimit, tableWith, insertClaim, climbs, serve, sending, beatLimit}
-use Rattle.rounds.specs.Node.{nodeKeys, pendingOf, nodeOf, nodeInOrder}
+use Rattle.rounds.specs.Table.{tableLimit, tableWith, insertClaim, serve, sending, beatLimit}
+use Rattle.rounds.specs.Node.{nodeKeys, pendingOf, nodeOf}
 use Rattle.rounds.specs.Round.{union, transcript}
 use Rattle.rounds.specs.Question.{nodeQuestion1, question8, question9, question15}
 use Rattle.rounds.specs.Call.{writtenOver, takeQuestions, taken, claimWords, beatQuestions, beaten, beatenLent, roundQuestions, roundBy, met, metLent, deliveryWords, metWords}

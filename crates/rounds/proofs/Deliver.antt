@@ -2,7 +2,7 @@
 -- the answers do; they weigh at least 1 less than what was delivered. `u` is the union of both stores. Assumes nothing.
 use Prim.Native.Nat.{ℕ, _+_, _-_, _≤_, _<_}
 use mathlib.Core.List.{List, [], _∷_, List·Memᴰ, List·Memᴰ·head, List·Memᴰ·tail, List·Memᴰ·not-nil, Memᴰ·cast}
-use mathlib.Core.Logic.{_⊎_, inl, inr, ⊎-elim}
+use mathlib.Core.Logic.{⊎-elim}
 use mathlib.Core.Path.{_≡_, refl, sym, ap, _∙_, subst}
 use native.Mathlib.Omega.{arith}
 use lib.ListN.{length}
@@ -10,15 +10,15 @@ use Rattle.claims.specs.declared.claim.Claim.{Claim}
 use Rattle.claims.specs.declared.answer.Answer.{Answer}
 use Rattle.claims.specs.Store.{limit}
 use Rattle.claims.specs.Claim.{between}
-use Rattle.claims.specs.Reply.{ends, adding, hear, reply, claimsOf}
+use Rattle.claims.specs.Reply.{adding, hear, reply, claimsOf}
 use Rattle.claims.proofs.Rising.{Rising, Sub, sub-refl, sub-trans, rising-length}
-use Rattle.claims.proofs.Between.{inside, between-rising, sub-between, length-between-within, length-between-two, length-sub-between}
+use Rattle.claims.proofs.Between.{inside, between-rising, length-between-within, length-between-two, length-sub-between}
 use Rattle.claims.proofs.Span.{first, last}
 use Rattle.claims.proofs.QuestionLaws.{Passes}
 use Rattle.claims.proofs.ClaimLaws.{spanClaim, rangeClaim, spanClaim-range}
-use Rattle.claims.proofs.ReplyLaws.{adding-mem, hear-rising, hear-old, hear-lo, hear-hi, Answered, matched, asked, helped-one, helped-two, Part, reply-answered, Spanned, reply-spanned}
+use Rattle.claims.proofs.ReplyLaws.{adding-mem, hear-rising, hear-old, hear-lo, hear-hi, Answered, matched, asked, helped-one, helped-two, reply-answered, Spanned, reply-spanned}
 use Rattle.rounds.specs.Round.{End, other, Pair, keysAt, Entry, waits, receiver, keysBefore, delivered, answers}
-use Rattle.rounds.proofs.Pair.{Rises, Within, Grown, other-other, keysAt-receiver, keysAt-sender, delivered-rises}
+use Rattle.rounds.proofs.Pair.{Rises, Within, other-other, keysAt-receiver, keysAt-sender}
 use Rattle.rounds.proofs.Entry.{Sound, sound-ends, sound-cnt, sound-sub-between, sound-limit, AllSound, entry, sound-entry, weight, weights, weight-le, weight-ge, weight-full, weight-less, weight-least}
 
 -- ---- what is added

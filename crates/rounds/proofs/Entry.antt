@@ -1,21 +1,21 @@
 -- What waits in a round: `Entry`, `waits` and `answers` of Round. In order: a sound entry, whose claim is the claim of what its sender held, and what
 -- that gives; it stays sound while stores grow; claims made of keys wait soundly; its weight, by which deliveries are counted: it never rises while
 -- stores grow, and is at least 1. `u` is the union of both stores. Not here: what a delivery does to the weights (Deliver). Assumes nothing.
-use Prim.Native.Nat.{ℕ, zero, suc, _+_, _-_, _≤_, _<_, min}
-use mathlib.Core.List.{List, [], _∷_, _++_, List·Memᴰ, List·Memᴰ·head, List·Memᴰ·tail, List·Memᴰ·not-nil, List·Memᴰ·cases-cons, List·Memᴰ·append-cases, Memᴰ·cast}
-use mathlib.Core.Logic.{_⊎_, inl, inr, ⊎-elim}
+use Prim.Native.Nat.{ℕ, suc, _+_, _-_, _≤_, _<_, min}
+use mathlib.Core.List.{List, [], _∷_, _++_, List·Memᴰ, List·Memᴰ·head, List·Memᴰ·tail, List·Memᴰ·not-nil, List·Memᴰ·append-cases, Memᴰ·cast}
+use mathlib.Core.Logic.{⊎-elim}
 use mathlib.Core.Path.{_≡_, refl, sym, ap, _∙_, subst}
 use native.Mathlib.Omega.{arith}
-use lib.ListN.{length, length-append}
+use lib.ListN.{length}
 use Rattle.claims.specs.declared.claim.Claim.{Claim}
 use Rattle.claims.specs.Store.{limit}
-use Rattle.claims.specs.Claim.{between, wholeClaim}
+use Rattle.claims.specs.Claim.{between}
 use Rattle.claims.specs.Reply.{ends}
 use Rattle.claims.proofs.Rising.{Rising, Sub, sub-trans, rising-length}
-use Rattle.claims.proofs.Between.{mem-between, between-mem, between-rising, between-sub, length-sub-between, length-between}
-use Rattle.claims.proofs.Span.{first, last, first-le, le-last, mem-first, mem-last, between-first-last}
+use Rattle.claims.proofs.Between.{mem-between, between-rising, between-sub, length-sub-between}
+use Rattle.claims.proofs.Span.{first, last, first-le, le-last, mem-first, mem-last}
 use Rattle.claims.proofs.QuestionLaws.{Passes}
-use Rattle.claims.proofs.ClaimLaws.{spanClaim, spanClaim-passes, wholeClaim-span}
+use Rattle.claims.proofs.ClaimLaws.{spanClaim, spanClaim-passes}
 use Rattle.rounds.specs.Round.{End, Pair, keysAt, Entry, waits, receiver, keysBefore}
 use Rattle.rounds.proofs.Pair.{Rises, Within, Grown}
 

@@ -1,10 +1,9 @@
 -- A half of a round ends, and makes at most as many deliveries as the union has keys: `run`, `runAll`, `half` and `roundOf` of Round. In order: a
 -- fine state of a half, and that a delivery leads to the next; running: it ends, its deliveries and what waits fit the weight, more steps change
 -- nothing; `runAll` without its bound; a half; a round. Each delivery takes at least 1 off the weights of what waits. Assumes nothing.
-use Prim.Native.Nat.{ℕ, zero, suc, _+_, _*_, _≤_, _<_}
+use Prim.Native.Nat.{ℕ, zero, suc, _+_, _*_, _≤_}
 use mathlib.Core.List.{List, [], _∷_, _++_, List·Memᴰ, List·Memᴰ·head, List·Memᴰ·tail, List·Memᴰ·not-nil}
 use mathlib.Core.Path.{_≡_, refl, sym, ap, _∙_, subst}
-use native.Mathlib.Nat.{le-of-suc-le-suc, not-suc-le-zero}
 use native.Mathlib.Omega.{arith}
 use lib.ListN.{length, length-append}
 use Rattle.claims.specs.Store.{limit}
@@ -13,9 +12,9 @@ use Rattle.claims.proofs.Rising.{Rising, Sub, sub-refl}
 use Rattle.claims.proofs.Between.{length-between}
 use Rattle.claims.proofs.Span.{first, last, between-first-last}
 use Rattle.claims.proofs.ClaimLaws.{spanClaim, wholeClaim-span}
-use Rattle.rounds.specs.Round.{union, End, leftEnd, rightEnd, Pair, pair, keysAt, Entry, waits, delivered, answers, line, Run, noting, run, runAll, half, followed, roundOf}
+use Rattle.rounds.specs.Round.{union, End, leftEnd, rightEnd, Pair, pair, keysAt, Entry, waits, delivered, answers, line, noting, run, runAll, half, roundOf}
 use Rattle.rounds.proofs.Pair.{Rises, Within, Grown, grown-refl, grown-trans, unionOf, unionOf-rising, unionOf-grown, within-unionOf, rises-pair, delivered-rises, delivered-within, delivered-grown}
-use Rattle.rounds.proofs.Entry.{Sound, AllSound, allSound-grown, allSound-append, entry, sound-entry, weight, weights, weights-append, weights-grown, weight-le, weight-least, length-weights}
+use Rattle.rounds.proofs.Entry.{Sound, AllSound, allSound-grown, allSound-append, entry, sound-entry, weight, weights, weights-append, weights-grown, weight-le, length-weights}
 use Rattle.rounds.proofs.Deliver.{answers-sound, answers-weight, adding-within}
 
 -- ---- a fine state of a half

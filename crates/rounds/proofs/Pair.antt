@@ -1,14 +1,13 @@
 -- Both stores of a round: `keysAt`, `holding` and `delivered` of Round. In order: one end's keys replaced; a delivery adds the ends of its claim at
 -- the receiver and nothing else; pairs that rise, lie within keys, grow; how many keys both have. Assumes nothing.
 use Prim.Native.Nat.{ℕ, _+_, _≤_}
-use mathlib.Core.List.{List, List·Memᴰ}
-use mathlib.Core.Path.{_≡_, refl, sym, ap, _∙_}
+use mathlib.Core.List.{List}
+use mathlib.Core.Path.{_≡_, refl, ap, _∙_}
 use native.Mathlib.Omega.{arith}
 use lib.ListN.{length}
-use Rattle.claims.specs.declared.claim.Claim.{Claim}
 use Rattle.claims.specs.Reply.{adding, hear}
 use Rattle.claims.proofs.Rising.{Rising, Sub, sub-refl, sub-trans}
-use Rattle.claims.proofs.Insert.{insertAll-rising, mem-insertAll-old, insertAll-sub, length-insertAll-ge, insertAll-same, insertAll-held}
+use Rattle.claims.proofs.Insert.{insertAll-rising, mem-insertAll-old, insertAll-sub, length-insertAll-ge, insertAll-same}
 use Rattle.rounds.specs.Round.{union, End, leftEnd, rightEnd, other, Pair, pair, keysAt, holding, Entry, receiver, keysBefore, delivered}
 use Rattle.rounds.proofs.Union.{union-rising, union-left, union-right, union-grown}
 

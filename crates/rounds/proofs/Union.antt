@@ -1,11 +1,10 @@
 -- The union of two stores: `union` of Round. In order: its members; it rises; which rising list it is; of equal stores, and of stores the other way
 -- round; of two stores that grew within it; question 8 counts it. Assumes nothing.
-use Prim.Native.Nat.{ℕ, _+_, _≤_, _<_}
+use Prim.Native.Nat.{ℕ, _≤_}
 use mathlib.Core.Bool.{true}
-use mathlib.Core.List.{List, [], _∷_, List·Memᴰ}
-use mathlib.Core.Logic.{_⊎_, ⊎-elim}
-use mathlib.Core.Path.{_≡_, refl, sym, ap, _∙_}
-use native.Mathlib.Omega.{arith}
+use mathlib.Core.List.{List, List·Memᴰ}
+use mathlib.Core.Logic.{_⊎_}
+use mathlib.Core.Path.{_≡_}
 use borrow.Author.Tests.{le-leb}
 use lib.ListN.{length}
 use Rattle.claims.specs.Store.{limit}
