@@ -50,10 +50,6 @@ pairwise-left : (a b : List Entry) → Pairwise (a ++ b) → Pairwise a
 pairwise-left [] b p = tt
 pairwise-left (e ∷ a) b p = (λ x m. p .0 x (Memᴰ·append-left b m), pairwise-left a b (p .1))
 
-pairwise-right : (a b : List Entry) → Pairwise (a ++ b) → Pairwise b
-pairwise-right [] b p = p
-pairwise-right (e ∷ a) b p = pairwise-right a b (p .1)
-
 -- ---- they stay so
 
 answers-pairwise : (p : Pair) (e : Entry) → Rises p → Passes (e .claim) → Pairwise (answers e p)

@@ -1,7 +1,7 @@
 -- What waits in a round: `Entry`, `waits` and `answers` of Round. In order: a sound entry, whose claim is the claim of what its sender held, and what
 -- that gives; it stays sound while stores grow; claims made of keys wait soundly; its weight, by which deliveries are counted: it never rises while
 -- stores grow, and is at least 1. `u` is the union of both stores. Not here: what a delivery does to the weights (Deliver). Assumes nothing.
-use Prim.Native.Nat.{ℕ, suc, _+_, _-_, _≤_, _<_, min}
+use Prim.Native.Nat.{ℕ, _+_, _-_, _≤_, _<_, min}
 use mathlib.Core.List.{List, [], _∷_, _++_, List·Memᴰ, List·Memᴰ·head, List·Memᴰ·tail, List·Memᴰ·not-nil, List·Memᴰ·append-cases, Memᴰ·cast}
 use mathlib.Core.Logic.{⊎-elim}
 use mathlib.Core.Path.{_≡_, refl, sym, ap, _∙_, subst}
@@ -16,7 +16,7 @@ use Rattle.claims.proofs.Between.{mem-between, between-rising, between-sub, len
 use Rattle.claims.proofs.Span.{first, last, first-le, le-last, mem-first, mem-last}
 use Rattle.claims.proofs.QuestionLaws.{Passes}
 use Rattle.claims.proofs.ClaimLaws.{spanClaim, spanClaim-passes}
-use Rattle.rounds.specs.Round.{End, Pair, keysAt, Entry, waits, receiver, keysBefore}
+use Rattle.rounds.specs.Round.{End, Pair, keysAt, Entry, receiver, keysBefore}
 use Rattle.rounds.proofs.Pair.{Rises, Within, Grown}
 
 -- ---- a sound entry
@@ -101,14 +101,6 @@ sound-entry p s l y r h n e = record {
   some = subst (λ (k : List ℕ). 0 < length k) (sym e) n;
   there = sub-trans (between (first y) (last y) l) l (keysAt s p) (between-sub (first y) (last y) l) h;
 }
-
-pub waits-append : (s : End) (l : List ℕ) (c d : List Claim) → waits s l (c ++ d) ≡ waits s l c ++ waits s l d
-waits-append s l [] d = refl
-waits-append s l (x ∷ xs) d = ap (λ (q : List Entry). entry s l x ∷ q) (waits-append s l xs d)
-
-pub length-waits : (s : End) (l : List ℕ) (c : List Claim) → length (waits s l c) ≡ length c
-length-waits s l [] = refl
-length-waits s l (x ∷ xs) = ap suc (length-waits s l xs)
 
 -- ---- the weight of an entry
 

@@ -12,7 +12,7 @@ use Rattle.claims.proofs.Rising.{Rising, Sub, sub-refl}
 use Rattle.claims.proofs.Between.{length-between}
 use Rattle.claims.proofs.Span.{first, last, between-first-last}
 use Rattle.claims.proofs.ClaimLaws.{spanClaim, wholeClaim-span}
-use Rattle.rounds.specs.Round.{union, End, leftEnd, rightEnd, Pair, pair, keysAt, Entry, waits, delivered, answers, line, noting, run, runAll, half, roundOf}
+use Rattle.rounds.specs.Round.{union, End, leftEnd, rightEnd, Pair, pair, keysAt, Entry, waits, delivered, answers, line, Run, noting, run, runAll, half, followed, roundOf}
 use Rattle.rounds.proofs.Pair.{Rises, Within, Grown, grown-refl, grown-trans, unionOf, unionOf-rising, unionOf-grown, within-unionOf, rises-pair, delivered-rises, delivered-within, delivered-grown}
 use Rattle.rounds.proofs.Entry.{Sound, AllSound, allSound-grown, allSound-append, entry, sound-entry, weight, weights, weights-append, weights-grown, weight-le, length-weights}
 use Rattle.rounds.proofs.Deliver.{answers-sound, answers-weight, adding-within}
@@ -226,17 +226,23 @@ half-union s p r h = unionOf-grown p (half s p .stores) r (half-fine s p r h .ri
 
 -- ---- a round
 
+pub roundOf-halves : (l r : List ℕ) → roundOf l r ≡ followed (half leftEnd (pair l r)) (half rightEnd (half leftEnd (pair l r) .stores))
+unfolding roundOf
+roundOf-halves l r = refl
+
 -- both halves of a round of rising stores whose union has at most 1,024 keys
-pub record Rounded (l r : List ℕ) : Type 0 where
-  pub rises : Rises (roundOf l r .stores)
-  pub within : Within (roundOf l r .stores) (union l r)
-  pub grown : Grown (pair l r) (roundOf l r .stores)
-  pub same-union : unionOf (roundOf l r .stores) ≡ union l r
-  pub ends : roundOf l r .waiting ≡ []
-  pub bound : length (roundOf l r .lines) ≤ 2 * length (union l r)
+pub record RoundedBy (l r : List ℕ) (x : Run) : Type 0 where
+  pub rises : Rises (x .stores)
+  pub within : Within (x .stores) (union l r)
+  pub grown : Grown (pair l r) (x .stores)
+  pub same-union : unionOf (x .stores) ≡ union l r
+  pub ends : x .waiting ≡ []
+  pub bound : length (x .lines) ≤ 2 * length (union l r)
+
+abbrev pub Rounded : List ℕ → List ℕ → Type 0
+Rounded l r = RoundedBy l r (roundOf l r)
 
 pub rounded : (l r : List ℕ) → Rising l → Rising r → length (union l r) ≤ limit → Rounded l r
-unfolding roundOf
 rounded l r rl rr h =
     let p : Pair = pair l r in
     let rp : Rises p = rises-pair l r rl rr in
@@ -247,11 +253,11 @@ rounded l r rl rr h =
     let f : Fine (unionOf p′) (half rightEnd p′ .stores) (half rightEnd p′ .waiting) = half-fine rightEnd p′ rp′ h′ in
     let a : length (half leftEnd p .lines) ≤ length (unionOf p) = length-half leftEnd p rp h in
     let b : length (half rightEnd p′ .lines) ≤ length (unionOf p) = subst (λ (v : List ℕ). length (half rightEnd p′ .lines) ≤ length v) u (length-half rightEnd p′ rp′ h′) in
-    record {
+    subst (RoundedBy l r) (sym (roundOf-halves l r)) (record {
       rises = f .rises;
       within = subst (λ (v : List ℕ). Within (half rightEnd p′ .stores) v) u (f .within);
       grown = grown-trans p p′ (half rightEnd p′ .stores) (half-grown leftEnd p) (half-grown rightEnd p′);
       same-union = half-union rightEnd p′ rp′ h′ ∙ u;
       ends = rw (half-ends leftEnd p rp h, half-ends rightEnd p′ rp′ h′);
       bound = rw (length-append (half leftEnd p .lines) (half rightEnd p′ .lines)) (omega arith);
-    }
+    })

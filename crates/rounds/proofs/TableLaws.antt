@@ -3,12 +3,12 @@
 -- Not here: the node around the table (NodeLaws). Assumes nothing.
 use Prim.Native.Nat.{ℕ, zero, suc, _*_, _≤_, _<_}
 use mathlib.Core.Bool.{Bool, true, false, cond, _&&_, false≢true}
-use mathlib.Core.List.{List, [], _∷_, List·Memᴰ, List·Memᴰ·head, List·Memᴰ·tail, List·Memᴰ·not-nil, List·Memᴰ·append-cases}
+use mathlib.Core.List.{List, [], _∷_, _++_, List·Memᴰ, List·Memᴰ·head, List·Memᴰ·tail, List·Memᴰ·not-nil, List·Memᴰ·append-cases}
 use mathlib.Core.Logic.{_⊎_, inl, inr, ⊎-elim}
 use mathlib.Core.Path.{_≡_, refl, sym, _∙_}
 use native.Mathlib.Omega.{arith}
 use borrow.Author.Tests.{lt-ltb, le-ltb, eq-eqb, ne-eqb}
-use lib.ListN.{length, take, length-append, length-take}
+use lib.ListN.{length, take, drop, length-append, length-take, take-append-drop}
 use Rattle.claims.specs.declared.claim.Claim.{Claim}
 use Rattle.claims.specs.declared.answer.Answer.{Answer}
 use Rattle.claims.specs.declared.answer.Answer.the-variants.{Refused, Match, Ask, One, Two}
@@ -121,6 +121,10 @@ climbs-take zero t h = refl
 climbs-take (suc n) [] h = refl
 climbs-take (suc n) (c ∷ cs) h = climbsFrom-take n c cs h
 
+-- what is dropped is the last in order
+pub tableWith-drops : (c : Claim) (t : List Claim) → tableWith c t ++ drop tableLimit (insertClaim c t) ≡ insertClaim c t
+tableWith-drops c t = take-append-drop tableLimit (insertClaim c t)
+
 pub climbs-tableWith : (c : Claim) (t : List Claim) → climbs t ≡ true → climbs (tableWith c t) ≡ true
 climbs-tableWith c t h = climbs-take tableLimit (insertClaim c t) (climbs-insertClaim c t h)
 
@@ -219,4 +223,4 @@ length-wholeClaim (k ∷ ks) = omega arith
 
 -- so what a beat writes fits the places that question 15 asks for
 pub length-sending : (l : List ℕ) (t : List Claim) → length t ≤ tableLimit → length (sending l t) ≤ beatLimit
-length-sending l t h = rw (length-append (wholeClaim l) (serve l t .sent)) (omega (arith, length-wholeClaim l, length-sent l t))
+length-sending l t h = omega (arith, length-append (wholeClaim l) (serve l t .sent), length-wholeClaim l, length-sent l t)
