@@ -60,6 +60,10 @@ withNode-same k kiosks = fun-ext (λ j. go j (eqb j k) refl)
 pub withStore-same : (k : ℕ) (kiosks : ℕ → Node) → withStore k (kiosks k .store) kiosks ≡ kiosks
 withStore-same k kiosks = withNode-same k kiosks
 
+-- a call refused with the number n: the kiosks as they were, and no claim
+abbrev pub refusal : ℕ → (ℕ → Node) → Outcome
+refusal n kiosks = record { number = n; kiosks = kiosks; claims = [] }
+
 -- ---- what is read off the lent places
 
 pub readClaims-words : (cs : List Claim) (rest : List ℕ) → readClaims (length cs) (claimWords cs ++ rest) ≡ cs
@@ -95,12 +99,12 @@ enters-done k x kiosks h =
     (settle-done (firstNo (enterQuestions (kiosks k .store) x)) (record { number = 0; store = storeOf (insert x (keysOf (kiosks k .store))) }) (λ n. record { number = n; store = kiosks k .store }) h)
 
 pub enters-refused : (k x : ℕ) (kiosks : ℕ → Node) → (firstNo (enterQuestions (kiosks k .store) x) ≡ 0 → ⊥) →
-    outcome (enters k x) kiosks ≡ record { number = firstNo (enterQuestions (kiosks k .store) x); kiosks = kiosks; claims = [] }
+    outcome (enters k x) kiosks ≡ refusal (firstNo (enterQuestions (kiosks k .store) x)) kiosks
 unfolding outcome entered entering
 enters-refused k x kiosks f =
     ap (entering k kiosks)
     (settle-refused (firstNo (enterQuestions (kiosks k .store) x)) (record { number = 0; store = storeOf (insert x (keysOf (kiosks k .store))) }) (λ n. record { number = n; store = kiosks k .store }) f)
-    ∙ ap (λ (g : ℕ → Node). record { number = firstNo (enterQuestions (kiosks k .store) x); kiosks = g; claims = [] }) (withStore-same k kiosks)
+    ∙ ap (refusal (firstNo (enterQuestions (kiosks k .store) x))) (withStore-same k kiosks)
 
 -- ---- making
 
@@ -129,7 +133,7 @@ makes-done k i j kiosks h =
     ap (making kiosks) (settle-done (firstNo (makeQuestions (kiosks k .store) i j)) (record { number = 0; claim = claimOf i j (keysOf (kiosks k .store)) }) (λ n. record { number = n; claim = noClaim }) h)
 
 pub makes-refused : (k i j : ℕ) (kiosks : ℕ → Node) → (firstNo (makeQuestions (kiosks k .store) i j) ≡ 0 → ⊥) →
-    outcome (makes k i j) kiosks ≡ record { number = firstNo (makeQuestions (kiosks k .store) i j); kiosks = kiosks; claims = [] }
+    outcome (makes k i j) kiosks ≡ refusal (firstNo (makeQuestions (kiosks k .store) i j)) kiosks
 unfolding outcome made making
 makes-refused k i j kiosks f =
     ap (making kiosks) (settle-refused (firstNo (makeQuestions (kiosks k .store) i j)) (record { number = 0; claim = claimOf i j (keysOf (kiosks k .store)) }) (λ n. record { number = n; claim = noClaim }) f)
@@ -170,12 +174,12 @@ replies-done k c kiosks h =
     ∙ ap (λ (n : ℕ). record { number = n; kiosks = withStore k (storeOf (hear c l)) kiosks; claims = claimsOf (reply c l) }) (numberOf-answer c (hear c l))
 
 pub replies-refused : (k : ℕ) (c : Claim) (kiosks : ℕ → Node) → (firstNo (replyQuestions (kiosks k .store) c) ≡ 0 → ⊥) →
-    outcome (delivers k To.reply c) kiosks ≡ record { number = firstNo (replyQuestions (kiosks k .store) c); kiosks = kiosks; claims = [] }
+    outcome (delivers k To.reply c) kiosks ≡ refusal (firstNo (replyQuestions (kiosks k .store) c)) kiosks
 unfolding outcome replied replying
 replies-refused k c kiosks f =
     let l : List ℕ = keysOf (kiosks k .store) in
     ap (replying k kiosks) (settle-refused (firstNo (replyQuestions (kiosks k .store) c)) (record { store = storeOf (hear c l); answer = reply c l }) (λ n. record { store = kiosks k .store; answer = Refused n }) f)
-    ∙ ap (λ (g : ℕ → Node). record { number = firstNo (replyQuestions (kiosks k .store) c); kiosks = g; claims = [] }) (withStore-same k kiosks)
+    ∙ ap (refusal (firstNo (replyQuestions (kiosks k .store) c))) (withStore-same k kiosks)
 
 -- ---- a claim delivered to the table
 
@@ -188,11 +192,11 @@ unfolding outcome taking
 takes-done k c kiosks h = ap (taking k kiosks) (taken-done (kiosks k) c h)
 
 pub takes-refused : (k : ℕ) (c : Claim) (kiosks : ℕ → Node) → (firstNo (takeQuestions (kiosks k) c) ≡ 0 → ⊥) →
-    outcome (delivers k To.table c) kiosks ≡ record { number = firstNo (takeQuestions (kiosks k) c); kiosks = kiosks; claims = [] }
+    outcome (delivers k To.table c) kiosks ≡ refusal (firstNo (takeQuestions (kiosks k) c)) kiosks
 unfolding outcome taking
 takes-refused k c kiosks f =
     ap (taking k kiosks) (taken-refused (kiosks k) c f)
-    ∙ ap (λ (g : ℕ → Node). record { number = firstNo (takeQuestions (kiosks k) c); kiosks = g; claims = [] }) (withNode-same k kiosks)
+    ∙ ap (refusal (firstNo (takeQuestions (kiosks k) c))) (withNode-same k kiosks)
 
 -- ---- a beat
 
@@ -205,11 +209,11 @@ beats-done k lent kiosks h =
     rw (beaten-done (kiosks k) lent h, beatenLent-done (kiosks k) lent h, readClaims-words cs (drop (length (claimWords cs)) lent))
 
 pub beats-refused : (k : ℕ) (lent : List ℕ) (kiosks : ℕ → Node) → (firstNo (beatQuestions (kiosks k) lent) ≡ 0 → ⊥) →
-    outcome (beats k lent) kiosks ≡ record { number = firstNo (beatQuestions (kiosks k) lent); kiosks = kiosks; claims = [] }
+    outcome (beats k lent) kiosks ≡ refusal (firstNo (beatQuestions (kiosks k) lent)) kiosks
 unfolding outcome
 beats-refused k lent kiosks f =
     rw (beaten-refused (kiosks k) lent f)
-    (ap (λ (g : ℕ → Node). record { number = firstNo (beatQuestions (kiosks k) lent); kiosks = g; claims = [] }) (withNode-same k kiosks))
+    (ap (refusal (firstNo (beatQuestions (kiosks k) lent))) (withNode-same k kiosks))
 
 -- ---- a round
 
@@ -227,19 +231,22 @@ meets-done k m lent kiosks h =
     rw (met-done s t (length lent) h, metLent-done s t lent h, readRecords-lines (roundBy s t .lines) (drop (length (transcript (roundBy s t))) lent))
 
 pub meets-refused : (k m : ℕ) (lent : List Delivery) (kiosks : ℕ → Node) → (firstNo (roundQuestions (kiosks k .store) (kiosks m .store) (length lent)) ≡ 0 → ⊥) →
-    outcome (meets k m lent) kiosks ≡ record { number = firstNo (roundQuestions (kiosks k .store) (kiosks m .store) (length lent)); kiosks = kiosks; claims = [] }
+    outcome (meets k m lent) kiosks ≡ refusal (firstNo (roundQuestions (kiosks k .store) (kiosks m .store) (length lent))) kiosks
 unfolding outcome
 meets-refused k m lent kiosks f =
     let s : Store = kiosks k .store in
     let t : Store = kiosks m .store in
     rw (met-refused s t (length lent) f)
-    (ap (λ (g : ℕ → Node). record { number = firstNo (roundQuestions s t (length lent)); kiosks = withStore m t g; claims = [] }) (withStore-same k kiosks)
-    ∙ ap (λ (g : ℕ → Node). record { number = firstNo (roundQuestions s t (length lent)); kiosks = g; claims = [] }) (withStore-same m kiosks))
+    (ap (λ (g : ℕ → Node). refusal (firstNo (roundQuestions s t (length lent))) (withStore m t g)) (withStore-same k kiosks)
+    ∙ ap (refusal (firstNo (roundQuestions s t (length lent)))) (withStore-same m kiosks))
 
 -- ---- a refused call
 
+numbered : {o p : Outcome} → o ≡ p → o .number ≡ p .number
+numbered e = ap (λ (o : Outcome). o .number) e
+
 -- one call: it is refused just where its questions say so
-refused-by : (o : Outcome) (n : ℕ) (kiosks : ℕ → Node) → (n ≡ 0 → o .number ≡ 0) → ((n ≡ 0 → ⊥) → o ≡ record { number = n; kiosks = kiosks; claims = [] }) →
+refused-by : (o : Outcome) (n : ℕ) (kiosks : ℕ → Node) → (n ≡ 0 → o .number ≡ 0) → ((n ≡ 0 → ⊥) → o ≡ refusal n kiosks) →
     (o .number ≡ 0 → ⊥) → (o .kiosks ≡ kiosks) × (o .claims ≡ [])
 refused-by o n kiosks d f h =
     ⊎-elim
@@ -251,17 +258,23 @@ refused-by o n kiosks d f h =
 -- "A refused call is an event that changes no kiosk and makes no claim."
 pub outcome-refused : (e : Event) (kiosks : ℕ → Node) → (outcome e kiosks .number ≡ 0 → ⊥) → (outcome e kiosks .kiosks ≡ kiosks) × (outcome e kiosks .claims ≡ [])
 outcome-refused (enters k x) kiosks =
-    refused-by (outcome (enters k x) kiosks) (firstNo (enterQuestions (kiosks k .store) x)) kiosks (λ z. ap (λ (o : Outcome). o .number) (enters-done k x kiosks z)) (enters-refused k x kiosks)
+    refused-by (outcome (enters k x) kiosks) (firstNo (enterQuestions (kiosks k .store) x)) kiosks
+    (λ z. numbered (enters-done k x kiosks z)) (enters-refused k x kiosks)
 outcome-refused (makes k i j) kiosks =
-    refused-by (outcome (makes k i j) kiosks) (firstNo (makeQuestions (kiosks k .store) i j)) kiosks (λ z. ap (λ (o : Outcome). o .number) (makes-done k i j kiosks z)) (makes-refused k i j kiosks)
+    refused-by (outcome (makes k i j) kiosks) (firstNo (makeQuestions (kiosks k .store) i j)) kiosks
+    (λ z. numbered (makes-done k i j kiosks z)) (makes-refused k i j kiosks)
 outcome-refused (delivers k To.reply c) kiosks =
-    refused-by (outcome (delivers k To.reply c) kiosks) (firstNo (replyQuestions (kiosks k .store) c)) kiosks (λ z. ap (λ (o : Outcome). o .number) (replies-done k c kiosks z)) (replies-refused k c kiosks)
+    refused-by (outcome (delivers k To.reply c) kiosks) (firstNo (replyQuestions (kiosks k .store) c)) kiosks
+    (λ z. numbered (replies-done k c kiosks z)) (replies-refused k c kiosks)
 outcome-refused (delivers k To.table c) kiosks =
-    refused-by (outcome (delivers k To.table c) kiosks) (firstNo (takeQuestions (kiosks k) c)) kiosks (λ z. ap (λ (o : Outcome). o .number) (takes-done k c kiosks z)) (takes-refused k c kiosks)
+    refused-by (outcome (delivers k To.table c) kiosks) (firstNo (takeQuestions (kiosks k) c)) kiosks
+    (λ z. numbered (takes-done k c kiosks z)) (takes-refused k c kiosks)
 outcome-refused (beats k lent) kiosks =
-    refused-by (outcome (beats k lent) kiosks) (firstNo (beatQuestions (kiosks k) lent)) kiosks (λ z. ap (λ (o : Outcome). o .number) (beats-done k lent kiosks z)) (beats-refused k lent kiosks)
+    refused-by (outcome (beats k lent) kiosks) (firstNo (beatQuestions (kiosks k) lent)) kiosks
+    (λ z. numbered (beats-done k lent kiosks z)) (beats-refused k lent kiosks)
 outcome-refused (meets k m lent) kiosks =
-    refused-by (outcome (meets k m lent) kiosks) (firstNo (roundQuestions (kiosks k .store) (kiosks m .store) (length lent))) kiosks (λ z. ap (λ (o : Outcome). o .number) (meets-done k m lent kiosks z)) (meets-refused k m lent kiosks)
+    refused-by (outcome (meets k m lent) kiosks) (firstNo (roundQuestions (kiosks k .store) (kiosks m .store) (length lent))) kiosks
+    (λ z. numbered (meets-done k m lent kiosks z)) (meets-refused k m lent kiosks)
 
 -- a refused call enters no key
 pub enteredBy-refused : (e : Event) (n : ℕ) → (n ≡ 0 → ⊥) → enteredBy e n ≡ []
