@@ -37,7 +37,8 @@ pub record Backed (u : List ℕ) (c : Claim) : Type 0 where
 -- ---- what it gives
 
 pub backed-sub : (u v : List ℕ) (c : Claim) → Sub u v → Backed u c → Backed v c
-backed-sub u v c s b = record { keys = b .keys; claim = b .claim; rises = b .rises; some = b .some; fits = b .fits; within = sub-trans (b .keys) u v (b .within) s }
+backed-sub u v c s b =
+    record { keys = b .keys; claim = b .claim; rises = b .rises; some = b .some; fits = b .fits; within = sub-trans (b .keys) u v (b .within) s }
 
 pub backed-passes : (u : List ℕ) (c : Claim) → Backed u c → Passes c
 backed-passes u c b = subst Passes (sym (b .claim)) (spanClaim-passes (b .keys) (b .rises) (b .some) (b .fits))
@@ -83,11 +84,13 @@ wholeClaim-backed u (k ∷ ks) r h s c m = record {
   within = s;
 }
 
-pub reply-backed : (u l : List ℕ) (c : Claim) → Rising l → Passes c → length (hear c l) ≤ limit → Sub (hear c l) u → (d : Claim) → List·Memᴰ d (claimsOf (reply c l)) → Backed u d
+pub reply-backed : (u l : List ℕ) (c : Claim) → Rising l → Passes c → length (hear c l) ≤ limit → Sub (hear c l) u → (d : Claim) →
+    List·Memᴰ d (claimsOf (reply c l)) → Backed u d
 reply-backed u l c r p h s d m = spanned-backed u (hear c l) d (hear-rising c l r) h s (reply-spanned c l r p d m)
 
 -- a beat's: of the whole store, or of a reply that adds nothing, since the ends of a pending claim are held
-pub sending-backed : (u l : List ℕ) (t : List Claim) → Rising l → length l ≤ limit → Sub l u → ((c : Claim) → List·Memᴰ c t → Fits c l) → (d : Claim) → List·Memᴰ d (sending l t) → Backed u d
+pub sending-backed : (u l : List ℕ) (t : List Claim) → Rising l → length l ≤ limit → Sub l u → ((c : Claim) → List·Memᴰ c t → Fits c l) →
+    (d : Claim) → List·Memᴰ d (sending l t) → Backed u d
 sending-backed u l t r h s f d m =
     ⊎-elim
     {C = Backed u d}
@@ -96,7 +99,8 @@ sending-backed u l t r h s f d m =
     let (c, i, o) = sent-mem l t d n in
     let g : Fits c l = f c i in
     let e : hear c l ≡ l = hear-held c l r (g .held) in
-    reply-backed u l c r (passes c (sym (judged-firstNo c) ∙ g .passes)) (subst (λ (x : List ℕ). length x ≤ limit) (sym e) h) (subst (λ (x : List ℕ). Sub x u) (sym e) s) d o)
+    reply-backed u l c r (passes c (sym (judged-firstNo c) ∙ g .passes)) (subst (λ (x : List ℕ). length x ≤ limit) (sym e) h)
+    (subst (λ (x : List ℕ). Sub x u) (sym e) s) d o)
     (List·Memᴰ·append-cases (wholeClaim l) m)
 
 -- ---- the claims of a round
@@ -115,11 +119,14 @@ pub run-backed : (n : ℕ) (u : List ℕ) (p : Pair) (q : List Entry) → Fine u
 unfolding run
 run-backed zero u p q f x m = absurd (List·Memᴰ·not-nil m)
 run-backed (suc n) u p [] f x m = absurd (List·Memᴰ·not-nil m)
-run-backed (suc n) u p (e ∷ q) f x (List·Memᴰ·head i) = subst (λ (y : Line). Backed u (y .delivery .claim)) (sym i) (sound-backed u p (e ∷ q) e f (f .sound e (List·Memᴰ·head refl)))
+run-backed (suc n) u p (e ∷ q) f x (List·Memᴰ·head i) =
+    subst (λ (y : Line). Backed u (y .delivery .claim)) (sym i) (sound-backed u p (e ∷ q) e f (f .sound e (List·Memᴰ·head refl)))
 run-backed (suc n) u p (e ∷ q) f x (List·Memᴰ·tail m) = run-backed n u (delivered e p) (q ++ answers e p) (fine-step u p e q f) x m
 
 half-backed : (s : End) (p : Pair) → Rises p → length (unionOf p) ≤ limit → AllBacked (unionOf p) (half s p .lines)
-half-backed s p r h x m = run-backed (length (unionOf p)) (unionOf p) p (opening s p) (halfway-opening s p r h .fine) x (subst (λ (y : List Line). List·Memᴰ x y) (ap (λ (z : Run). z .lines) (half-run s p)) m)
+half-backed s p r h x m =
+    run-backed (length (unionOf p)) (unionOf p) p (opening s p) (halfway-opening s p r h .fine) x
+    (subst (λ (y : List Line). List·Memᴰ x y) (ap (λ (z : Run). z .lines) (half-run s p)) m)
 
 pub round-backed : (l r : List ℕ) → Rising l → Rising r → length (union l r) ≤ limit → AllBacked (union l r) (roundOf l r .lines)
 unfolding roundOf
@@ -132,5 +139,6 @@ round-backed l r rl rr h x m =
     {C = Backed (union l r) (x .delivery .claim)}
     (half-backed leftEnd p rp h x)
     (λ (n : List·Memᴰ x (half rightEnd p′ .lines)).
-    subst (λ (v : List ℕ). Backed v (x .delivery .claim)) u (half-backed rightEnd p′ (half-fine leftEnd p rp h .rises) (subst (λ (v : List ℕ). length v ≤ limit) (sym u) h) x n))
+    subst (λ (v : List ℕ). Backed v (x .delivery .claim)) u
+    (half-backed rightEnd p′ (half-fine leftEnd p rp h .rises) (subst (λ (v : List ℕ). length v ≤ limit) (sym u) h) x n))
     (List·Memᴰ·append-cases (half leftEnd p .lines) m)

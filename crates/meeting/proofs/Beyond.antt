@@ -45,7 +45,8 @@ pub allMeant-before : (n : ℕ) (a b : List Event) (w : World) → AllMeant n (a
 allMeant-before n [] b w m = tt
 allMeant-before n (e ∷ es) b w m = (m .0, allMeant-before n es b (after e w) (m .1))
 
-pub entered-append : (a b : List Event) (w : World) → keysEntered (a ++ b) (numbers (a ++ b) w) ≡ keysEntered a (numbers a w) ++ keysEntered b (numbers b (afterAll a w))
+pub entered-append : (a b : List Event) (w : World) →
+    keysEntered (a ++ b) (numbers (a ++ b) w) ≡ keysEntered a (numbers a w) ++ keysEntered b (numbers b (afterAll a w))
 entered-append [] b w = refl
 entered-append (e ∷ es) b w =
     ap (λ (x : List ℕ). enteredBy e (outcome e (w .kiosks) .number) ++ x) (entered-append es b (after e w))
@@ -73,7 +74,8 @@ few-before a b es e h =
 
 -- ---- no round gets 8
 
-meets-number : (k m : ℕ) (lent : List Delivery) (kiosks : ℕ → Node) → outcome (meets k m lent) kiosks .number ≡ firstNo (roundQuestions (kiosks k .store) (kiosks m .store) (length lent))
+meets-number : (k m : ℕ) (lent : List Delivery) (kiosks : ℕ → Node) →
+    outcome (meets k m lent) kiosks .number ≡ firstNo (roundQuestions (kiosks k .store) (kiosks m .store) (length lent))
 meets-number k m lent kiosks =
     let n : ℕ = firstNo (roundQuestions (kiosks k .store) (kiosks m .store) (length lent)) in
     ⊎-elim
@@ -82,7 +84,8 @@ meets-number k m lent kiosks =
     (λ (f : n ≡ 0 → ⊥). ap (λ (o : Outcome). o .number) (meets-refused k m lent kiosks f))
     (eq-or-ne n 0)
 
-good-never-8 : (n : ℕ) (w : World) (ks : List ℕ) → Good n w ks → different ks ≤ limit → (k m : ℕ) (lent : List Delivery) → outcome (meets k m lent) (w .kiosks) .number ≡ 8 → ⊥
+good-never-8 : (n : ℕ) (w : World) (ks : List ℕ) → Good n w ks → different ks ≤ limit → (k m : ℕ) (lent : List Delivery) →
+    outcome (meets k m lent) (w .kiosks) .number ≡ 8 → ⊥
 good-never-8 n w ks g h k m lent e = go (q9 .yes) refl
   where
     s : Store
@@ -102,7 +105,9 @@ good-never-8 n w ks g h k m lent e = go (q9 .yes) refl
 
     room : length (union (keysOf s) (keysOf t)) ≤ limit
     room =
-        let p : length (union (keysOf s) (keysOf t)) ≤ different ks = length-different (union (keysOf s) (keysOf t)) ks (union-rising (keysOf s) (keysOf t) rt) (union-sub (keysOf s) (keysOf t) ks (g .within k) (g .within m)) in
+        let p : length (union (keysOf s) (keysOf t)) ≤ different ks
+        = length-different (union (keysOf s) (keysOf t)) ks (union-rising (keysOf s) (keysOf t) rt)
+        (union-sub (keysOf s) (keysOf t) ks (g .within k) (g .within m)) in
         omega arith
 
     is : firstNo (q9 ∷ []) ≡ 8
@@ -125,14 +130,17 @@ never-8 n es m h before others e = good-never-8 n (end before) (enteredIn before
 -- ---- no delivery of a claim made before is refused
 
 -- its ends fit, beside any kiosk's keys
-good-room : (n : ℕ) (w : World) (ks : List ℕ) → Good n w ks → different ks ≤ limit → (k : ℕ) (c : Claim) → Backed ks c → question6 (ends c) (keysIn w k) .yes ≡ true
+good-room : (n : ℕ) (w : World) (ks : List ℕ) → Good n w ks → different ks ≤ limit → (k : ℕ) (c : Claim) → Backed ks c →
+    question6 (ends c) (keysIn w k) .yes ≡ true
 good-room n w ks g h k c b =
     let l : List ℕ = insertAll (ends c) (keysIn w k) in
     let p : length l ≤ different ks
-    = length-different l ks (insertAll-rising (ends c) (keysIn w k) (inOrder-rising (w .kiosks k .store) (g .ordered k .store))) (insertAll-sub (ends c) (keysIn w k) ks (backed-adding ks c (keysIn w k) b) (g .within k)) in
+    = length-different l ks (insertAll-rising (ends c) (keysIn w k) (inOrder-rising (w .kiosks k .store) (g .ordered k .store)))
+    (insertAll-sub (ends c) (keysIn w k) ks (backed-adding ks c (keysIn w k) b) (g .within k)) in
     lt-ltb (length l) (limit + 1) (omega arith)
 
-good-accepted : (n : ℕ) (w : World) (ks : List ℕ) → Good n w ks → different ks ≤ limit → (k : ℕ) (to : To) (c : Claim) → List·Memᴰ c (w .made) → outcome (delivers k to c) (w .kiosks) .number ≡ 0
+good-accepted : (n : ℕ) (w : World) (ks : List ℕ) → Good n w ks → different ks ≤ limit → (k : ℕ) (to : To) (c : Claim) → List·Memᴰ c (w .made) →
+    outcome (delivers k to c) (w .kiosks) .number ≡ 0
 good-accepted n w ks g h k To.reply c m =
     let b : Backed ks c = g .backed c m in
     let q = question6 (ends c) (keysIn w k) in
@@ -165,13 +173,16 @@ enters-number k x kiosks =
     (λ (f : n ≡ 0 → ⊥). ap (λ (o : Outcome). o .number) (enters-refused k x kiosks f))
     (eq-or-ne n 0)
 
-good-entering-6 : (n : ℕ) (w : World) (ks : List ℕ) → Good n w ks → different ks ≤ limit → (k x : ℕ) → outcome (enters k x) (w .kiosks) .number ≡ 6 → (different ks ≡ limit) × (List·Memᴰ x ks → ⊥)
+good-entering-6 : (n : ℕ) (w : World) (ks : List ℕ) → Good n w ks → different ks ≤ limit → (k x : ℕ) → outcome (enters k x) (w .kiosks) .number ≡ 6 →
+    (different ks ≡ limit) × (List·Memᴰ x ks → ⊥)
 good-entering-6 n w ks g h k x e =
     let a : limit + 1 ≤ length (insert x l) = full (q .yes) refl in
     let b : length (insert x l) ≤ suc (length l) = length-insert-le x l in
     let c : length l ≤ different ks = length-different l ks r (g .within k) in (
       omega arith,
-      λ (m : List·Memᴰ x ks). let d : length (insert x l) ≤ different ks = length-different (insert x l) ks (insert-rising x l r) (insert-sub x l ks m (g .within k)) in omega arith,
+      λ (m : List·Memᴰ x ks).
+          let d : length (insert x l) ≤ different ks = length-different (insert x l) ks (insert-rising x l r) (insert-sub x l ks m (g .within k)) in
+          omega arith,
     )
   where
     l : List ℕ
@@ -201,7 +212,8 @@ made-judged n es m c i = judged-firstNo c ∙ passes-firstNo c (backed-passes (e
 
 -- ---- both stores stay within their union, refused or not, and lose no key
 
-pub met-within : (s t : Store) (n : ℕ) → Sub (keysOf (met s t n .left)) (union (keysOf s) (keysOf t)) × Sub (keysOf (met s t n .right)) (union (keysOf s) (keysOf t))
+pub met-within : (s t : Store) (n : ℕ) →
+    Sub (keysOf (met s t n .left)) (union (keysOf s) (keysOf t)) × Sub (keysOf (met s t n .right)) (union (keysOf s) (keysOf t))
 met-within s t n =
     ⊎-elim
     {C = Sub (keysOf (met s t n .left)) (union (keysOf s) (keysOf t)) × Sub (keysOf (met s t n .right)) (union (keysOf s) (keysOf t))}

@@ -90,13 +90,15 @@ pub round-equal : (l : List ℕ) → Rising l → length l ≤ limit → (roundO
 unfolding roundOf
 round-equal l r h =
     let a : Still l (half leftEnd (pair l l)) = half-equal leftEnd l r h in
-    let b : Still l (half rightEnd (half leftEnd (pair l l) .stores)) = subst (λ (p : Pair). Still l (half rightEnd p)) (sym (a .stores)) (half-equal rightEnd l r h) in
+    let b : Still l (half rightEnd (half leftEnd (pair l l) .stores))
+    = subst (λ (p : Pair). Still l (half rightEnd p)) (sym (a .stores)) (half-equal rightEnd l r h) in
     let f : length (half leftEnd (pair l l) .lines) ≤ 1 = a .few in
     let g : length (half rightEnd (half leftEnd (pair l l) .stores) .lines) ≤ 1 = b .few in
     (b .stores, rw (length-append (half leftEnd (pair l l) .lines) (half rightEnd (half leftEnd (pair l l) .stores) .lines)) (omega arith))
 
 -- .. and as the call: a store that is laid out as the store of its keys comes back in every place
-pub met-equal : (s : Store) (n : ℕ) → s ≡ storeOf (keysOf s) → firstNo (roundQuestions s s n) ≡ 0 → (met s s n .left ≡ s) × (met s s n .right ≡ s) × (met s s n .deliveries ≤ 2)
+pub met-equal : (s : Store) (n : ℕ) → s ≡ storeOf (keysOf s) → firstNo (roundQuestions s s n) ≡ 0 →
+    (met s s n .left ≡ s) × (met s s n .right ≡ s) × (met s s n .deliveries ≤ 2)
 met-equal s n laid z =
     let y : RoundYes s s n = roundQuestions-yes s s n z in
     let r : Rising (keysOf s) = inOrder-rising s (y .left) in

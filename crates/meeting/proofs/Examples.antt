@@ -94,4 +94,6 @@ apartThree-honest = refl
 -- so the statement's last clause applies: both end with the union, in every place
 pub apartThree-together : BothEnd (afterAll (rounds 0 1 threeTurns) (end apartThree)) 0 1 (0 ∷ 1 ∷ 5 ∷ 6 ∷ 10 ∷ [])
 unfolding opened
-apartThree-together = every-list-meets 2 apartThree apartThree-meant apartThree-few .together 0 1 (lit< tt) (lit< tt) zero-one threeTurns (lit≤ tt) apartThree-carried apartThree-honest
+apartThree-together =
+    every-list-meets 2 apartThree apartThree-meant apartThree-few .together 0 1 (lit< tt) (lit< tt) zero-one threeTurns
+    (lit≤ tt) apartThree-carried apartThree-honest

@@ -68,9 +68,11 @@ record Grew (ks : List ℕ) (a b : Node) : Type 0 where
   within : Sub (nodeKeys b) ks
 
 grew-same : (n : ℕ) (w : World) (ks ks′ : List ℕ) → Good n w ks → Sub ks ks′ → (j : ℕ) → Grew ks′ (w .kiosks j) (w .kiosks j)
-grew-same n w ks ks′ g s j = record { ordered = g .ordered j; laid = g .laid j; grown = sub-refl (keysIn w j); within = sub-trans (keysIn w j) ks ks′ (g .within j) s }
+grew-same n w ks ks′ g s j =
+    record { ordered = g .ordered j; laid = g .laid j; grown = sub-refl (keysIn w j); within = sub-trans (keysIn w j) ks ks′ (g .within j) s }
 
-grew-restored : (ks : List ℕ) (a : Node) (l : List ℕ) → Ordered a → Rising l → length l ≤ limit → Sub (nodeKeys a) l → Sub l ks → Grew ks a (restored a (storeOf l))
+grew-restored : (ks : List ℕ) (a : Node) (l : List ℕ) → Ordered a → Rising l → length l ≤ limit → Sub (nodeKeys a) l → Sub l ks →
+    Grew ks a (restored a (storeOf l))
 grew-restored ks a l o r h s t = record {
   ordered = ordered-restored a l o r h s;
   laid = ap storeOf (sym (keysOf-storeOf l));
@@ -311,13 +313,15 @@ module _ (n : ℕ) (w : World) (ks : List ℕ) (g : Good n w ks) where
       known : Sub u ks
       known = union-sub (keysOf s) (keysOf t) ks (g .within k) (g .within m)
 
-      lines-backed : (xs : List Line) → ((x : Line) → List·Memᴰ x xs → Backed u (x .delivery .claim)) → (c : Claim) → List·Memᴰ c (map (λ (x : Line). x .delivery .claim) xs) → Backed ks c
+      lines-backed : (xs : List Line) → ((x : Line) → List·Memᴰ x xs → Backed u (x .delivery .claim)) → (c : Claim) →
+          List·Memᴰ c (map (λ (x : Line). x .delivery .claim) xs) → Backed ks c
       lines-backed [] f c i = absurd (List·Memᴰ·not-nil i)
       lines-backed (x ∷ xs) f c (List·Memᴰ·head e) = subst (Backed ks) (sym e) (backed-sub u ks (x .delivery .claim) known (f x (List·Memᴰ·head refl)))
       lines-backed (x ∷ xs) f c (List·Memᴰ·tail i) = lines-backed xs (λ y a. f y (List·Memᴰ·tail a)) c i
 
       -- an end of the round: its keys grew within the union
-      end-grew : RoundYes s t (length lent) → (j : ℕ) (x : List ℕ) → Rising x → Sub (keysIn w j) x → Sub x u → Grew ks (w .kiosks j) (restored (w .kiosks j) (storeOf x))
+      end-grew : RoundYes s t (length lent) → (j : ℕ) (x : List ℕ) → Rising x → Sub (keysIn w j) x → Sub x u →
+          Grew ks (w .kiosks j) (restored (w .kiosks j) (storeOf x))
       end-grew y j x rx old new =
           let a : length x ≤ length u = rising-length x u rx (union-rising (keysOf s) (keysOf t) (inOrder-rising t (y .right))) new in
           let h : length u ≤ limit = y .fits in
@@ -328,10 +332,12 @@ module _ (n : ℕ) (w : World) (ks : List ℕ) (g : Good n w ks) where
           let y : RoundYes s t (length lent) = roundQuestions-yes s t (length lent) z in
           let q : Rounded (keysOf s) (keysOf t) = roundYes-rounded s t (length lent) y in
           let first : (j : ℕ) → Grew ks (w .kiosks j) (kiosks′ j)
-          = grew-one n w ks ks g (sub-refl ks) k (restored (w .kiosks k) (storeOf l)) (end-grew y k l (q .rises leftEnd) (q .grown leftEnd) (q .within leftEnd)) in
+          = grew-one n w ks ks g (sub-refl ks) k (restored (w .kiosks k) (storeOf l))
+          (end-grew y k l (q .rises leftEnd) (q .grown leftEnd) (q .within leftEnd)) in
           let same : kiosks′ m ≡ w .kiosks m = withNode-there k m (restored (w .kiosks k) (storeOf l)) (w .kiosks) (λ (e : m ≡ k). different (sym e)) in
           let second : Grew ks (w .kiosks m) (restored (kiosks′ m) (storeOf r))
-          = subst (λ (x : Node). Grew ks (w .kiosks m) (restored x (storeOf r))) (sym same) (end-grew y m r (q .rises rightEnd) (q .grown rightEnd) (q .within rightEnd)) in
+          = subst (λ (x : Node). Grew ks (w .kiosks m) (restored x (storeOf r))) (sym same)
+          (end-grew y m r (q .rises rightEnd) (q .grown rightEnd) (q .within rightEnd)) in
           good-kept n w ks (meets k m lent) o (meets-done k m lent (w .kiosks) z) refl
           (good-next n w ks o g
           (withNode-each (λ (j : ℕ) (x : Node). Grew ks (w .kiosks j) x) m (restored (kiosks′ m) (storeOf r)) kiosks′ second first)
@@ -350,7 +356,8 @@ good-step n w ks (meets k j lent) g m = good-meets n w ks g k j lent (m .2)
 
 -- ---- a list of events
 
-pub good-all : (n : ℕ) (w : World) (ks : List ℕ) (es : List Event) → Good n w ks → AllMeant n es w → Good n (afterAll es w) (ks ++ keysEntered es (numbers es w))
+pub good-all : (n : ℕ) (w : World) (ks : List ℕ) (es : List Event) → Good n w ks → AllMeant n es w →
+    Good n (afterAll es w) (ks ++ keysEntered es (numbers es w))
 good-all n w ks [] g m = subst (λ (x : List ℕ). Good n w x) (sym (append-nil ks)) g
 good-all n w ks (e ∷ es) g m =
     let here : List ℕ = enteredBy e (outcome e (w .kiosks) .number) in

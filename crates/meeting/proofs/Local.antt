@@ -39,13 +39,16 @@ between-insert-local a b k l m r q e = go (lies a b k)
     go (below h) = between-insert-outside a b k l (inl h) ∙ e ∙ sym (between-insert-outside a b k m (inl h))
     go (beyond h) = between-insert-outside a b k l (inr h) ∙ e ∙ sym (between-insert-outside a b k m (inr h))
 
-pub between-insertAll-local : (a b : ℕ) (ks l m : List ℕ) → Rising l → Rising m → between a b l ≡ between a b m → between a b (insertAll ks l) ≡ between a b (insertAll ks m)
+pub between-insertAll-local : (a b : ℕ) (ks l m : List ℕ) → Rising l → Rising m → between a b l ≡ between a b m →
+    between a b (insertAll ks l) ≡ between a b (insertAll ks m)
 between-insertAll-local a b [] l m r q e = e
-between-insertAll-local a b (k ∷ ks) l m r q e = between-insertAll-local a b ks (insert k l) (insert k m) (insert-rising k l r) (insert-rising k m q) (between-insert-local a b k l m r q e)
+between-insertAll-local a b (k ∷ ks) l m r q e =
+    between-insertAll-local a b ks (insert k l) (insert k m) (insert-rising k l r) (insert-rising k m q) (between-insert-local a b k l m r q e)
 
 pub between-insertAll-outside : (a b : ℕ) (ks l : List ℕ) → ((k : ℕ) → List·Memᴰ k ks → (k < a) ⊎ (b < k)) → between a b (insertAll ks l) ≡ between a b l
 between-insertAll-outside a b [] l f = refl
-between-insertAll-outside a b (k ∷ ks) l f = between-insertAll-outside a b ks (insert k l) (λ x m. f x (List·Memᴰ·tail m)) ∙ between-insert-outside a b k l (f k (List·Memᴰ·head refl))
+between-insertAll-outside a b (k ∷ ks) l f =
+    between-insertAll-outside a b ks (insert k l) (λ x m. f x (List·Memᴰ·tail m)) ∙ between-insert-outside a b k l (f k (List·Memᴰ·head refl))
 
 pub hear-local : (c : Claim) (a b : ℕ) (l m : List ℕ) → Rising l → Rising m → between a b l ≡ between a b m → between a b (hear c l) ≡ between a b (hear c m)
 hear-local c a b l m r q e = between-insertAll-local a b (adding c l) l m r q e
@@ -76,7 +79,8 @@ help-span a b l h g = go (ltb (b - a) 3) refl (length-span a b l h g)
         let j : m ≡ span a cut l ++ span (cut + 1) b l = span-join a cut b l (omega arith) f in
         let k : length (span a cut l) ≡ length m / 2 + 1 = length-span a cut l (omega arith) (omega arith) ∙ (omega arith) in
         let x : take (length m / 2 + 1) m ≡ span a cut l = ap (take (length m / 2 + 1)) j ∙ take-at (span a cut l) (span (cut + 1) b l) (length m / 2 + 1) k in
-        let y : drop (length m / 2 + 1) m ≡ span (cut + 1) b l = ap (drop (length m / 2 + 1)) j ∙ drop-at (span a cut l) (span (cut + 1) b l) (length m / 2 + 1) k in
+        let y : drop (length m / 2 + 1) m ≡ span (cut + 1) b l
+        = ap (drop (length m / 2 + 1)) j ∙ drop-at (span a cut l) (span (cut + 1) b l) (length m / 2 + 1) k in
         rw (e, ap (λ (q : ℕ). ltb q 3) size, e)
         (ap₂ (λ (c d : Claim). Two c d) (claimOf-span a cut l (omega arith) (omega arith) ∙ ap spanClaim (sym x)) (claimOf-span (cut + 1) b l (omega arith) (omega arith) ∙ ap spanClaim (sym y)))
 
@@ -84,9 +88,12 @@ help-span a b l h g = go (ltb (b - a) 3) refl (length-span a b l h g)
 abbrev answerBy : Claim → List ℕ → List ℕ → Answer
 answerBy c k m = cond (same (spanClaim k) c) Match (cond (ltb (spanClaim k .cnt) (c .cnt)) (Ask (spanClaim k)) (helpBy m))
 
-answer-by : (c : Claim) (l : List ℕ) → Rising l → Passes c → List·Memᴰ (c .lo) l → List·Memᴰ (c .hi) l → answer c l ≡ answerBy c (between (c .lo) (c .hi) l) (inside (c .lo) (c .hi) l)
+answer-by : (c : Claim) (l : List ℕ) → Rising l → Passes c → List·Memᴰ (c .lo) l → List·Memᴰ (c .hi) l →
+    answer c l ≡ answerBy c (between (c .lo) (c .hi) l) (inside (c .lo) (c .hi) l)
 unfolding answer
-answer-by c l r p m n = ap (λ (o : Claim). cond (same o c) Match (cond (ltb (o .cnt) (c .cnt)) (Ask o) (help (position (c .lo) l + 1) (position (c .hi) l - 1) l))) is ∙ go (same k c) refl (ltb (k .cnt) (c .cnt)) refl
+answer-by c l r p m n =
+    ap (λ (o : Claim). cond (same o c) Match (cond (ltb (o .cnt) (c .cnt)) (Ask o) (help (position (c .lo) l + 1) (position (c .hi) l - 1) l))) is
+    ∙ go (same k c) refl (ltb (k .cnt) (c .cnt)) refl
   where
     k : Claim
     k = spanClaim (between (c .lo) (c .hi) l)
@@ -99,17 +106,20 @@ answer-by c l r p m n = ap (λ (o : Claim). cond (same o c) Match (cond (ltb (o 
         let a = getD-position (c .lo) l r m in
         let b = getD-position (c .hi) l r n in
         let q : position (c .hi) l < length l = b .0 in
-        let h : position (c .lo) l + 1 ≤ position (c .hi) l - 1 = helper-positions c l r p m n (ap (λ (o : Claim). same o c) is ∙ e) (ap (λ (o : Claim). ltb (o .cnt) (c .cnt)) is ∙ f) in
+        let h : position (c .lo) l + 1 ≤ position (c .hi) l - 1
+        = helper-positions c l r p m n (ap (λ (o : Claim). same o c) is ∙ e) (ap (λ (o : Claim). ltb (o .cnt) (c .cnt)) is ∙ f) in
         help-span (position (c .lo) l + 1) (position (c .hi) l - 1) l h (omega arith)
         ∙ ap helpBy (span-inside (position (c .lo) l) (position (c .hi) l) l r h (b .0) ∙ ap₂ (λ (x y : ℕ). inside x y l) (a .1) (b .1))
 
     go : (t : Bool) → same k c ≡ t → (u : Bool) → ltb (k .cnt) (c .cnt) ≡ u →
-        cond (same k c) Match (cond (ltb (k .cnt) (c .cnt)) (Ask k) (help (position (c .lo) l + 1) (position (c .hi) l - 1) l)) ≡ answerBy c (between (c .lo) (c .hi) l) (inside (c .lo) (c .hi) l)
+        cond (same k c) Match (cond (ltb (k .cnt) (c .cnt)) (Ask k) (help (position (c .lo) l + 1) (position (c .hi) l - 1) l)) ≡ answerBy c
+        (between (c .lo) (c .hi) l) (inside (c .lo) (c .hi) l)
     go true e u f = rw e
     go false e true f = rw (e, f)
     go false e false f = rw (e, f) (helped e f)
 
-pub answer-local : (c : Claim) (l m : List ℕ) → Rising l → Rising m → Passes c → List·Memᴰ (c .lo) l → List·Memᴰ (c .hi) l → List·Memᴰ (c .lo) m → List·Memᴰ (c .hi) m →
+pub answer-local : (c : Claim) (l m : List ℕ) → Rising l → Rising m → Passes c → List·Memᴰ (c .lo) l → List·Memᴰ (c .hi) l → List·Memᴰ (c .lo) m →
+    List·Memᴰ (c .hi) m →
     between (c .lo) (c .hi) l ≡ between (c .lo) (c .hi) m → answer c l ≡ answer c m
 answer-local c l m r q p a b x y e =
     let i : inside (c .lo) (c .hi) l ≡ inside (c .lo) (c .hi) m
@@ -121,7 +131,8 @@ answer-local c l m r q p a b x y e =
 -- a reply depends only on the keys from lo to hi
 pub reply-local : (c : Claim) (l m : List ℕ) → Rising l → Rising m → Passes c → between (c .lo) (c .hi) l ≡ between (c .lo) (c .hi) m → reply c l ≡ reply c m
 reply-local c l m r q p e =
-    answer-local c (hear c l) (hear c m) (hear-rising c l r) (hear-rising c m q) p (hear-lo c l) (hear-hi c l) (hear-lo c m) (hear-hi c m) (hear-local c (c .lo) (c .hi) l m r q e)
+    answer-local c (hear c l) (hear c m) (hear-rising c l r) (hear-rising c m q) p (hear-lo c l) (hear-hi c l) (hear-lo c m) (hear-hi c m)
+    (hear-local c (c .lo) (c .hi) l m r q e)
 
 -- .. and its claims lie within lo to hi
 pub reply-range : (c : Claim) (l : List ℕ) → Rising l → Passes c → (d : Claim) → List·Memᴰ d (claimsOf (reply c l)) → (c .lo ≤ d .lo) × (d .hi ≤ c .hi)
@@ -156,7 +167,8 @@ abbrev pub AgreeOn : Pair → Pair → Entry → Type 0
 AgreeOn p p′ e = (s : End) → between (e .claim .lo) (e .claim .hi) (keysAt s p) ≡ between (e .claim .lo) (e .claim .hi) (keysAt s p′)
 
 -- claims within a range wait alike at keys that agree there
-waits-local : (s : End) (a b : ℕ) (l m : List ℕ) (cs : List Claim) → between a b l ≡ between a b m → ((d : Claim) → List·Memᴰ d cs → (a ≤ d .lo) × (d .hi ≤ b)) → waits s l cs ≡ waits s m cs
+waits-local : (s : End) (a b : ℕ) (l m : List ℕ) (cs : List Claim) → between a b l ≡ between a b m →
+    ((d : Claim) → List·Memᴰ d cs → (a ≤ d .lo) × (d .hi ≤ b)) → waits s l cs ≡ waits s m cs
 waits-local s a b l m [] e f = refl
 waits-local s a b l m (c ∷ cs) e f =
     let t = f c (List·Memᴰ·head refl) in
@@ -171,13 +183,17 @@ waits-mem s l (c ∷ cs) x (List·Memᴰ·head e) = List·Memᴰ·head (ap (λ (
 waits-mem s l (c ∷ cs) x (List·Memᴰ·tail m) = List·Memᴰ·tail (waits-mem s l cs x m)
 
 -- the answers to an entry lie within its range
-pub answers-range : (p : Pair) (e : Entry) → Rises p → Passes (e .claim) → (x : Entry) → List·Memᴰ x (answers e p) → (e .claim .lo ≤ x .claim .lo) × (x .claim .hi ≤ e .claim .hi)
-answers-range p e r q x m = reply-range (e .claim) (keysBefore e p) (r (receiver e)) q (x .claim) (waits-mem (receiver e) (hear (e .claim) (keysBefore e p)) (claimsOf (reply (e .claim) (keysBefore e p))) x m)
+pub answers-range : (p : Pair) (e : Entry) → Rises p → Passes (e .claim) → (x : Entry) → List·Memᴰ x (answers e p) →
+    (e .claim .lo ≤ x .claim .lo) × (x .claim .hi ≤ e .claim .hi)
+answers-range p e r q x m =
+    reply-range (e .claim) (keysBefore e p) (r (receiver e)) q (x .claim)
+    (waits-mem (receiver e) (hear (e .claim) (keysBefore e p)) (claimsOf (reply (e .claim) (keysBefore e p))) x m)
 
 pub answers-local : (p p′ : Pair) (e : Entry) → Rises p → Rises p′ → Passes (e .claim) → AgreeOn p p′ e → answers e p ≡ answers e p′
 answers-local p p′ e r r′ q a =
     let c : Claim = e .claim in
-    let h : reply c (keysBefore e p) ≡ reply c (keysBefore e p′) = reply-local c (keysBefore e p) (keysBefore e p′) (r (receiver e)) (r′ (receiver e)) q (a (receiver e)) in
+    let h : reply c (keysBefore e p) ≡ reply c (keysBefore e p′)
+    = reply-local c (keysBefore e p) (keysBefore e p′) (r (receiver e)) (r′ (receiver e)) q (a (receiver e)) in
     waits-local (receiver e) (c .lo) (c .hi) (hear c (keysBefore e p)) (hear c (keysBefore e p′)) (claimsOf (reply c (keysBefore e p)))
     (hear-local c (c .lo) (c .hi) (keysBefore e p) (keysBefore e p′) (r (receiver e)) (r′ (receiver e)) (a (receiver e)))
     (reply-range c (keysBefore e p) (r (receiver e)) q)
@@ -186,7 +202,8 @@ answers-local p p′ e r r′ q a =
 pub line-local : (p p′ : Pair) (e : Entry) → Rises p → Rises p′ → Passes (e .claim) → AgreeOn p p′ e → line e p ≡ line e p′
 line-local p p′ e r r′ q a =
     let c : Claim = e .claim in
-    let h : reply c (keysBefore e p) ≡ reply c (keysBefore e p′) = reply-local c (keysBefore e p) (keysBefore e p′) (r (receiver e)) (r′ (receiver e)) q (a (receiver e)) in
+    let h : reply c (keysBefore e p) ≡ reply c (keysBefore e p′)
+    = reply-local c (keysBefore e p) (keysBefore e p′) (r (receiver e)) (r′ (receiver e)) q (a (receiver e)) in
     let g : between (c .lo) (c .hi) (hear c (keysBefore e p)) ≡ between (c .lo) (c .hi) (hear c (keysBefore e p′))
     = hear-local c (c .lo) (c .hi) (keysBefore e p) (keysBefore e p′) (r (receiver e)) (r′ (receiver e)) (a (receiver e)) in
     ap (λ (b : Bool). record { delivery = line e p .delivery; isFalse = b }) (ap₂ (λ (x : Answer) (y : List ℕ). matches x && not (sameKeys (e .held) y)) h g)
@@ -215,7 +232,8 @@ agreeOn-within p p′ e x a t s =
     ∙ between-between (e .claim .lo) (e .claim .hi) (x .claim .lo) (x .claim .hi) (keysAt s p′) (t .0) (t .1)
 
 -- stores that agree on the ranges of what waits give the same lines
-pub run-local : (n : ℕ) (u : List ℕ) (p p′ : Pair) (q : List Entry) → Fine u p q → Fine u p′ q → ((e : Entry) → List·Memᴰ e q → AgreeOn p p′ e) → run n p q .lines ≡ run n p′ q .lines
+pub run-local : (n : ℕ) (u : List ℕ) (p p′ : Pair) (q : List Entry) → Fine u p q → Fine u p′ q → ((e : Entry) → List·Memᴰ e q → AgreeOn p p′ e) →
+    run n p q .lines ≡ run n p′ q .lines
 unfolding run
 run-local zero u p p′ q f f′ a = refl
 run-local (suc n) u p p′ [] f f′ a = refl
@@ -224,7 +242,8 @@ run-local (suc n) u p p′ (e ∷ q) f f′ a =
     let k : Passes (e .claim) = sound-limit p e u (f .sound e (List·Memᴰ·head refl)) (f .within) (f .whole) (f .fits) in
     let same-answers : answers e p ≡ answers e p′ = answers-local p p′ e (f .rises) (f′ .rises) k here in
     let f₁ : Fine u (delivered e p) (q ++ answers e p) = fine-step u p e q f in
-    let f₂ : Fine u (delivered e p′) (q ++ answers e p) = subst (λ (x : List Entry). Fine u (delivered e p′) (q ++ x)) (sym same-answers) (fine-step u p′ e q f′) in
+    let f₂ : Fine u (delivered e p′) (q ++ answers e p)
+    = subst (λ (x : List Entry). Fine u (delivered e p′) (q ++ x)) (sym same-answers) (fine-step u p′ e q f′) in
     let later : run n (delivered e p) (q ++ answers e p) .lines ≡ run n (delivered e p′) (q ++ answers e p) .lines
     = run-local n u (delivered e p) (delivered e p′) (q ++ answers e p) f₁ f₂
     (λ x m.

@@ -2,7 +2,7 @@
 -- refused and no match false. Each round leaves the union as it was and the keys apart at least one fewer, unless there are none. In order: stores that
 -- are ready; one round as an event; the rounds, from any world. Assumes nothing.
 use Prim.Native.Nat.{ℕ, _-_, _≤_}
-use mathlib.Core.Bool.{true, false, not}
+use mathlib.Core.Bool.{Bool, true, false, not}
 use mathlib.Core.List.{List, [], _∷_}
 use mathlib.Core.Logic.{⊎-elim}
 use mathlib.Core.Path.{_≡_, sym, ap, _∙_, subst}
@@ -41,7 +41,8 @@ ready-storeOf l r h = record { order = inOrder-storeOf l r h; laid = ap storeOf 
 
 -- ---- one round, as an event that was not refused
 
-pub meets-zero : (k m : ℕ) (lent : List Delivery) (kiosks : ℕ → Node) → outcome (meets k m lent) kiosks .number ≡ 0 → firstNo (roundQuestions (kiosks k .store) (kiosks m .store) (length lent)) ≡ 0
+pub meets-zero : (k m : ℕ) (lent : List Delivery) (kiosks : ℕ → Node) → outcome (meets k m lent) kiosks .number ≡ 0 →
+    firstNo (roundQuestions (kiosks k .store) (kiosks m .store) (length lent)) ≡ 0
 meets-zero k m lent kiosks h =
     let n : ℕ = firstNo (roundQuestions (kiosks k .store) (kiosks m .store) (length lent)) in
     ⊎-elim
@@ -57,12 +58,15 @@ pub record Stepped (w : World) (k m : ℕ) (w′ : World) : Type 0 where
   pub same-union : union (keysIn w′ k) (keysIn w′ m) ≡ union (keysIn w k) (keysIn w m)
   pub closer : apart (keysIn w′ k) (keysIn w′ m) ≤ apart (keysIn w k) (keysIn w m) - 1
 
-pub meets-stepped : (w : World) (k m : ℕ) (lent : List Delivery) → (k ≡ m → ⊥) → outcome (meets k m lent) (w .kiosks) .number ≡ 0 → falseIn (meets k m lent) w ≡ false → Stepped w k m (after (meets k m lent) w)
+pub meets-stepped : (w : World) (k m : ℕ) (lent : List Delivery) → (k ≡ m → ⊥) → outcome (meets k m lent) (w .kiosks) .number ≡ 0 →
+    falseIn (meets k m lent) w ≡ false → Stepped w k m (after (meets k m lent) w)
 meets-stepped w k m lent different h honest = record {
   left = subst Ready (sym at-left) (ready-storeOf l (q .rises leftEnd) (fits l (q .rises leftEnd) (q .within leftEnd)));
   right = subst Ready (sym at-right) (ready-storeOf r (q .rises rightEnd) (fits r (q .rises rightEnd) (q .within rightEnd)));
   same-union = rw (ap keysOf at-left, ap keysOf at-right, keysOf-storeOf l, keysOf-storeOf r) (q .same-union);
-  closer = rw (ap keysOf at-left, ap keysOf at-right, keysOf-storeOf l, keysOf-storeOf r) (apart-round (keysOf s) (keysOf t) (inOrder-rising s (y .left)) (inOrder-rising t (y .right)) (y .fits) honest);
+  closer =
+      rw (ap keysOf at-left, ap keysOf at-right, keysOf-storeOf l, keysOf-storeOf r)
+      (apart-round (keysOf s) (keysOf t) (inOrder-rising s (y .left)) (inOrder-rising t (y .right)) (y .fits) honest);
 }
   where
     s : Store
@@ -88,7 +92,8 @@ meets-stepped w k m lent different h honest = record {
 
     fits : (x : List ℕ) → Rising x → Sub x (union (keysOf s) (keysOf t)) → length x ≤ limit
     fits x rx v =
-        let a : length x ≤ length (union (keysOf s) (keysOf t)) = rising-length x (union (keysOf s) (keysOf t)) rx (union-rising (keysOf s) (keysOf t) (inOrder-rising t (y .right))) v in
+        let a : length x ≤ length (union (keysOf s) (keysOf t))
+        = rising-length x (union (keysOf s) (keysOf t)) rx (union-rising (keysOf s) (keysOf t) (inOrder-rising t (y .right))) v in
         let b : length (union (keysOf s) (keysOf t)) ≤ limit = y .fits in
         omega arith
 
@@ -98,7 +103,8 @@ meets-stepped w k m lent different h honest = record {
     at-left : after (meets k m lent) w .kiosks k .store ≡ storeOf l
     at-left =
         ap (λ (o : Outcome). o .kiosks k .store) (meets-done k m lent (w .kiosks) z)
-        ∙ ap (λ (n : Node). n .store) (withNode-there m k (restored (kiosks′ m) (storeOf r)) kiosks′ different ∙ withNode-here k (restored (w .kiosks k) (storeOf l)) (w .kiosks))
+        ∙ ap (λ (n : Node). n .store)
+        (withNode-there m k (restored (kiosks′ m) (storeOf r)) kiosks′ different ∙ withNode-here k (restored (w .kiosks k) (storeOf l)) (w .kiosks))
 
     at-right : after (meets k m lent) w .kiosks m .store ≡ storeOf r
     at-right =
@@ -114,7 +120,8 @@ BothEnd w k m u = (w .kiosks k .store ≡ storeOf u) × (w .kiosks m .store ≡ 
 apart-comm : (l r : List ℕ) → apart l r ≡ apart r l
 apart-comm l r = omega arith
 
-pub meeting : (w : World) (k m : ℕ) → (k ≡ m → ⊥) → (ts : List Turn) → Ready (w .kiosks k .store) → Ready (w .kiosks m .store) → apart (keysIn w k) (keysIn w m) ≤ length ts →
+pub meeting : (w : World) (k m : ℕ) → (k ≡ m → ⊥) → (ts : List Turn) → Ready (w .kiosks k .store) → Ready (w .kiosks m .store) →
+    apart (keysIn w k) (keysIn w m) ≤ length ts →
     allZero (numbers (rounds k m ts) w) ≡ true → noneFalse (rounds k m ts) w ≡ true → BothEnd (afterAll (rounds k m ts) w) k m (union (keysIn w k) (keysIn w m))
 meeting w k m different [] a b h carried honest =
     let e = apart-none (keysIn w k) (keysIn w m) (inOrder-rising (w .kiosks k .store) (a .order)) (inOrder-rising (w .kiosks m .store) (b .order)) h in
@@ -123,15 +130,22 @@ meeting w k m different (straight lent ∷ ts) a b h carried honest =
     let e : Event = meets k m lent in
     let w′ : World = after e w in
     let n : ℕ = outcome e (w .kiosks) .number in
-    let c : Stepped w k m w′ = meets-stepped w k m lent different (eqb-true n 0 (and-left (eqb n 0) (allZero (numbers (rounds k m ts) w′)) carried)) (not-true (falseIn e w) (and-left (not (falseIn e w)) (noneFalse (rounds k m ts) w′) honest)) in
+    let later : Bool = allZero (numbers (rounds k m ts) w′) in
+    let here : Bool = not (falseIn e w) in
+    let c : Stepped w k m w′
+    = meets-stepped w k m lent different (eqb-true n 0 (and-left (eqb n 0) later carried)) (not-true (falseIn e w) (and-left here (noneFalse (rounds k m ts) w′) honest)) in
     let d : apart (keysIn w′ k) (keysIn w′ m) ≤ apart (keysIn w k) (keysIn w m) - 1 = c .closer in
     subst (λ (u : List ℕ). BothEnd (afterAll (rounds k m ts) w′) k m u) (c .same-union)
-    (meeting w′ k m different ts (c .left) (c .right) (omega arith) (and-right (eqb n 0) (allZero (numbers (rounds k m ts) w′)) carried) (and-right (not (falseIn e w)) (noneFalse (rounds k m ts) w′) honest))
+    (meeting w′ k m different ts (c .left) (c .right) (omega arith) (and-right (eqb n 0) later carried) (and-right here (noneFalse (rounds k m ts) w′) honest))
 meeting w k m different (turned lent ∷ ts) a b h carried honest =
     let e : Event = meets m k lent in
     let w′ : World = after e w in
     let n : ℕ = outcome e (w .kiosks) .number in
-    let c : Stepped w m k w′ = meets-stepped w m k lent (λ (i : m ≡ k). different (sym i)) (eqb-true n 0 (and-left (eqb n 0) (allZero (numbers (rounds k m ts) w′)) carried)) (not-true (falseIn e w) (and-left (not (falseIn e w)) (noneFalse (rounds k m ts) w′) honest)) in
+    let later : Bool = allZero (numbers (rounds k m ts) w′) in
+    let here : Bool = not (falseIn e w) in
+    let c : Stepped w m k w′
+    = meets-stepped w m k lent (λ (i : m ≡ k). different (sym i)) (eqb-true n 0 (and-left (eqb n 0) later carried))
+    (not-true (falseIn e w) (and-left here (noneFalse (rounds k m ts) w′) honest)) in
     let d : apart (keysIn w′ m) (keysIn w′ k) ≤ apart (keysIn w m) (keysIn w k) - 1 = c .closer in
     let d′ : apart (keysIn w′ k) (keysIn w′ m) ≤ length ts = omega (arith, apart-comm (keysIn w′ k) (keysIn w′ m), apart-comm (keysIn w k) (keysIn w m)) in
     let u : union (keysIn w′ k) (keysIn w′ m) ≡ union (keysIn w k) (keysIn w m)
@@ -139,4 +153,4 @@ meeting w k m different (turned lent ∷ ts) a b h carried honest =
     ∙ c .same-union
     ∙ union-comm (keysIn w m) (keysIn w k) (inOrder-rising (w .kiosks m .store) (b .order)) (inOrder-rising (w .kiosks k .store) (a .order)) in
     subst (λ (x : List ℕ). BothEnd (afterAll (rounds k m ts) w′) k m x) u
-    (meeting w′ k m different ts (c .right) (c .left) d′ (and-right (eqb n 0) (allZero (numbers (rounds k m ts) w′)) carried) (and-right (not (falseIn e w)) (noneFalse (rounds k m ts) w′) honest))
+    (meeting w′ k m different ts (c .right) (c .left) d′ (and-right (eqb n 0) later carried) (and-right here (noneFalse (rounds k m ts) w′) honest))

@@ -1,6 +1,6 @@
--- What a call comes to, as an event: `outcome` of World. In order: one kiosk's node replaced; what is read off the lent places is what was written; for
--- each kind of event, what it says that its questions were answered yes, and its outcome carried out and refused; a refused call changes no kiosk, makes no claim and enters no key
--- (`outcome-refused`): that is proved here of the calls' own definitions. Assumes nothing.
+-- What a call comes to, as an event: `outcome` of World. In order: one kiosk's node replaced; what is read off the lent places is what was written;
+-- for each kind of event, what it says that its questions were answered yes, and its outcome carried out and refused; a refused call changes no
+-- kiosk, makes no claim and enters no key (`outcome-refused`): that is proved here of the calls' own definitions. Assumes nothing.
 use Prim.Native.Nat.{ℕ, _+_, _≤_, _<_}
 use mathlib.Core.Bool.{Bool, true, false, cond}
 use mathlib.Core.List.{List, [], _∷_, _++_, map}
@@ -70,7 +70,8 @@ pub readClaims-words : (cs : List Claim) (rest : List ℕ) → readClaims (lengt
 readClaims-words [] rest = refl
 readClaims-words (c ∷ cs) rest = ap (λ (x : List Claim). c ∷ x) (readClaims-words cs rest)
 
-pub readRecords-lines : (xs : List Line) (rest : List Delivery) → readRecords (length xs) (map (λ (x : Line). x .delivery) xs ++ rest) ≡ map (λ (x : Line). x .delivery .claim) xs
+pub readRecords-lines : (xs : List Line) (rest : List Delivery) →
+    readRecords (length xs) (map (λ (x : Line). x .delivery) xs ++ rest) ≡ map (λ (x : Line). x .delivery .claim) xs
 readRecords-lines [] rest = refl
 readRecords-lines (x ∷ xs) rest = ap (λ (y : List Claim). x .delivery .claim ∷ y) (readRecords-lines xs rest)
 
@@ -170,7 +171,8 @@ pub replies-done : (k : ℕ) (c : Claim) (kiosks : ℕ → Node) → firstNo (re
 unfolding outcome replied replying
 replies-done k c kiosks h =
     let l : List ℕ = keysOf (kiosks k .store) in
-    ap (replying k kiosks) (settle-done (firstNo (replyQuestions (kiosks k .store) c)) (record { store = storeOf (hear c l); answer = reply c l }) (λ n. record { store = kiosks k .store; answer = Refused n }) h)
+    ap (replying k kiosks)
+    (settle-done (firstNo (replyQuestions (kiosks k .store) c)) (record { store = storeOf (hear c l); answer = reply c l }) (λ n. record { store = kiosks k .store; answer = Refused n }) h)
     ∙ ap (λ (n : ℕ). record { number = n; kiosks = withStore k (storeOf (hear c l)) kiosks; claims = claimsOf (reply c l) }) (numberOf-answer c (hear c l))
 
 pub replies-refused : (k : ℕ) (c : Claim) (kiosks : ℕ → Node) → (firstNo (replyQuestions (kiosks k .store) c) ≡ 0 → ⊥) →
@@ -178,7 +180,8 @@ pub replies-refused : (k : ℕ) (c : Claim) (kiosks : ℕ → Node) → (firstNo
 unfolding outcome replied replying
 replies-refused k c kiosks f =
     let l : List ℕ = keysOf (kiosks k .store) in
-    ap (replying k kiosks) (settle-refused (firstNo (replyQuestions (kiosks k .store) c)) (record { store = storeOf (hear c l); answer = reply c l }) (λ n. record { store = kiosks k .store; answer = Refused n }) f)
+    ap (replying k kiosks)
+    (settle-refused (firstNo (replyQuestions (kiosks k .store) c)) (record { store = storeOf (hear c l); answer = reply c l }) (λ n. record { store = kiosks k .store; answer = Refused n }) f)
     ∙ ap (refusal (firstNo (replyQuestions (kiosks k .store) c))) (withStore-same k kiosks)
 
 -- ---- a claim delivered to the table
@@ -187,7 +190,8 @@ taking : ℕ → (ℕ → Node) → Taken → Outcome
 taking k kiosks a = record { number = a .number; kiosks = withNode k (a .node) kiosks; claims = [] }
 
 pub takes-done : (k : ℕ) (c : Claim) (kiosks : ℕ → Node) → firstNo (takeQuestions (kiosks k) c) ≡ 0 →
-    outcome (delivers k To.table c) kiosks ≡ record { number = 0; kiosks = withNode k (nodeOf (hear c (nodeKeys (kiosks k))) (tableWith c (pendingOf (kiosks k)))) kiosks; claims = [] }
+    outcome (delivers k To.table c) kiosks ≡ record
+    { number = 0; kiosks = withNode k (nodeOf (hear c (nodeKeys (kiosks k))) (tableWith c (pendingOf (kiosks k)))) kiosks; claims = [] }
 unfolding outcome taking
 takes-done k c kiosks h = ap (taking k kiosks) (taken-done (kiosks k) c h)
 
@@ -221,7 +225,9 @@ pub meets-done : (k m : ℕ) (lent : List Delivery) (kiosks : ℕ → Node) → 
     outcome (meets k m lent) kiosks
     ≡ record {
       number = 0;
-      kiosks = withStore m (storeOf (roundBy (kiosks k .store) (kiosks m .store) .stores .right)) (withStore k (storeOf (roundBy (kiosks k .store) (kiosks m .store) .stores .left)) kiosks);
+      kiosks =
+          withStore m (storeOf (roundBy (kiosks k .store) (kiosks m .store) .stores .right))
+          (withStore k (storeOf (roundBy (kiosks k .store) (kiosks m .store) .stores .left)) kiosks);
       claims = map (λ (x : Line). x .delivery .claim) (roundBy (kiosks k .store) (kiosks m .store) .lines);
     }
 unfolding outcome
@@ -230,7 +236,8 @@ meets-done k m lent kiosks h =
     let t : Store = kiosks m .store in
     rw (met-done s t (length lent) h, metLent-done s t lent h, readRecords-lines (roundBy s t .lines) (drop (length (transcript (roundBy s t))) lent))
 
-pub meets-refused : (k m : ℕ) (lent : List Delivery) (kiosks : ℕ → Node) → (firstNo (roundQuestions (kiosks k .store) (kiosks m .store) (length lent)) ≡ 0 → ⊥) →
+pub meets-refused : (k m : ℕ) (lent : List Delivery) (kiosks : ℕ → Node) →
+    (firstNo (roundQuestions (kiosks k .store) (kiosks m .store) (length lent)) ≡ 0 → ⊥) →
     outcome (meets k m lent) kiosks ≡ refusal (firstNo (roundQuestions (kiosks k .store) (kiosks m .store) (length lent))) kiosks
 unfolding outcome
 meets-refused k m lent kiosks f =
@@ -256,7 +263,8 @@ refused-by o n kiosks d f h =
     (eq-or-ne n 0)
 
 -- "A refused call is an event that changes no kiosk and makes no claim."
-pub outcome-refused : (e : Event) (kiosks : ℕ → Node) → (outcome e kiosks .number ≡ 0 → ⊥) → (outcome e kiosks .kiosks ≡ kiosks) × (outcome e kiosks .claims ≡ [])
+pub outcome-refused : (e : Event) (kiosks : ℕ → Node) → (outcome e kiosks .number ≡ 0 → ⊥) →
+    (outcome e kiosks .kiosks ≡ kiosks) × (outcome e kiosks .claims ≡ [])
 outcome-refused (enters k x) kiosks =
     refused-by (outcome (enters k x) kiosks) (firstNo (enterQuestions (kiosks k .store) x)) kiosks
     (λ z. numbered (enters-done k x kiosks z)) (enters-refused k x kiosks)

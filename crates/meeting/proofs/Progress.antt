@@ -28,7 +28,8 @@ use Rattle.rounds.proofs.Half.{Fine, fine-step, run-fine, run-grown, halfway-op
 -- ---- growth, by sizes
 
 pub grown-size : (p p′ : Pair) → Rises p → Rises p′ → Grown p p′ → size p ≤ size p′
-grown-size p p′ r r′ g = omega (arith, rising-length (p .left) (p′ .left) (r leftEnd) (r′ leftEnd) (g leftEnd), rising-length (p .right) (p′ .right) (r rightEnd) (r′ rightEnd) (g rightEnd))
+grown-size p p′ r r′ g =
+    omega (arith, rising-length (p .left) (p′ .left) (r leftEnd) (r′ leftEnd) (g leftEnd), rising-length (p .right) (p′ .right) (r rightEnd) (r′ rightEnd) (g rightEnd))
 
 pub grown-same : (p p′ : Pair) → Rises p → Rises p′ → Grown p p′ → size p′ ≤ size p → p ≡ p′
 grown-same p p′ r r′ g h =
@@ -80,7 +81,9 @@ module _ (p : Pair) (e : Entry) (s : Sound p e) (r : Rises p) (passes : Passes (
       sym j ∙ ap (between (c .lo) (c .hi)) heard
     where
       within : (x : ℕ) → List·Memᴰ x k × (c .lo ≤ x) × (x ≤ c .hi) → Order (c .lo) x → Order x (c .hi) → List·Memᴰ x (e .held)
-      within x t (less a) (less b) = subst (λ (l : List ℕ). List·Memᴰ x l) (sym fresh) (mem-between (c .lo) (c .hi) (keysAt (e .sender) p) x (i x (mem-inside (c .lo) (c .hi) k x (t .0) a b)) (t .1) (t .2))
+      within x t (less a) (less b) =
+          subst (λ (l : List ℕ). List·Memᴰ x l) (sym fresh)
+          (mem-between (c .lo) (c .hi) (keysAt (e .sender) p) x (i x (mem-inside (c .lo) (c .hi) k x (t .0) a b)) (t .1) (t .2))
       within x t (less a) (equal b) = Memᴰ·cast b (sound-ends p e s (c .hi) (List·Memᴰ·tail (List·Memᴰ·head refl)))
       within x t (less a) (greater b) = absurd (omega (arith, t .2))
       within x t (equal a) b = Memᴰ·cast (sym a) (sound-ends p e s (c .lo) (List·Memᴰ·head refl))
@@ -89,20 +92,26 @@ module _ (p : Pair) (e : Entry) (s : Sound p e) (r : Rises p) (passes : Passes (
   -- a claim of a part of the helper's keys that agrees: the sender has that part
   part-sub : (y : List ℕ) (d : Claim) → d ≡ spanClaim y → y ≡ between (first y) (last y) k → Agrees p (entry (receiver e) k d) → Sub y (keysAt (e .sender) p)
   part-sub y d i w a x m =
-      let b : between (first y) (last y) k ≡ between (first y) (last y) (keysAt (other (receiver e)) p) = subst (λ (z : Claim). Agrees p (entry (receiver e) k z)) i a in
+      let b : between (first y) (last y) k ≡ between (first y) (last y) (keysAt (other (receiver e)) p)
+      = subst (λ (z : Claim). Agrees p (entry (receiver e) k z)) i a in
       let n : List·Memᴰ x (between (first y) (last y) (keysAt (other (receiver e)) p)) = subst (λ (l : List ℕ). List·Memᴰ x l) (w ∙ b) m in
       subst (λ (t : End). List·Memᴰ x (keysAt t p)) (other-other (e .sender)) (between-sub (first y) (last y) (keysAt (other (receiver e)) p) x n)
 
-  agrees-from : (a : Answer) → reply c (keysBefore e p) ≡ a → Answered c k a → ((x : Entry) → List·Memᴰ x (waits (receiver e) k (claimsOf a)) → Agrees p x) → Agrees p e
+  agrees-from : (a : Answer) → reply c (keysBefore e p) ≡ a → Answered c k a →
+      ((x : Entry) → List·Memᴰ x (waits (receiver e) k (claimsOf a)) → Agrees p x) → Agrees p e
   agrees-from _ q (matched i) f = match-same (e .held) c (keysBefore e p) honest q ∙ ap (between (c .lo) (c .hi)) heard
   agrees-from _ q (asked {d = d} i g) f =
-      let t : d ≡ rangeClaim (c .lo) (c .hi) k = i ∙ spanClaim-range (c .lo) (c .hi) k (hear-rising c (keysBefore e p) (r (receiver e))) (passes .ordered) (hear-lo c (keysBefore e p)) (hear-hi c (keysBefore e p)) in
-      let a : between (c .lo) (c .hi) k ≡ between (c .lo) (c .hi) (keysAt (other (receiver e)) p) = subst (λ (z : Claim). Agrees p (entry (receiver e) k z)) t (f (entry (receiver e) k d) (List·Memᴰ·head refl)) in
+      let t : d ≡ rangeClaim (c .lo) (c .hi) k
+      = i ∙ spanClaim-range (c .lo) (c .hi) k (hear-rising c (keysBefore e p) (r (receiver e))) (passes .ordered) (hear-lo c (keysBefore e p))
+      (hear-hi c (keysBefore e p)) in
+      let a : between (c .lo) (c .hi) k ≡ between (c .lo) (c .hi) (keysAt (other (receiver e)) p)
+      = subst (λ (z : Claim). Agrees p (entry (receiver e) k z)) t (f (entry (receiver e) k d) (List·Memᴰ·head refl)) in
       let b : between (c .lo) (c .hi) k ≡ e .held = a ∙ ap (λ (x : End). between (c .lo) (c .hi) (keysAt x p)) (other-other (e .sender)) ∙ sym fresh in
       let n : c .cnt ≡ length (e .held) = sound-cnt p e s in
       let l : length (between (c .lo) (c .hi) k) ≡ length (e .held) = ap length b in
       absurd (omega arith)
-  agrees-from _ q (helped-one {d = d} g o i t) f = agrees-helped g (part-sub (inside (c .lo) (c .hi) k) d i (t .whole) (f (entry (receiver e) k d) (List·Memᴰ·head refl)))
+  agrees-from _ q (helped-one {d = d} g o i t) f =
+      agrees-helped g (part-sub (inside (c .lo) (c .hi) k) d i (t .whole) (f (entry (receiver e) k d) (List·Memᴰ·head refl)))
   agrees-from _ q (helped-two {d = d} {e = d′} y z g o i j x t v w) f =
       agrees-helped g
       (λ n m.
@@ -113,7 +122,8 @@ module _ (p : Pair) (e : Entry) (s : Sound p e) (r : Rises p) (passes : Passes (
       (List·Memᴰ·append-cases y (subst (λ (l : List ℕ). List·Memᴰ n l) x m)))
 
 -- one delivery that added nothing: what waited agrees if what waits after it does
-agrees-step : (u : List ℕ) (p : Pair) (e : Entry) (q : List Entry) → Fine u p (e ∷ q) → ((x : Entry) → List·Memᴰ x (e ∷ q) → Fresh p x) → size (delivered e p) ≤ size p →
+agrees-step : (u : List ℕ) (p : Pair) (e : Entry) (q : List Entry) → Fine u p (e ∷ q) → ((x : Entry) → List·Memᴰ x (e ∷ q) → Fresh p x) →
+    size (delivered e p) ≤ size p →
     falseMatch (e .held) (e .claim) (keysBefore e p) ≡ false →
     (((x : Entry) → List·Memᴰ x (q ++ answers e p) → Fresh (delivered e p) x) → (x : Entry) → List·Memᴰ x (q ++ answers e p) → Agrees (delivered e p) x) →
     (x : Entry) → List·Memᴰ x (e ∷ q) → Agrees p x
@@ -172,7 +182,8 @@ run-agrees (suc n) u p (e ∷ q) f fresh ends honest h =
 -- ---- a half
 
 -- one end has all keys of the other after a half in which no match is false and nothing grows
-pub half-sub : (s : End) (p : Pair) → Rises p → length (unionOf p) ≤ limit → anyFalse (half s p .lines) ≡ false → size (half s p .stores) ≤ size p → Sub (keysAt s p) (keysAt (other s) p)
+pub half-sub : (s : End) (p : Pair) → Rises p → length (unionOf p) ≤ limit → anyFalse (half s p .lines) ≡ false → size (half s p .stores) ≤ size p →
+    Sub (keysAt s p) (keysAt (other s) p)
 half-sub s p r h honest still =
     whole (keysAt s p) (r s)
     (run-agrees (length (unionOf p)) (unionOf p) p (opening s p) (halfway-opening s p r h .fine) (waits-fresh p s (keysAt s p) (wholeClaim (keysAt s p)) refl)
@@ -193,7 +204,8 @@ half-sub s p r h honest still =
 
 anyFalse-append-left : (a b : List Line) → anyFalse (a ++ b) ≡ false → anyFalse a ≡ false
 anyFalse-append-left [] b h = refl
-anyFalse-append-left (x ∷ xs) b h = both (x .isFalse) (anyFalse xs) (or-left (x .isFalse) (anyFalse (xs ++ b)) h) (anyFalse-append-left xs b (or-right (x .isFalse) (anyFalse (xs ++ b)) h))
+anyFalse-append-left (x ∷ xs) b h =
+    both (x .isFalse) (anyFalse xs) (or-left (x .isFalse) (anyFalse (xs ++ b)) h) (anyFalse-append-left xs b (or-right (x .isFalse) (anyFalse (xs ++ b)) h))
   where
     both : (s t : Bool) → s ≡ false → t ≡ false → (s || t) ≡ false
     both true t i j = i
@@ -203,7 +215,8 @@ anyFalse-append-right : (a b : List Line) → anyFalse (a ++ b) ≡ false → an
 anyFalse-append-right [] b h = h
 anyFalse-append-right (x ∷ xs) b h = anyFalse-append-right xs b (or-right (x .isFalse) (anyFalse (xs ++ b)) h)
 
-pub progress : (l r : List ℕ) → Rising l → Rising r → length (union l r) ≤ limit → anyFalse (roundOf l r .lines) ≡ false → size (roundOf l r .stores) ≤ length l + length r → l ≡ r
+pub progress : (l r : List ℕ) → Rising l → Rising r → length (union l r) ≤ limit → anyFalse (roundOf l r .lines) ≡ false →
+    size (roundOf l r .stores) ≤ length l + length r → l ≡ r
 unfolding roundOf
 progress l r rl rr h honest still =
     let p : Pair = pair l r in
@@ -216,5 +229,6 @@ progress l r rl rr h honest still =
     let grew′ : size p′ ≤ size (half rightEnd p′ .stores) = grown-size p′ (half rightEnd p′ .stores) rp′ rp″ (half-grown rightEnd p′) in
     let same : p ≡ p′ = grown-same p p′ rp rp′ (half-grown leftEnd p) (omega arith) in
     let a : Sub l r = half-sub leftEnd p rp h (anyFalse-append-left (half leftEnd p .lines) (half rightEnd p′ .lines) honest) (omega arith) in
-    let b : Sub (p′ .right) (p′ .left) = half-sub rightEnd p′ rp′ h′ (anyFalse-append-right (half leftEnd p .lines) (half rightEnd p′ .lines) honest) (omega arith) in
+    let b : Sub (p′ .right) (p′ .left)
+    = half-sub rightEnd p′ rp′ h′ (anyFalse-append-right (half leftEnd p .lines) (half rightEnd p′ .lines) honest) (omega arith) in
     rising-ext l r rl rr a (subst (λ (x : Pair). Sub (x .right) (x .left)) (sym same) b)

@@ -69,7 +69,8 @@ answers-pairwise p e r q = go (reply c (keysBefore e p)) (reply-answered c (keys
     go _ (asked {d = d} i g) = (none (entry (receiver e) k d), tt)
     go _ (helped-one {d = d} g o i t) = (none (entry (receiver e) k d), tt)
     go _ (helped-two {d = d} {e = d′} y z g o i j x t v w) =
-        let a : d .hi < d′ .lo = subst (λ (m : ℕ). m < d′ .lo) (sym (ap (λ (b : Claim). b .hi) i)) (subst (λ (m : ℕ). last y < m) (sym (ap (λ (b : Claim). b .lo) j)) w) in (
+        let a : d .hi < d′ .lo
+        = subst (λ (m : ℕ). m < d′ .lo) (sym (ap (λ (b : Claim). b .hi) i)) (subst (λ (m : ℕ). last y < m) (sym (ap (λ (b : Claim). b .lo) j)) w) in (
           λ f m. two d d′ a f m,
           (none (entry (receiver e) k d′), tt),
         )
@@ -107,7 +108,8 @@ half-pairwise n s p r h = run-pairwise n (unionOf p) p (opening s p) (halfway-op
 
 pub separate-agree : (p : Pair) (e f : Entry) → Passes (e .claim) → Separate e f → AgreeOn p (delivered e p) f
 separate-agree p e f q s =
-    holding-each (λ (t : End) (l : List ℕ). between (f .claim .lo) (f .claim .hi) (keysAt t p) ≡ between (f .claim .lo) (f .claim .hi) l) (receiver e) (hear (e .claim) (keysBefore e p)) p
+    holding-each (λ (t : End) (l : List ℕ). between (f .claim .lo) (f .claim .hi) (keysAt t p) ≡ between (f .claim .lo) (f .claim .hi) l) (receiver e)
+    (hear (e .claim) (keysBefore e p)) p
     (sym (between-insertAll-outside (f .claim .lo) (f .claim .hi) (adding (e .claim) (keysBefore e p)) (keysBefore e p) (λ k m. outside k s (adding-mem (e .claim) (keysBefore e p) k m))))
     (λ t. refl)
   where
@@ -140,11 +142,14 @@ run-sum (suc n) u p (e ∷ q) r f w h =
     let a₁ : weights u p′ ((q ++ r) ++ ans) ≡ weights u p′ (q ++ r) + weights u p′ ans = weights-append u p′ (q ++ r) ans in
     let a₂ : weights u p (q ++ r) ≡ weights u p q + weights u p r = weights-append u p q r in
     let least : 1 ≤ weight u p e = weight-least u p e (f .sound e (List·Memᴰ·head refl)) (f .rises) (f .within) (f .whole) in
-    let i₁ : length (run n p′ ((q ++ r) ++ ans) .lines) ≡ length (run n p′ (q ++ r) .lines) + length (run n p′ ans .lines) = run-sum n u p′ (q ++ r) ans f′ w′ (omega arith) in
+    let i₁ : length (run n p′ ((q ++ r) ++ ans) .lines) ≡ length (run n p′ (q ++ r) .lines) + length (run n p′ ans .lines)
+    = run-sum n u p′ (q ++ r) ans f′ w′ (omega arith) in
     let i₂ : length (run n p′ (q ++ r) .lines) ≡ length (run n p′ q .lines) + length (run n p′ r .lines)
     = run-sum n u p′ q r (fine-part u p′ ((q ++ r) ++ ans) (q ++ r) f′ (λ x m. Memᴰ·append-left ans m)) (pairwise-left (q ++ r) ans w′) (omega arith) in
-    let i₃ : length (run n p′ (q ++ ans) .lines) ≡ length (run n p′ q .lines) + length (run n p′ ans .lines) = run-sum n u p′ q ans (fine-step u p e q fq) (pairwise-step u p e q fq wq) (omega arith) in
-    let more : length (run (suc n) p r .lines) ≡ length (run n p r .lines) = ap (λ (x : Run). length (x .lines)) (run-more (suc n) n u p r fr (omega arith) (omega arith)) in
+    let i₃ : length (run n p′ (q ++ ans) .lines) ≡ length (run n p′ q .lines) + length (run n p′ ans .lines)
+    = run-sum n u p′ q ans (fine-step u p e q fq) (pairwise-step u p e q fq wq) (omega arith) in
+    let more : length (run (suc n) p r .lines) ≡ length (run n p r .lines)
+    = ap (λ (x : Run). length (x .lines)) (run-more (suc n) n u p r fr (omega arith) (omega arith)) in
     let local : length (run n p r .lines) ≡ length (run n p′ r .lines)
     = ap length (run-local n u p p′ r fr (fine-part u p′ ((q ++ r) ++ ans) r f′ (λ x m. Memᴰ·append-left ans (Memᴰ·append-right q m)))
     (λ x m. separate-agree p e x (fine-passes u p e (q ++ r) f) (w .0 x (Memᴰ·append-right q m)))) in
@@ -152,6 +157,7 @@ run-sum (suc n) u p (e ∷ q) r f w h =
     omega arith
 
 -- at any time in a half: what waits may be taken apart anywhere
-pub runAll-sum : (p : Pair) (q r : List Entry) → Halfway p (q ++ r) → Pairwise (q ++ r) → length (runAll p (q ++ r) .lines) ≡ length (runAll p q .lines) + length (runAll p r .lines)
+pub runAll-sum : (p : Pair) (q r : List Entry) → Halfway p (q ++ r) → Pairwise (q ++ r) →
+    length (runAll p (q ++ r) .lines) ≡ length (runAll p q .lines) + length (runAll p r .lines)
 unfolding runAll
 runAll-sum p q r h w = run-sum (length (unionOf p)) (unionOf p) p q r (h .fine) w (h .light)

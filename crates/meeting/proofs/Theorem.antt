@@ -25,12 +25,13 @@ good-ready n w ks g k = record { order = g .ordered k .store; laid = g .laid k }
 pub every-list : (n : ℕ) (es : List Event) → AllMeant n es start → Demand3 n es
 every-list n es m =
     let g : Good n (end es) (enteredIn es) = good-end n es m in
+    let ready : (k : ℕ) → Ready (end es .kiosks k .store) = good-ready n (end es) (enteredIn es) g in
     record {
       rises = λ k h. true-rising (keysIn (end es) k) (inOrder-rising (end es .kiosks k .store) (g .ordered k .store));
       ordered = λ k h. ordered-nodeInOrder (end es .kiosks k) (g .ordered k);
       exact = λ x. (λ t. g .within (t .0) x (t .2), g .found x);
       bounded = λ before others e k j records. met-bounded (end before .kiosks k .store) (end before .kiosks j .store) records;
-      together = λ k j hk hj different ts enough carried honest. meeting (end es) k j different ts (good-ready n (end es) (enteredIn es) g k) (good-ready n (end es) (enteredIn es) g j) enough carried honest;
+      together = λ k j hk hj different ts. meeting (end es) k j different ts (ready k) (ready j);
     }
 
 pub every-list-meets : (n : ℕ) (es : List Event) → AllMeant n es start → different (enteredIn es) ≤ limit → Demand3 n es

@@ -16,7 +16,7 @@ use Rattle.rounds.specs.Node.{emptyNode}
 use Rattle.rounds.specs.Call.{taken, beaten, beatenLent, met, metLent}
 use Rattle.meeting.specs.Event.{Event, To, enters, makes, delivers, beats, meets}
 
--- each kiosk's node, and "the claims made .. as they were then"
+-- Each kiosk's node, and "the claims made .. as they were then". A list of events of n kiosks names those below n (Premise), and changes no other.
 pub record World : Type 0 where
   pub kiosks : ℕ → Node
   pub made : List Claim

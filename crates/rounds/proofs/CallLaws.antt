@@ -46,21 +46,28 @@ takeQuestions-yes n c h =
     (λ (e : firstNo (claimQuestions c) ≡ 0). e)
     (λ (f : firstNo (claimQuestions c) ≡ 0 → ⊥). absurd (f (sym (firstNo-append-no (claimQuestions c) (question6 (ends c) (nodeKeys n) ∷ []) f) ∙ a .1)))
     (eq-or-ne (firstNo (claimQuestions c)) 0) in
-    let b : firstNo (question6 (ends c) (nodeKeys n) ∷ []) ≡ 0 = sym (firstNo-append-zero (claimQuestions c) (question6 (ends c) (nodeKeys n) ∷ []) (claimQuestions-numbered c) j) ∙ a .1 in
+    let b : firstNo (question6 (ends c) (nodeKeys n) ∷ []) ≡ 0
+    = sym (firstNo-append-zero (claimQuestions c) (question6 (ends c) (nodeKeys n) ∷ []) (claimQuestions-numbered c) j) ∙ a .1 in
     let d = firstNo-zero (question6 (ends c) (nodeKeys n)) [] (omega arith) b in
     record {
       node = nodeInOrder-ordered n (a .0);
       judged = judged-firstNo c ∙ j;
-      room = let z : length (insertAll (ends c) (nodeKeys n)) < limit + 1 = ltb-true (length (insertAll (ends c) (nodeKeys n))) (limit + 1) (d .0) in omega arith;
+      room =
+          let z : length (insertAll (ends c) (nodeKeys n)) < limit + 1 = ltb-true (length (insertAll (ends c) (nodeKeys n))) (limit + 1) (d .0) in omega arith;
     }
 
-pub taken-done : (n : Node) (c : Claim) → firstNo (takeQuestions n c) ≡ 0 → taken n c ≡ record { number = 0; node = nodeOf (hear c (nodeKeys n)) (tableWith c (pendingOf n)) }
+pub taken-done : (n : Node) (c : Claim) → firstNo (takeQuestions n c) ≡ 0 →
+    taken n c ≡ record { number = 0; node = nodeOf (hear c (nodeKeys n)) (tableWith c (pendingOf n)) }
 unfolding taken
-taken-done n c h = settle-done (firstNo (takeQuestions n c)) (record { number = 0; node = nodeOf (hear c (nodeKeys n)) (tableWith c (pendingOf n)) }) (λ x. record { number = x; node = n }) h
+taken-done n c h =
+    settle-done (firstNo (takeQuestions n c)) (record { number = 0; node = nodeOf (hear c (nodeKeys n)) (tableWith c (pendingOf n)) })
+    (λ x. record { number = x; node = n }) h
 
 pub taken-refused : (n : Node) (c : Claim) → (firstNo (takeQuestions n c) ≡ 0 → ⊥) → taken n c ≡ record { number = firstNo (takeQuestions n c); node = n }
 unfolding taken
-taken-refused n c f = settle-refused (firstNo (takeQuestions n c)) (record { number = 0; node = nodeOf (hear c (nodeKeys n)) (tableWith c (pendingOf n)) }) (λ x. record { number = x; node = n }) f
+taken-refused n c f =
+    settle-refused (firstNo (takeQuestions n c)) (record { number = 0; node = nodeOf (hear c (nodeKeys n)) (tableWith c (pendingOf n)) })
+    (λ x. record { number = x; node = n }) f
 
 -- ---- a beat
 
@@ -75,21 +82,24 @@ beatQuestions-yes n lent h =
     record { node = nodeInOrder-ordered n (a .0); room = leb-true beatLimit (length lent / 4) (b .0) }
 
 pub beaten-done : (n : Node) (lent : List ℕ) → firstNo (beatQuestions n lent) ≡ 0 →
-    beaten n lent ≡ record { number = 0; node = nodeOf (nodeKeys n) (serve (nodeKeys n) (pendingOf n) .kept); written = length (sending (nodeKeys n) (pendingOf n)) }
+    beaten n lent ≡ record
+    { number = 0; node = nodeOf (nodeKeys n) (serve (nodeKeys n) (pendingOf n) .kept); written = length (sending (nodeKeys n) (pendingOf n)) }
 unfolding beaten
 beaten-done n lent h =
     settle-done (firstNo (beatQuestions n lent))
     (record { number = 0; node = nodeOf (nodeKeys n) (serve (nodeKeys n) (pendingOf n) .kept); written = length (sending (nodeKeys n) (pendingOf n)) })
     (λ x. record { number = x; node = n; written = 0 }) h
 
-pub beaten-refused : (n : Node) (lent : List ℕ) → (firstNo (beatQuestions n lent) ≡ 0 → ⊥) → beaten n lent ≡ record { number = firstNo (beatQuestions n lent); node = n; written = 0 }
+pub beaten-refused : (n : Node) (lent : List ℕ) → (firstNo (beatQuestions n lent) ≡ 0 → ⊥) →
+    beaten n lent ≡ record { number = firstNo (beatQuestions n lent); node = n; written = 0 }
 unfolding beaten
 beaten-refused n lent f =
     settle-refused (firstNo (beatQuestions n lent))
     (record { number = 0; node = nodeOf (nodeKeys n) (serve (nodeKeys n) (pendingOf n) .kept); written = length (sending (nodeKeys n) (pendingOf n)) })
     (λ x. record { number = x; node = n; written = 0 }) f
 
-pub beatenLent-done : (n : Node) (lent : List ℕ) → firstNo (beatQuestions n lent) ≡ 0 → beatenLent n lent ≡ writtenOver (claimWords (sending (nodeKeys n) (pendingOf n))) lent
+pub beatenLent-done : (n : Node) (lent : List ℕ) → firstNo (beatQuestions n lent) ≡ 0 →
+    beatenLent n lent ≡ writtenOver (claimWords (sending (nodeKeys n) (pendingOf n))) lent
 unfolding beatenLent
 beatenLent-done n lent h = settle-done (firstNo (beatQuestions n lent)) (writtenOver (claimWords (sending (nodeKeys n) (pendingOf n))) lent) (λ x. lent) h
 
@@ -128,14 +138,16 @@ met-done s t n h =
     (record { number = 0; left = storeOf (roundBy s t .stores .left); right = storeOf (roundBy s t .stores .right); deliveries = length (roundBy s t .lines) })
     (λ x. record { number = x; left = s; right = t; deliveries = 0 }) h
 
-pub met-refused : (s t : Store) (n : ℕ) → (firstNo (roundQuestions s t n) ≡ 0 → ⊥) → met s t n ≡ record { number = firstNo (roundQuestions s t n); left = s; right = t; deliveries = 0 }
+pub met-refused : (s t : Store) (n : ℕ) → (firstNo (roundQuestions s t n) ≡ 0 → ⊥) →
+    met s t n ≡ record { number = firstNo (roundQuestions s t n); left = s; right = t; deliveries = 0 }
 unfolding met
 met-refused s t n f =
     settle-refused (firstNo (roundQuestions s t n))
     (record { number = 0; left = storeOf (roundBy s t .stores .left); right = storeOf (roundBy s t .stores .right); deliveries = length (roundBy s t .lines) })
     (λ x. record { number = x; left = s; right = t; deliveries = 0 }) f
 
-pub metLent-done : (s t : Store) (lent : List Delivery) → firstNo (roundQuestions s t (length lent)) ≡ 0 → metLent s t lent ≡ writtenOver (transcript (roundBy s t)) lent
+pub metLent-done : (s t : Store) (lent : List Delivery) → firstNo (roundQuestions s t (length lent)) ≡ 0 →
+    metLent s t lent ≡ writtenOver (transcript (roundBy s t)) lent
 unfolding metLent
 metLent-done s t lent h = settle-done (firstNo (roundQuestions s t (length lent))) (writtenOver (transcript (roundBy s t)) lent) (λ x. lent) h
 
@@ -143,20 +155,24 @@ pub metLent-refused : (s t : Store) (lent : List Delivery) → (firstNo (roundQu
 unfolding metLent
 metLent-refused s t lent f = settle-refused (firstNo (roundQuestions s t (length lent))) (writtenOver (transcript (roundBy s t)) lent) (λ x. lent) f
 
-pub metWords-done : (s t : Store) (lent : List ℕ) → firstNo (roundQuestions s t (length lent / 5)) ≡ 0 → metWords s t lent ≡ writtenOver (deliveryWords (transcript (roundBy s t))) lent
+pub metWords-done : (s t : Store) (lent : List ℕ) → firstNo (roundQuestions s t (length lent / 5)) ≡ 0 →
+    metWords s t lent ≡ writtenOver (deliveryWords (transcript (roundBy s t))) lent
 unfolding metWords
-metWords-done s t lent h = settle-done (firstNo (roundQuestions s t (length lent / 5))) (writtenOver (deliveryWords (transcript (roundBy s t))) lent) (λ x. lent) h
+metWords-done s t lent h =
+    settle-done (firstNo (roundQuestions s t (length lent / 5))) (writtenOver (deliveryWords (transcript (roundBy s t))) lent) (λ x. lent) h
 
 pub metWords-refused : (s t : Store) (lent : List ℕ) → (firstNo (roundQuestions s t (length lent / 5)) ≡ 0 → ⊥) → metWords s t lent ≡ lent
 unfolding metWords
-metWords-refused s t lent f = settle-refused (firstNo (roundQuestions s t (length lent / 5))) (writtenOver (deliveryWords (transcript (roundBy s t))) lent) (λ x. lent) f
+metWords-refused s t lent f =
+    settle-refused (firstNo (roundQuestions s t (length lent / 5))) (writtenOver (deliveryWords (transcript (roundBy s t))) lent) (λ x. lent) f
 
 -- ---- what comes out is in order
 
 pub ordered-taken : (n : Node) (c : Claim) → TakeYes n c → Ordered (nodeOf (hear c (nodeKeys n)) (tableWith c (pendingOf n)))
 ordered-taken n c y =
     let l : List ℕ = nodeKeys n in
-    ordered-nodeOf (hear c l) (tableWith c (pendingOf n)) (hear-rising c l (inOrder-rising (n .store) (y .node .store))) (y .room) (length-tableWith c (pendingOf n)) (climbs-tableWith c (pendingOf n) (y .node .table))
+    ordered-nodeOf (hear c l) (tableWith c (pendingOf n)) (hear-rising c l (inOrder-rising (n .store) (y .node .store))) (y .room)
+    (length-tableWith c (pendingOf n)) (climbs-tableWith c (pendingOf n) (y .node .table))
     (λ d m.
     ⊎-elim
     {C = Fits d (hear c l)}

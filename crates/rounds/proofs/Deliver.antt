@@ -42,7 +42,8 @@ adding-within u p e s w k m =
 
 -- ---- the answers are sound
 
-pub waits-sound : (p : Pair) (s : End) (l : List ℕ) (cs : List Claim) → Rising l → Sub l (keysAt s p) → ((d : Claim) → List·Memᴰ d cs → Spanned l d) → AllSound p (waits s l cs)
+pub waits-sound : (p : Pair) (s : End) (l : List ℕ) (cs : List Claim) → Rising l → Sub l (keysAt s p) → ((d : Claim) → List·Memᴰ d cs → Spanned l d) →
+    AllSound p (waits s l cs)
 waits-sound p s l [] r h f e m = absurd (List·Memᴰ·not-nil m)
 waits-sound p s l (c ∷ cs) r h f e (List·Memᴰ·head i) =
     let t : Spanned l c = f c (List·Memᴰ·head refl) in
@@ -50,7 +51,8 @@ waits-sound p s l (c ∷ cs) r h f e (List·Memᴰ·head i) =
     subst (Sound p) (ap (entry s l) (sym (t .claim)) ∙ sym i) a
 waits-sound p s l (c ∷ cs) r h f e (List·Memᴰ·tail m) = waits-sound p s l cs r h (λ d n. f d (List·Memᴰ·tail n)) e m
 
-pub answers-sound : (u : List ℕ) (p : Pair) (e : Entry) → Sound p e → Rises p → Within p u → Rising u → length u ≤ limit → AllSound (delivered e p) (answers e p)
+pub answers-sound : (u : List ℕ) (p : Pair) (e : Entry) → Sound p e → Rises p → Within p u → Rising u → length u ≤ limit →
+    AllSound (delivered e p) (answers e p)
 answers-sound u p e s r w ru h =
     waits-sound (delivered e p) (receiver e) (hear (e .claim) (keysBefore e p)) (claimsOf (reply (e .claim) (keysBefore e p)))
     (hear-rising (e .claim) (keysBefore e p) (r (receiver e)))
@@ -63,7 +65,8 @@ answers-sound u p e s r w ru h =
 pub keysAt-back : (e : Entry) (p : Pair) → keysAt (other (receiver e)) (delivered e p) ≡ keysAt (e .sender) p
 keysAt-back e p = ap (λ (s : End). keysAt s (delivered e p)) (other-other (e .sender)) ∙ keysAt-sender e p
 
-pub answers-weight : (u : List ℕ) (p : Pair) (e : Entry) → Sound p e → Rises p → Within p u → Rising u → length u ≤ limit → weights u (delivered e p) (answers e p) + 1 ≤ weight u p e
+pub answers-weight : (u : List ℕ) (p : Pair) (e : Entry) → Sound p e → Rises p → Within p u → Rising u → length u ≤ limit →
+    weights u (delivered e p) (answers e p) + 1 ≤ weight u p e
 answers-weight u p e s r w ru h = go (reply c l) (reply-answered c l rl (sound-limit p e u s w ru h))
   where
     c : Claim
@@ -92,10 +95,13 @@ answers-weight u p e s r w ru h = go (reply c l) (reply-answered c l rl (sound-l
     ask-weight g =
         let a : c .cnt ≡ length (e .held) = sound-cnt p e s in
         let b : length (e .held) ≤ length (between (c .lo) (c .hi) (keysAt (e .sender) p))
-        = rising-length (e .held) (between (c .lo) (c .hi) (keysAt (e .sender) p)) (s .rises) (between-rising (c .lo) (c .hi) (keysAt (e .sender) p) (r (e .sender))) (sound-sub-between p e (keysAt (e .sender) p) s (s .there)) in
-        let b′ : length (e .held) ≤ length (between (c .lo) (c .hi) (keysAt (other (receiver e)) p′)) = subst (λ (m : List ℕ). length (e .held) ≤ length (between (c .lo) (c .hi) m)) (sym (keysAt-back e p)) b in
+        = rising-length (e .held) (between (c .lo) (c .hi) (keysAt (e .sender) p)) (s .rises)
+        (between-rising (c .lo) (c .hi) (keysAt (e .sender) p) (r (e .sender))) (sound-sub-between p e (keysAt (e .sender) p) s (s .there)) in
+        let b′ : length (e .held) ≤ length (between (c .lo) (c .hi) (keysAt (other (receiver e)) p′))
+        = subst (λ (m : List ℕ). length (e .held) ≤ length (between (c .lo) (c .hi) m)) (sym (keysAt-back e p)) b in
         let d : weight u p′ (entry (receiver e) k ask) ≡ length (between (c .lo) (c .hi) u) - 1 = weight-less u p′ (entry (receiver e) k ask) (omega arith) in
-        let f : length (between (c .lo) (c .hi) l) ≤ length (between (c .lo) (c .hi) k) = length-sub-between (c .lo) (c .hi) l k rl (hear-rising c l rl) (hear-old c l) in
+        let f : length (between (c .lo) (c .hi) l) ≤ length (between (c .lo) (c .hi) k)
+        = length-sub-between (c .lo) (c .hi) l k rl (hear-rising c l rl) (hear-old c l) in
         let i : weight u p e ≡ length (between (c .lo) (c .hi) u) = weight-full u p e (omega arith) in
         let j : 1 ≤ weight u p e = weight-least u p e s r w ru in
         omega arith
@@ -104,18 +110,27 @@ answers-weight u p e s r w ru h = go (reply c l) (reply-answered c l rl (sound-l
     go _ (matched i) = omega (arith, weight-least u p e s r w ru)
     go _ (asked {d = d} i g) =
         let t : d ≡ ask = i ∙ spanClaim-range (c .lo) (c .hi) k (hear-rising c l rl) (passes .ordered) (hear-lo c l) (hear-hi c l) in
-        let a : weight u p′ (entry (receiver e) k d) + 1 ≤ weight u p e = subst (λ (x : Claim). weight u p′ (entry (receiver e) k x) + 1 ≤ weight u p e) (sym t) (ask-weight g) in
+        let a : weight u p′ (entry (receiver e) k d) + 1 ≤ weight u p e
+        = subst (λ (x : Claim). weight u p′ (entry (receiver e) k x) + 1 ≤ weight u p e) (sym t) (ask-weight g) in
         omega arith
     go _ (helped-one {d = d} g o i t) =
         let y : List ℕ = inside (c .lo) (c .hi) k in
-        let a : weight u p′ (entry (receiver e) k d) ≤ length (between (first y) (last y) u) = subst (λ (x : Claim). weight u p′ (entry (receiver e) k x) ≤ length (between (first y) (last y) u)) (sym i) (weight-le u p′ (entry (receiver e) k (spanClaim y))) in
-        let b : length (between (first y) (last y) u) + 2 ≤ length (between (c .lo) (c .hi) u) = length-between-within (c .lo) (c .hi) (first y) (last y) u ru o (mem-lo u p e s w) (mem-hi u p e s w) (t .after) (t .before) in
+        let a : weight u p′ (entry (receiver e) k d) ≤ length (between (first y) (last y) u)
+        = subst (λ (x : Claim). weight u p′ (entry (receiver e) k x) ≤ length (between (first y) (last y) u)) (sym i)
+        (weight-le u p′ (entry (receiver e) k (spanClaim y))) in
+        let b : length (between (first y) (last y) u) + 2 ≤ length (between (c .lo) (c .hi) u)
+        = length-between-within (c .lo) (c .hi) (first y) (last y) u ru o (mem-lo u p e s w) (mem-hi u p e s w) (t .after) (t .before) in
         let f : length (between (c .lo) (c .hi) u) ≤ weight u p e + 1 = weight-ge u p e in
         omega arith
     go _ (helped-two {d = d} {e = d′} y z g o i j x t v q) =
-        let a : weight u p′ (entry (receiver e) k d) ≤ length (between (first y) (last y) u) = subst (λ (x : Claim). weight u p′ (entry (receiver e) k x) ≤ length (between (first y) (last y) u)) (sym i) (weight-le u p′ (entry (receiver e) k (spanClaim y))) in
-        let b : weight u p′ (entry (receiver e) k d′) ≤ length (between (first z) (last z) u) = subst (λ (x : Claim). weight u p′ (entry (receiver e) k x) ≤ length (between (first z) (last z) u)) (sym j) (weight-le u p′ (entry (receiver e) k (spanClaim z))) in
+        let a : weight u p′ (entry (receiver e) k d) ≤ length (between (first y) (last y) u)
+        = subst (λ (x : Claim). weight u p′ (entry (receiver e) k x) ≤ length (between (first y) (last y) u)) (sym i)
+        (weight-le u p′ (entry (receiver e) k (spanClaim y))) in
+        let b : weight u p′ (entry (receiver e) k d′) ≤ length (between (first z) (last z) u)
+        = subst (λ (x : Claim). weight u p′ (entry (receiver e) k x) ≤ length (between (first z) (last z) u)) (sym j)
+        (weight-le u p′ (entry (receiver e) k (spanClaim z))) in
         let m : length (between (first y) (last y) u) + length (between (first z) (last z) u) + 2 ≤ length (between (c .lo) (c .hi) u)
-        = length-between-two (c .lo) (c .hi) (first y) (last y) (first z) (last z) u ru o (mem-lo u p e s w) (mem-hi u p e s w) (t .after) q (v .after) (t .before) (v .before) in
+        = length-between-two (c .lo) (c .hi) (first y) (last y) (first z) (last z) u ru o (mem-lo u p e s w) (mem-hi u p e s w) (t .after) q
+        (v .after) (t .before) (v .before) in
         let f : length (between (c .lo) (c .hi) u) ≤ weight u p e + 1 = weight-ge u p e in
         omega arith

@@ -94,7 +94,8 @@ abbrev pub entry : End → List ℕ → Claim → Entry
 entry s l c = record { sender = s; claim = c; held = between (c .lo) (c .hi) l }
 
 -- a claim whose keys from lo to hi are y is sound where it is the claim of y
-pub sound-entry : (p : Pair) (s : End) (l y : List ℕ) → Rising l → Sub l (keysAt s p) → 0 < length y → between (first y) (last y) l ≡ y → Sound p (entry s l (spanClaim y))
+pub sound-entry : (p : Pair) (s : End) (l y : List ℕ) → Rising l → Sub l (keysAt s p) → 0 < length y → between (first y) (last y) l ≡ y →
+    Sound p (entry s l (spanClaim y))
 sound-entry p s l y r h n e = record {
   is = ap spanClaim (sym e);
   rises = between-rising (first y) (last y) l r;
@@ -125,12 +126,14 @@ unfolding weight
 weight-ge u p e = omega arith
 
 -- the receiver holds no more than the claim counts
-pub weight-full : (u : List ℕ) (p : Pair) (e : Entry) → length (between (e .claim .lo) (e .claim .hi) (keysBefore e p)) ≤ e .claim .cnt → weight u p e ≡ length (between (e .claim .lo) (e .claim .hi) u)
+pub weight-full : (u : List ℕ) (p : Pair) (e : Entry) → length (between (e .claim .lo) (e .claim .hi) (keysBefore e p)) ≤ e .claim .cnt →
+    weight u p e ≡ length (between (e .claim .lo) (e .claim .hi) u)
 unfolding weight
 weight-full u p e h = omega arith
 
 -- the receiver holds more
-pub weight-less : (u : List ℕ) (p : Pair) (e : Entry) → e .claim .cnt < length (between (e .claim .lo) (e .claim .hi) (keysBefore e p)) → weight u p e ≡ length (between (e .claim .lo) (e .claim .hi) u) - 1
+pub weight-less : (u : List ℕ) (p : Pair) (e : Entry) → e .claim .cnt < length (between (e .claim .lo) (e .claim .hi) (keysBefore e p)) →
+    weight u p e ≡ length (between (e .claim .lo) (e .claim .hi) u) - 1
 unfolding weight
 weight-less u p e h = omega arith
 
@@ -158,4 +161,5 @@ weight-least u p e s r w ru =
 -- so there wait no more entries than their weights come to
 pub length-weights : (u : List ℕ) (p : Pair) (q : List Entry) → AllSound p q → Rises p → Within p u → Rising u → length q ≤ weights u p q
 length-weights u p [] s r w ru = omega arith
-length-weights u p (e ∷ q) s r w ru = omega (arith, weight-least u p e (s e (List·Memᴰ·head refl)) r w ru, length-weights u p q (λ f m. s f (List·Memᴰ·tail m)) r w ru)
+length-weights u p (e ∷ q) s r w ru =
+    omega (arith, weight-least u p e (s e (List·Memᴰ·head refl)) r w ru, length-weights u p q (λ f m. s f (List·Memᴰ·tail m)) r w ru)

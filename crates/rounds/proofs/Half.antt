@@ -43,11 +43,15 @@ fine-step u p e q f =
           (answers-sound u p e s (f .rises) (f .within) (f .whole) (f .fits));
     }
 
-pub weights-step : (u : List ℕ) (p : Pair) (e : Entry) (q : List Entry) → Fine u p (e ∷ q) → weights u (delivered e p) (q ++ answers e p) + 1 ≤ weights u p (e ∷ q)
+pub weights-step : (u : List ℕ) (p : Pair) (e : Entry) (q : List Entry) → Fine u p (e ∷ q) →
+    weights u (delivered e p) (q ++ answers e p) + 1 ≤ weights u p (e ∷ q)
 weights-step u p e q f =
-    let a : weights u (delivered e p) (q ++ answers e p) ≡ weights u (delivered e p) q + weights u (delivered e p) (answers e p) = weights-append u (delivered e p) q (answers e p) in
-    let b : weights u (delivered e p) q ≤ weights u p q = weights-grown u p (delivered e p) q (f .rises) (delivered-rises e p (f .rises)) (delivered-grown e p) in
-    let c : weights u (delivered e p) (answers e p) + 1 ≤ weight u p e = answers-weight u p e (fine-first u p e q f) (f .rises) (f .within) (f .whole) (f .fits) in
+    let a : weights u (delivered e p) (q ++ answers e p) ≡ weights u (delivered e p) q + weights u (delivered e p) (answers e p)
+    = weights-append u (delivered e p) q (answers e p) in
+    let b : weights u (delivered e p) q ≤ weights u p q
+    = weights-grown u p (delivered e p) q (f .rises) (delivered-rises e p (f .rises)) (delivered-grown e p) in
+    let c : weights u (delivered e p) (answers e p) + 1 ≤ weight u p e
+    = answers-weight u p e (fine-first u p e q f) (f .rises) (f .within) (f .whole) (f .fits) in
     omega arith
 
 -- what waits is never more than what the weights leave: with the deliveries so far, it fits the records
@@ -75,7 +79,8 @@ pub run-grown : (n : ℕ) (p : Pair) (q : List Entry) → Grown p (run n p q .st
 unfolding run
 run-grown zero p q = grown-refl p
 run-grown (suc n) p [] = grown-refl p
-run-grown (suc n) p (e ∷ q) = grown-trans p (delivered e p) (run n (delivered e p) (q ++ answers e p) .stores) (delivered-grown e p) (run-grown n (delivered e p) (q ++ answers e p))
+run-grown (suc n) p (e ∷ q) =
+    grown-trans p (delivered e p) (run n (delivered e p) (q ++ answers e p) .stores) (delivered-grown e p) (run-grown n (delivered e p) (q ++ answers e p))
 
 pub length-run : (n : ℕ) (u : List ℕ) (p : Pair) (q : List Entry) → Fine u p q → length (run n p q .lines) ≤ weights u p q
 unfolding run
@@ -88,7 +93,8 @@ pub length-run-waiting : (n : ℕ) (u : List ℕ) (p : Pair) (q : List Entry) �
 unfolding run
 length-run-waiting zero u p q f = omega (arith, fine-length u p q f)
 length-run-waiting (suc n) u p [] f = omega arith
-length-run-waiting (suc n) u p (e ∷ q) f = omega (arith, weights-step u p e q f, length-run-waiting n u (delivered e p) (q ++ answers e p) (fine-step u p e q f))
+length-run-waiting (suc n) u p (e ∷ q) f =
+    omega (arith, weights-step u p e q f, length-run-waiting n u (delivered e p) (q ++ answers e p) (fine-step u p e q f))
 
 -- nothing waits at the end ..
 pub run-ends : (n : ℕ) (u : List ℕ) (p : Pair) (q : List Entry) → Fine u p q → weights u p q ≤ n → run n p q .waiting ≡ []
@@ -108,7 +114,8 @@ run-more (suc n) zero u p (e ∷ q) f h g = absurd (omega (arith, weights-step u
 run-more (suc n) (suc m) u p [] f h g = run-nil (suc n) p ∙ sym (run-nil (suc m) p)
 run-more (suc n) (suc m) u p (e ∷ q) f h g =
     run-cons n p e q
-    ∙ ap (noting (line e p)) (run-more n m u (delivered e p) (q ++ answers e p) (fine-step u p e q f) (omega (arith, weights-step u p e q f)) (omega (arith, weights-step u p e q f)))
+    ∙ ap (noting (line e p))
+    (run-more n m u (delivered e p) (q ++ answers e p) (fine-step u p e q f) (omega (arith, weights-step u p e q f)) (omega (arith, weights-step u p e q f)))
     ∙ sym (run-cons m p e q)
 
 -- ---- a half, at any time in it
@@ -252,7 +259,8 @@ rounded l r rl rr h =
     let h′ : length (unionOf p′) ≤ limit = subst (λ (v : List ℕ). length v ≤ limit) (sym u) h in
     let f : Fine (unionOf p′) (half rightEnd p′ .stores) (half rightEnd p′ .waiting) = half-fine rightEnd p′ rp′ h′ in
     let a : length (half leftEnd p .lines) ≤ length (unionOf p) = length-half leftEnd p rp h in
-    let b : length (half rightEnd p′ .lines) ≤ length (unionOf p) = subst (λ (v : List ℕ). length (half rightEnd p′ .lines) ≤ length v) u (length-half rightEnd p′ rp′ h′) in
+    let b : length (half rightEnd p′ .lines) ≤ length (unionOf p)
+    = subst (λ (v : List ℕ). length (half rightEnd p′ .lines) ≤ length v) u (length-half rightEnd p′ rp′ h′) in
     subst (RoundedBy l r) (sym (roundOf-halves l r)) (record {
       rises = f .rises;
       within = subst (λ (v : List ℕ). Within (half rightEnd p′ .stores) v) u (f .within);

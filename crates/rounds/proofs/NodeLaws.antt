@@ -50,7 +50,8 @@ allFit-mem (d ∷ ds) l h c (List·Memᴰ·head e) =
     let q : holdsAll (ends d) l ≡ true = and-left (holdsAll (ends d) l) (allFit ds l) (and-right (eqb (judged d) 0) (holdsAll (ends d) l && allFit ds l) h) in
     let f : Fits d l = record { passes = p; held = holdsAll-sub (ends d) l q } in
     subst (λ (x : Claim). Fits x l) (sym e) f
-allFit-mem (d ∷ ds) l h c (List·Memᴰ·tail m) = allFit-mem ds l (and-right (holdsAll (ends d) l) (allFit ds l) (and-right (eqb (judged d) 0) (holdsAll (ends d) l && allFit ds l) h)) c m
+allFit-mem (d ∷ ds) l h c (List·Memᴰ·tail m) =
+    allFit-mem ds l (and-right (holdsAll (ends d) l) (allFit ds l) (and-right (eqb (judged d) 0) (holdsAll (ends d) l && allFit ds l) h)) c m
 
 pub mem-allFit : (t : List Claim) (l : List ℕ) → ((c : Claim) → List·Memᴰ c t → Fits c l) → allFit t l ≡ true
 mem-allFit [] l f = refl
@@ -146,7 +147,8 @@ pub pendingOf-nodeOf : (l : List ℕ) (t : List Claim) → pendingOf (nodeOf l t
 unfolding nodeOf
 pendingOf-nodeOf l t = take-append-seam t (blanks (tableLimit - length t))
 
-pub ordered-nodeOf : (l : List ℕ) (t : List Claim) → Rising l → length l ≤ limit → length t ≤ tableLimit → climbs t ≡ true → ((c : Claim) → List·Memᴰ c t → Fits c l) → Ordered (nodeOf l t)
+pub ordered-nodeOf : (l : List ℕ) (t : List Claim) → Rising l → length l ≤ limit → length t ≤ tableLimit → climbs t ≡ true →
+    ((c : Claim) → List·Memᴰ c t → Fits c l) → Ordered (nodeOf l t)
 unfolding nodeOf
 ordered-nodeOf l t r h g u f = record {
   store = inOrder-storeOf l r h;
@@ -164,8 +166,10 @@ nodeOf-same n k p o =
     let h : n .count ≤ tableLimit = o .count in
     let c : length (pendingOf n) ≡ n .count = length-take-le (n .count) (n .pending) (omega arith) in
     let d : length (drop (n .count) (n .pending)) ≡ tableLimit - length (pendingOf n) = length-drop (n .count) (n .pending) ∙ (omega arith) in
-    let b : drop (n .count) (n .pending) ≡ blanks (tableLimit - length (pendingOf n)) = blanks-allUnused (drop (n .count) (n .pending)) (o .unused) ∙ ap blanks d in
-    let t : n .pending ≡ pendingOf n ++ blanks (tableLimit - length (pendingOf n)) = sym (take-append-drop (n .count) (n .pending)) ∙ ap (λ (x : List Claim). pendingOf n ++ x) b in
+    let b : drop (n .count) (n .pending) ≡ blanks (tableLimit - length (pendingOf n))
+    = blanks-allUnused (drop (n .count) (n .pending)) (o .unused) ∙ ap blanks d in
+    let t : n .pending ≡ pendingOf n ++ blanks (tableLimit - length (pendingOf n))
+    = sym (take-append-drop (n .count) (n .pending)) ∙ ap (λ (x : List Claim). pendingOf n ++ x) b in
     λ i. record { store = s i; pending = t i; count = sym c i }
 
 -- ---- the empty node

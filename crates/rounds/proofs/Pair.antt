@@ -26,7 +26,8 @@ other-other leftEnd = refl
 other-other rightEnd = refl
 
 -- what holds of the new keys and of each end's old ones holds of each end's keys
-pub holding-each : (P : End → List ℕ → Type 0) (t : End) (l : List ℕ) (p : Pair) → P t l → ((s : End) → P s (keysAt s p)) → (s : End) → P s (keysAt s (holding t l p))
+pub holding-each : (P : End → List ℕ → Type 0) (t : End) (l : List ℕ) (p : Pair) → P t l → ((s : End) → P s (keysAt s p)) → (s : End) →
+    P s (keysAt s (holding t l p))
 holding-each P leftEnd l p h f leftEnd = h
 holding-each P leftEnd l p h f rightEnd = f rightEnd
 holding-each P rightEnd l p h f leftEnd = f leftEnd
@@ -76,17 +77,23 @@ pub unionOf-rising : (p : Pair) → Rises p → Rising (unionOf p)
 unionOf-rising p r = union-rising (p .left) (p .right) (r rightEnd)
 
 pub unionOf-grown : (p p′ : Pair) → Rises p → Rises p′ → Grown p p′ → Within p′ (unionOf p) → unionOf p′ ≡ unionOf p
-unionOf-grown p p′ r r′ g w = union-grown (p .left) (p .right) (p′ .left) (p′ .right) (r rightEnd) (r′ rightEnd) (g leftEnd) (g rightEnd) (w leftEnd) (w rightEnd)
+unionOf-grown p p′ r r′ g w =
+    union-grown (p .left) (p .right) (p′ .left) (p′ .right) (r rightEnd) (r′ rightEnd) (g leftEnd) (g rightEnd) (w leftEnd) (w rightEnd)
 
 pub delivered-rises : (e : Entry) (p : Pair) → Rises p → Rises (delivered e p)
-delivered-rises e p r = holding-each (λ (s : End) (l : List ℕ). Rising l) (receiver e) (hear (e .claim) (keysBefore e p)) p (insertAll-rising (adding (e .claim) (keysBefore e p)) (keysBefore e p) (r (receiver e))) r
+delivered-rises e p r =
+    holding-each (λ (s : End) (l : List ℕ). Rising l) (receiver e) (hear (e .claim) (keysBefore e p)) p
+    (insertAll-rising (adding (e .claim) (keysBefore e p)) (keysBefore e p) (r (receiver e))) r
 
 pub delivered-within : (e : Entry) (p : Pair) (u : List ℕ) → Sub (adding (e .claim) (keysBefore e p)) u → Within p u → Within (delivered e p) u
 delivered-within e p u h w =
-    holding-each (λ (s : End) (l : List ℕ). Sub l u) (receiver e) (hear (e .claim) (keysBefore e p)) p (insertAll-sub (adding (e .claim) (keysBefore e p)) (keysBefore e p) u h (w (receiver e))) w
+    holding-each (λ (s : End) (l : List ℕ). Sub l u) (receiver e) (hear (e .claim) (keysBefore e p)) p
+    (insertAll-sub (adding (e .claim) (keysBefore e p)) (keysBefore e p) u h (w (receiver e))) w
 
 pub delivered-grown : (e : Entry) (p : Pair) → Grown p (delivered e p)
-delivered-grown e p = holding-each (λ (s : End) (l : List ℕ). Sub (keysAt s p) l) (receiver e) (hear (e .claim) (keysBefore e p)) p (mem-insertAll-old (adding (e .claim) (keysBefore e p)) (keysBefore e p)) (grown-refl p)
+delivered-grown e p =
+    holding-each (λ (s : End) (l : List ℕ). Sub (keysAt s p) l) (receiver e) (hear (e .claim) (keysBefore e p)) p
+    (mem-insertAll-old (adding (e .claim) (keysBefore e p)) (keysBefore e p)) (grown-refl p)
 
 -- ---- how many keys both have
 
@@ -106,7 +113,8 @@ delivered-size e p = holding-size (receiver e) (hear (e .claim) (keysBefore e p)
 
 -- a delivery after which there are no more keys changed nothing
 pub delivered-heard : (e : Entry) (p : Pair) → Rises p → size (delivered e p) ≤ size p → hear (e .claim) (keysBefore e p) ≡ keysBefore e p
-delivered-heard e p r h = insertAll-same (adding (e .claim) (keysBefore e p)) (keysBefore e p) (r (receiver e)) (holding-size-le (receiver e) (hear (e .claim) (keysBefore e p)) p h)
+delivered-heard e p r h =
+    insertAll-same (adding (e .claim) (keysBefore e p)) (keysBefore e p) (r (receiver e)) (holding-size-le (receiver e) (hear (e .claim) (keysBefore e p)) p h)
 
 pub delivered-same : (e : Entry) (p : Pair) → Rises p → size (delivered e p) ≤ size p → delivered e p ≡ p
 delivered-same e p r h = ap (λ (l : List ℕ). holding (receiver e) l p) (delivered-heard e p r h) ∙ holding-same (receiver e) p

@@ -42,7 +42,8 @@ wordsBefore-trans (x ∷ xs) (y ∷ ys) (z ∷ zs) h g = go (order x y) (order y
     go (less p) (equal q) below = wordsBefore-less x z xs zs (omega arith)
     go (less p) (greater q) below = absurd (false≢true (sym (wordsBefore-greater y z ys zs q) ∙ g))
     go (equal p) (less q) below = wordsBefore-less x z xs zs (omega arith)
-    go (equal p) (equal q) below = wordsBefore-equal x z xs zs (p ∙ q) ∙ below (sym (wordsBefore-equal x y xs ys p) ∙ h) (sym (wordsBefore-equal y z ys zs q) ∙ g)
+    go (equal p) (equal q) below =
+        wordsBefore-equal x z xs zs (p ∙ q) ∙ below (sym (wordsBefore-equal x y xs ys p) ∙ h) (sym (wordsBefore-equal y z ys zs q) ∙ g)
     go (equal p) (greater q) below = absurd (false≢true (sym (wordsBefore-greater y z ys zs q) ∙ g))
     go (greater p) q below = absurd (false≢true (sym (wordsBefore-greater x y xs ys p) ∙ h))
 
@@ -114,7 +115,8 @@ climbsFrom-take : (n : ℕ) (c : Claim) (t : List Claim) → climbsFrom c t ≡ 
 climbsFrom-take zero c t h = refl
 climbsFrom-take (suc n) c [] h = refl
 climbsFrom-take (suc n) c (d ∷ ds) h =
-    and-both (before c d) (climbsFrom d (take n ds)) (and-left (before c d) (climbsFrom d ds) h) (climbsFrom-take n d ds (and-right (before c d) (climbsFrom d ds) h))
+    and-both (before c d) (climbsFrom d (take n ds)) (and-left (before c d) (climbsFrom d ds) h)
+    (climbsFrom-take n d ds (and-right (before c d) (climbsFrom d ds) h))
 
 pub climbs-take : (n : ℕ) (t : List Claim) → climbs t ≡ true → climbs (take n t) ≡ true
 climbs-take zero t h = refl
@@ -138,7 +140,8 @@ climbsFrom-kept l b (c ∷ cs) h = go (remains (reply c l)) (λ d. climbsFrom-ke
     q : climbsFrom c cs ≡ true
     q = and-right (before b c) (climbsFrom c cs) h
 
-    go : (t : Bool) → ((d : Claim) → climbsFrom d cs ≡ true → climbsFrom d (serve l cs .kept) ≡ true) → climbsFrom b (cond t (c ∷ serve l cs .kept) (serve l cs .kept)) ≡ true
+    go : (t : Bool) → ((d : Claim) → climbsFrom d cs ≡ true → climbsFrom d (serve l cs .kept) ≡ true) →
+        climbsFrom b (cond t (c ∷ serve l cs .kept) (serve l cs .kept)) ≡ true
     go true below = and-both (before b c) (climbsFrom c (serve l cs .kept)) p (below c q)
     go false below = below b (climbsFrom-lower b c cs p q)
 
@@ -157,9 +160,11 @@ insertClaim-mem c [] d (List·Memᴰ·head e) = inl e
 insertClaim-mem c [] d (List·Memᴰ·tail m) = absurd (List·Memᴰ·not-nil m)
 insertClaim-mem c (b ∷ bs) d m = go (before b c) (same b c) m (insertClaim-mem c bs d)
   where
-    go : (s t : Bool) → List·Memᴰ d (cond s (b ∷ insertClaim c bs) (cond t (b ∷ bs) (c ∷ (b ∷ bs)))) → (List·Memᴰ d (insertClaim c bs) → (d ≡ c) ⊎ List·Memᴰ d bs) → (d ≡ c) ⊎ List·Memᴰ d (b ∷ bs)
+    go : (s t : Bool) → List·Memᴰ d (cond s (b ∷ insertClaim c bs) (cond t (b ∷ bs) (c ∷ (b ∷ bs)))) →
+        (List·Memᴰ d (insertClaim c bs) → (d ≡ c) ⊎ List·Memᴰ d bs) → (d ≡ c) ⊎ List·Memᴰ d (b ∷ bs)
     go true t (List·Memᴰ·head e) below = inr (List·Memᴰ·head e)
-    go true t (List·Memᴰ·tail n) below = ⊎-elim {C = (d ≡ c) ⊎ List·Memᴰ d (b ∷ bs)} (λ (e : d ≡ c). inl e) (λ (o : List·Memᴰ d bs). inr (List·Memᴰ·tail o)) (below n)
+    go true t (List·Memᴰ·tail n) below =
+        ⊎-elim {C = (d ≡ c) ⊎ List·Memᴰ d (b ∷ bs)} (λ (e : d ≡ c). inl e) (λ (o : List·Memᴰ d bs). inr (List·Memᴰ·tail o)) (below n)
     go false true n below = inr n
     go false false (List·Memᴰ·head e) below = inl e
     go false false (List·Memᴰ·tail n) below = inr n
@@ -189,7 +194,8 @@ pub length-insertClaim : (c : Claim) (t : List Claim) → length (insertClaim c 
 length-insertClaim c [] = omega arith
 length-insertClaim c (d ∷ ds) = go (before d c) (same d c) (length-insertClaim c ds)
   where
-    go : (s t : Bool) → length (insertClaim c ds) ≤ suc (length ds) → length (cond s (d ∷ insertClaim c ds) (cond t (d ∷ ds) (c ∷ (d ∷ ds)))) ≤ suc (length (d ∷ ds))
+    go : (s t : Bool) → length (insertClaim c ds) ≤ suc (length ds) →
+        length (cond s (d ∷ insertClaim c ds) (cond t (d ∷ ds) (c ∷ (d ∷ ds)))) ≤ suc (length (d ∷ ds))
     go true t h = omega arith
     go false true h = omega arith
     go false false h = omega arith

@@ -36,7 +36,8 @@ pub union-self : (l : List ℕ) → Rising l → union l l ≡ l
 union-self l r = insertAll-held l l r (sub-refl l)
 
 pub union-comm : (l r : List ℕ) → Rising l → Rising r → union l r ≡ union r l
-union-comm l r p q = union-is l r (union r l) q (union-rising r l p) (union-right r l) (union-left r l) (union-sub r l (union l r) (union-right l r) (union-left l r))
+union-comm l r p q =
+    union-is l r (union r l) q (union-rising r l p) (union-right r l) (union-left r l) (union-sub r l (union l r) (union-right l r) (union-left l r))
 
 -- two stores that grew within the union have the same union
 pub union-grown : (l r l′ r′ : List ℕ) → Rising r → Rising r′ → Sub l l′ → Sub r r′ → Sub l′ (union l r) → Sub r′ (union l r) → union l′ r′ ≡ union l r
