@@ -17,8 +17,8 @@ use Rattle.claims.proofs.QuestionLaws.{Passes}
 use Rattle.claims.proofs.ReplyLaws.{adding-mem, Answered, matched, asked, helped-one, helped-two, reply-answered}
 use Rattle.rounds.specs.Round.{End, Pair, keysAt, Entry, waits, receiver, keysBefore, delivered, answers, Run, run, runAll}
 use Rattle.rounds.proofs.Pair.{Rises, unionOf, holding-each}
-use Rattle.rounds.proofs.Entry.{sound-limit, entry, weight, weights, weights-append, weight-least}
-use Rattle.rounds.proofs.Half.{Fine, fine-step, weights-step, run-more, Halfway, opening, halfway-opening}
+use Rattle.rounds.proofs.Entry.{entry, weight, weights, weights-append, weight-least}
+use Rattle.rounds.proofs.Half.{Fine, fine-passes, fine-step, weights-step, run-more, Halfway, opening, halfway-opening}
 use Rattle.meeting.proofs.Local.{between-insertAll-outside, AgreeOn, answers-range, run-local}
 
 -- ---- ranges apart
@@ -78,9 +78,6 @@ answers-pairwise p e r q = go (reply c (keysBefore e p)) (reply-answered c (keys
         two : (d d′ : Claim) → d .hi < d′ .lo → (f : Entry) → List·Memᴰ f (entry (receiver e) k d′ ∷ []) → Separate (entry (receiver e) k d) f
         two d d′ a f (List·Memᴰ·head s) = subst (λ (b : Entry). Separate (entry (receiver e) k d) b) (sym s) (inl a)
         two d d′ a f (List·Memᴰ·tail m) = absurd (List·Memᴰ·not-nil m)
-
-fine-passes : (u : List ℕ) (p : Pair) (e : Entry) (q : List Entry) → Fine u p (e ∷ q) → Passes (e .claim)
-fine-passes u p e q f = sound-limit p e u (f .sound e (List·Memᴰ·head refl)) (f .within) (f .whole) (f .fits)
 
 pub pairwise-step : (u : List ℕ) (p : Pair) (e : Entry) (q : List Entry) → Fine u p (e ∷ q) → Pairwise (e ∷ q) → Pairwise (q ++ answers e p)
 pairwise-step u p e q f w =

@@ -8,13 +8,14 @@ use native.Mathlib.Omega.{arith}
 use lib.ListN.{length, length-append}
 use Rattle.claims.specs.Store.{limit}
 use Rattle.claims.specs.Claim.{wholeClaim, between}
-use Rattle.claims.proofs.Rising.{Rising, Sub, sub-refl}
+use Rattle.claims.proofs.Rising.{Rising, Sub, sub-refl, rising-length}
 use Rattle.claims.proofs.Between.{length-between}
 use Rattle.claims.proofs.Span.{first, last, between-first-last}
+use Rattle.claims.proofs.QuestionLaws.{Passes}
 use Rattle.claims.proofs.ClaimLaws.{spanClaim, wholeClaim-span}
 use Rattle.rounds.specs.Round.{union, End, leftEnd, rightEnd, Pair, pair, keysAt, Entry, waits, delivered, answers, line, Run, noting, run, runAll, half, followed, roundOf}
 use Rattle.rounds.proofs.Pair.{Rises, Within, Grown, grown-refl, grown-trans, unionOf, unionOf-rising, unionOf-grown, within-unionOf, rises-pair, delivered-rises, delivered-within, delivered-grown}
-use Rattle.rounds.proofs.Entry.{Sound, AllSound, allSound-grown, allSound-append, entry, sound-entry, weight, weights, weights-append, weights-grown, weight-le, length-weights}
+use Rattle.rounds.proofs.Entry.{Sound, sound-limit, AllSound, allSound-grown, allSound-append, entry, sound-entry, weight, weights, weights-append, weights-grown, weight-le, length-weights}
 use Rattle.rounds.proofs.Deliver.{answers-sound, answers-weight, adding-within}
 
 -- ---- a fine state of a half
@@ -29,6 +30,17 @@ pub record Fine (u : List ℕ) (p : Pair) (q : List Entry) : Type 0 where
 
 fine-first : (u : List ℕ) (p : Pair) (e : Entry) (q : List Entry) → Fine u p (e ∷ q) → Sound p e
 fine-first u p e q f = f .sound e (List·Memᴰ·head refl)
+
+-- the first claim passes questions 2 to 5, ..
+pub fine-passes : (u : List ℕ) (p : Pair) (e : Entry) (q : List Entry) → Fine u p (e ∷ q) → Passes (e .claim)
+fine-passes u p e q f = sound-limit p e u (fine-first u p e q f) (f .within) (f .whole) (f .fits)
+
+-- .. and either store has room: of the state after the delivery this says that what the claim adds fits
+pub fine-count : (u : List ℕ) (p : Pair) (q : List Entry) → Fine u p q → (s : End) → length (keysAt s p) ≤ limit
+fine-count u p q f s =
+    let a : length (keysAt s p) ≤ length u = rising-length (keysAt s p) u (f .rises s) (f .whole) (f .within s) in
+    let b : length u ≤ limit = f .fits in
+    omega arith
 
 pub fine-step : (u : List ℕ) (p : Pair) (e : Entry) (q : List Entry) → Fine u p (e ∷ q) → Fine u (delivered e p) (q ++ answers e p)
 fine-step u p e q f =

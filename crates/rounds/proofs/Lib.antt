@@ -8,6 +8,7 @@
 --   Deliver    one delivery
 --   Half       a half of a round ends, and its deliveries and what waits fit the union; a round
 --   CallLaws   what the calls return, one law a return path
+--   Words      claims and records as words
 pub mod Cases
 pub mod TableLaws
 pub mod NodeLaws
@@ -17,3 +18,4 @@ pub mod Entry
 pub mod Deliver
 pub mod Half
 pub mod CallLaws
+pub mod Words
