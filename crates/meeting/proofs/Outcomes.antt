@@ -12,21 +12,16 @@ use lib.Dec.{leb, ltb, eqb}
 use lib.ListN.{length, drop}
 use Rattle.claims.specs.declared.claim.Claim.{Claim}
 use Rattle.claims.specs.declared.store.Store.{Store}
-use Rattle.claims.specs.declared.answer.Answer.the-variants.{Refused}
-use Rattle.claims.specs.declared.answer.Entered.{Entered}
-use Rattle.claims.specs.declared.answer.Made.{Made}
-use Rattle.claims.specs.declared.answer.Replied.{Replied}
 use Rattle.claims.specs.Store.{limit, keysOf, storeOf, inOrder, insert, insertAll}
-use Rattle.claims.specs.Claim.{claimOf, noClaim}
+use Rattle.claims.specs.Claim.{claimOf}
 use Rattle.claims.specs.Question.{firstNo, question1, question6, question7, claimQuestions}
-use Rattle.claims.specs.Reply.{ends, hear, reply, numberOf, claimsOf}
+use Rattle.claims.specs.Reply.{ends, hear, reply, claimsOf}
 use Rattle.claims.specs.Call.{enterQuestions, entered, makeQuestions, made, replyQuestions, replied}
 use Rattle.claims.proofs.Tests.{and-left, and-right, eq-or-ne}
-use Rattle.claims.proofs.QuestionLaws.{firstNo-zero, firstNo-append-zero, firstNo-append-no, settle-done, settle-refused, Passes, passes, claimQuestions-numbered}
+use Rattle.claims.proofs.QuestionLaws.{firstNo-zero, firstNo-append-zero, firstNo-append-no, Passes, passes, claimQuestions-numbered}
 use Rattle.claims.proofs.ReplyLaws.{numberOf-answer}
 use Rattle.rounds.specs.declared.node.Node.{Node}
 use Rattle.rounds.specs.declared.delivery.Delivery.{Delivery}
-use Rattle.rounds.specs.declared.answer.Taken.{Taken}
 use Rattle.rounds.specs.Table.{tableWith, serve, sending}
 use Rattle.rounds.specs.Node.{nodeKeys, pendingOf, nodeOf}
 use Rattle.rounds.specs.Round.{Line, transcript}
@@ -89,23 +84,16 @@ enterQuestions-yes s x h =
     let c : length (insert x (keysOf s)) < limit + 1 = ltb-true (length (insert x (keysOf s))) (limit + 1) (b .0) in
     record { store = a .0; room = omega arith }
 
-entering : ℕ → (ℕ → Node) → Entered → Outcome
-entering k kiosks a = record { number = a .number; kiosks = withStore k (a .store) kiosks; claims = [] }
-
 pub enters-done : (k x : ℕ) (kiosks : ℕ → Node) → firstNo (enterQuestions (kiosks k .store) x) ≡ 0 →
     outcome (enters k x) kiosks ≡ record { number = 0; kiosks = withStore k (storeOf (insert x (keysOf (kiosks k .store)))) kiosks; claims = [] }
-unfolding outcome entered entering
-enters-done k x kiosks h =
-    ap (entering k kiosks)
-    (settle-done (firstNo (enterQuestions (kiosks k .store) x)) (record { number = 0; store = storeOf (insert x (keysOf (kiosks k .store))) }) (λ n. record { number = n; store = kiosks k .store }) h)
+unfolding outcome entered
+enters-done k x kiosks h = rw (eq-eqb (firstNo (enterQuestions (kiosks k .store) x)) 0 h)
 
 pub enters-refused : (k x : ℕ) (kiosks : ℕ → Node) → (firstNo (enterQuestions (kiosks k .store) x) ≡ 0 → ⊥) →
     outcome (enters k x) kiosks ≡ refusal (firstNo (enterQuestions (kiosks k .store) x)) kiosks
-unfolding outcome entered entering
+unfolding outcome entered
 enters-refused k x kiosks f =
-    ap (entering k kiosks)
-    (settle-refused (firstNo (enterQuestions (kiosks k .store) x)) (record { number = 0; store = storeOf (insert x (keysOf (kiosks k .store))) }) (λ n. record { number = n; store = kiosks k .store }) f)
-    ∙ ap (refusal (firstNo (enterQuestions (kiosks k .store) x))) (withStore-same k kiosks)
+    rw (ne-eqb (firstNo (enterQuestions (kiosks k .store) x)) 0 f) (ap (refusal (firstNo (enterQuestions (kiosks k .store) x))) (withStore-same k kiosks))
 
 -- ---- making
 
@@ -124,21 +112,15 @@ makeQuestions-yes s i j h =
       below = ltb-true j (s .count) (and-right (leb i j) (ltb j (s .count)) (b .0));
     }
 
-making : (ℕ → Node) → Made → Outcome
-making kiosks a = record { number = a .number; kiosks = kiosks; claims = cond (eqb (a .number) 0) (a .claim ∷ []) [] }
-
 pub makes-done : (k i j : ℕ) (kiosks : ℕ → Node) → firstNo (makeQuestions (kiosks k .store) i j) ≡ 0 →
     outcome (makes k i j) kiosks ≡ record { number = 0; kiosks = kiosks; claims = claimOf i j (keysOf (kiosks k .store)) ∷ [] }
-unfolding outcome made making
-makes-done k i j kiosks h =
-    ap (making kiosks) (settle-done (firstNo (makeQuestions (kiosks k .store) i j)) (record { number = 0; claim = claimOf i j (keysOf (kiosks k .store)) }) (λ n. record { number = n; claim = noClaim }) h)
+unfolding outcome made
+makes-done k i j kiosks h = rw (eq-eqb (firstNo (makeQuestions (kiosks k .store) i j)) 0 h)
 
 pub makes-refused : (k i j : ℕ) (kiosks : ℕ → Node) → (firstNo (makeQuestions (kiosks k .store) i j) ≡ 0 → ⊥) →
     outcome (makes k i j) kiosks ≡ refusal (firstNo (makeQuestions (kiosks k .store) i j)) kiosks
-unfolding outcome made making
-makes-refused k i j kiosks f =
-    ap (making kiosks) (settle-refused (firstNo (makeQuestions (kiosks k .store) i j)) (record { number = 0; claim = claimOf i j (keysOf (kiosks k .store)) }) (λ n. record { number = n; claim = noClaim }) f)
-    ∙ rw (ne-eqb (firstNo (makeQuestions (kiosks k .store) i j)) 0 f)
+unfolding outcome made
+makes-refused k i j kiosks f = rw (ne-eqb (firstNo (makeQuestions (kiosks k .store) i j)) 0 f, ne-eqb (firstNo (makeQuestions (kiosks k .store) i j)) 0 f)
 
 -- ---- a claim delivered to the reply
 
@@ -162,45 +144,33 @@ replyQuestions-yes s c h =
     let z : length (insertAll (ends c) (keysOf s)) < limit + 1 = ltb-true (length (insertAll (ends c) (keysOf s))) (limit + 1) (d .0) in
     record { store = a .0; passes = passes c j; room = omega arith }
 
-replying : ℕ → (ℕ → Node) → Replied → Outcome
-replying k kiosks a = record { number = numberOf (a .answer); kiosks = withStore k (a .store) kiosks; claims = claimsOf (a .answer) }
-
 pub replies-done : (k : ℕ) (c : Claim) (kiosks : ℕ → Node) → firstNo (replyQuestions (kiosks k .store) c) ≡ 0 →
     outcome (delivers k To.reply c) kiosks
     ≡ record { number = 0; kiosks = withStore k (storeOf (hear c (keysOf (kiosks k .store)))) kiosks; claims = claimsOf (reply c (keysOf (kiosks k .store))) }
-unfolding outcome replied replying
+unfolding outcome replied
 replies-done k c kiosks h =
     let l : List ℕ = keysOf (kiosks k .store) in
-    ap (replying k kiosks)
-    (settle-done (firstNo (replyQuestions (kiosks k .store) c)) (record { store = storeOf (hear c l); answer = reply c l }) (λ n. record { store = kiosks k .store; answer = Refused n }) h)
-    ∙ ap (λ (n : ℕ). record { number = n; kiosks = withStore k (storeOf (hear c l)) kiosks; claims = claimsOf (reply c l) }) (numberOf-answer c (hear c l))
+    rw (eq-eqb (firstNo (replyQuestions (kiosks k .store) c)) 0 h)
+    (ap (λ (n : ℕ). record { number = n; kiosks = withStore k (storeOf (hear c l)) kiosks; claims = claimsOf (reply c l) }) (numberOf-answer c (hear c l)))
 
 pub replies-refused : (k : ℕ) (c : Claim) (kiosks : ℕ → Node) → (firstNo (replyQuestions (kiosks k .store) c) ≡ 0 → ⊥) →
     outcome (delivers k To.reply c) kiosks ≡ refusal (firstNo (replyQuestions (kiosks k .store) c)) kiosks
-unfolding outcome replied replying
+unfolding outcome replied
 replies-refused k c kiosks f =
-    let l : List ℕ = keysOf (kiosks k .store) in
-    ap (replying k kiosks)
-    (settle-refused (firstNo (replyQuestions (kiosks k .store) c)) (record { store = storeOf (hear c l); answer = reply c l }) (λ n. record { store = kiosks k .store; answer = Refused n }) f)
-    ∙ ap (refusal (firstNo (replyQuestions (kiosks k .store) c))) (withStore-same k kiosks)
+    rw (ne-eqb (firstNo (replyQuestions (kiosks k .store) c)) 0 f) (ap (refusal (firstNo (replyQuestions (kiosks k .store) c))) (withStore-same k kiosks))
 
 -- ---- a claim delivered to the table
 
-taking : ℕ → (ℕ → Node) → Taken → Outcome
-taking k kiosks a = record { number = a .number; kiosks = withNode k (a .node) kiosks; claims = [] }
-
 pub takes-done : (k : ℕ) (c : Claim) (kiosks : ℕ → Node) → firstNo (takeQuestions (kiosks k) c) ≡ 0 →
-    outcome (delivers k To.table c) kiosks ≡ record
-    { number = 0; kiosks = withNode k (nodeOf (hear c (nodeKeys (kiosks k))) (tableWith c (pendingOf (kiosks k)))) kiosks; claims = [] }
-unfolding outcome taking
-takes-done k c kiosks h = ap (taking k kiosks) (taken-done (kiosks k) c h)
+    outcome (delivers k To.table c) kiosks
+    ≡ record { number = 0; kiosks = withNode k (nodeOf (hear c (nodeKeys (kiosks k))) (tableWith c (pendingOf (kiosks k)))) kiosks; claims = [] }
+unfolding outcome
+takes-done k c kiosks h = rw (taken-done (kiosks k) c h)
 
 pub takes-refused : (k : ℕ) (c : Claim) (kiosks : ℕ → Node) → (firstNo (takeQuestions (kiosks k) c) ≡ 0 → ⊥) →
     outcome (delivers k To.table c) kiosks ≡ refusal (firstNo (takeQuestions (kiosks k) c)) kiosks
-unfolding outcome taking
-takes-refused k c kiosks f =
-    ap (taking k kiosks) (taken-refused (kiosks k) c f)
-    ∙ ap (refusal (firstNo (takeQuestions (kiosks k) c))) (withNode-same k kiosks)
+unfolding outcome
+takes-refused k c kiosks f = rw (taken-refused (kiosks k) c f) (ap (refusal (firstNo (takeQuestions (kiosks k) c))) (withNode-same k kiosks))
 
 -- ---- a beat
 

@@ -52,7 +52,7 @@ rounds k m [] = []
 rounds k m (straight lent ∷ ts) = meets k m lent ∷ rounds k m ts
 rounds k m (turned lent ∷ ts) = meets m k lent ∷ rounds k m ts
 
--- was a match in the event false? (Only a round has matches that can be.)
+-- was a match in the event false? (It is asked of rounds alone.)
 abbrev pub falseIn : Event → World → Bool
 falseIn (enters k x) w = false
 falseIn (makes k i j) w = false
