@@ -9,6 +9,9 @@
 --   Half       a half of a round ends, and its deliveries and what waits fit the union; a round
 --   CallLaws   what the calls return, one law a return path
 --   Words      claims and records as words
+-- The laws of the code, each way that it goes.
+--   Records, Steps, UnionCount, Asking   the functions of src/words.rt and src/round.rt
+--   WordsLaws, CoreLaws, Meeting         the core of a round on flat words is the round
 pub mod Cases
 pub mod TableLaws
 pub mod NodeLaws
@@ -19,3 +22,10 @@ pub mod Deliver
 pub mod Half
 pub mod CallLaws
 pub mod Words
+mod Records
+mod Steps
+mod UnionCount
+mod Asking
+mod WordsLaws
+mod CoreLaws
+mod Meeting

@@ -4,10 +4,12 @@
 --   Round     the union of two stores; a round: what waits, what a delivery does, two halves, the transcript, which matches are false
 --   Question  question 1 for nodes, 8, 9 and 15
 --   Call      what each public call returns, for any content, and what every lent place holds afterwards
+--   Core      the round's core on flat words, for any content: an interface between our own functions, and no rule of document 01
 --   Cases     worked examples, as one table
 pub mod Table
 pub mod Node
 pub mod Round
 pub mod Question
 pub mod Call
+pub mod Core
 pub mod Cases

@@ -2,9 +2,13 @@
 mod answer;
 mod delivery;
 mod node;
+mod round;
+mod words;
 
 pub use answer::Beaten;
 pub use answer::Met;
 pub use answer::Taken;
 pub use delivery::Delivery;
 pub use node::Node;
+pub use round::Reached;
+pub use round::round_words;
