@@ -28,7 +28,7 @@ use Rattle.rounds.proofs.Deliver.{adding-within}
 use Rattle.rounds.proofs.Half.{Fine, fine-step, weights-step, fine-length, run-nil, run-cons, run-more, opening, halfway-opening, half-run, half-fine, half-union, length-half}
 use Rattle.rounds.proofs.Union.{length-left-union, length-right-union}
 use Rattle.rounds.proofs.Steps.{steps-on, steps-off}
-use Rattle.rounds.proofs.WordsLaws.{delivery, length-writtenOver, sender-at, claim-at, putRecords-append}
+use Rattle.rounds.proofs.WordsLaws.{delivery, length-over, sender-at, claim-at, putRecords-append}
 
 -- ---- a state of the core
 
@@ -213,7 +213,7 @@ pub laid-finish : (m : ℕ) (lent u : List ℕ) (p : Pair) (q : List Entry) (don
 laid-finish m lent u p q done s fine laid room h =
     let n : ℕ = recordsIn (s .words) - s .head in
     let fits : length (done ++ map noted q) ≤ recordsIn lent = omega (arith, length-append done (map noted q), length-map q noted, fine-length u p q fine, room) in
-    let same : length (s .words) ≡ length lent = ap length (laid .words-are) ∙ length-writtenOver (done ++ map noted q) lent fits in
+    let same : length (s .words) ≡ length lent = ap length (laid .words-are) ∙ length-over (done ++ map noted q) lent fits in
     let enough : weights u p q ≤ n = omega (arith, laid .head-is, room) in
     subst (λ (r : Run). Laid lent (r .stores) [] (done ++ transcript r) (finish s)) (run-more n m u p q fine enough h)
     (laid-steps n lent u p q done s fine laid room enough)

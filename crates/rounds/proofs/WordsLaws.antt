@@ -15,24 +15,20 @@ use Rattle.claims.proofs.ClaimLaws.{claim-ext}
 use Rattle.rounds.specs.declared.delivery.Delivery.{Delivery}
 use Rattle.rounds.specs.Call.{deliveryWords, writtenOver}
 use Rattle.rounds.specs.Core.{recordWords, recordsIn, claimIn, putRecord, next, putRecords, nextAfter}
+use Rattle.rounds.proofs.Words.{length-deliveryWords, deliveryWords-append, length-writtenOver}
 use Rattle.rounds.proofs.Records.{claimIn-some, next-some, next-length, length-putRecord}
-
-pub length-deliveryWords : (ds : List Delivery) → length (deliveryWords ds) ≡ length ds * 5
-length-deliveryWords [] = refl
-length-deliveryWords (d ∷ ds) = omega (arith, length-deliveryWords ds)
-
-pub deliveryWords-append : (a b : List Delivery) → deliveryWords (a ++ b) ≡ deliveryWords a ++ deliveryWords b
-deliveryWords-append [] b = refl
-deliveryWords-append (d ∷ ds) b = ap (λ (l : List ℕ). d .sender ∷ d .claim .lo ∷ d .claim .hi ∷ d .claim .sum ∷ d .claim .cnt ∷ l) (deliveryWords-append ds b)
 
 -- the record of a claim from one end
 abbrev pub delivery : ℕ → Claim → Delivery
 delivery sender c = record { sender = sender; claim = c }
 
-pub length-writtenOver : (ds : List Delivery) (lent : List ℕ) → length ds ≤ recordsIn lent → length (writtenOver (deliveryWords ds) lent) ≡ length lent
-length-writtenOver ds lent h =
-    rw (length-append (deliveryWords ds) (drop (length (deliveryWords ds)) lent), length-drop (length (deliveryWords ds)) lent)
-    (omega (arith, length-deliveryWords ds))
+-- five words to a record
+words-of : (ds : List Delivery) → length (deliveryWords ds) ≡ length ds * 5
+words-of ds = omega (arith, length-deliveryWords ds)
+
+-- the words keep their number
+pub length-over : (ds : List Delivery) (lent : List ℕ) → length ds ≤ recordsIn lent → length (writtenOver (deliveryWords ds) lent) ≡ length lent
+length-over ds lent h = length-writtenOver (deliveryWords ds) lent (omega (arith, length-deliveryWords ds))
 
 -- where the next record goes depends on how many records there are
 nextAfter-length : (w words : List ℕ) (at : ℕ) (cs : List Claim) → length w ≡ length words → nextAfter w at cs ≡ nextAfter words at cs
@@ -55,7 +51,7 @@ module _ (done : List Delivery) (d : Delivery) (rest : List Delivery) (lent : Li
   word-at : (n : ℕ) → getD (writtenOver (deliveryWords (done ++ (d ∷ rest))) lent) (length done * 5 + n) 0 ≡ getD from n 0
   word-at n =
       ap (λ (l : List ℕ). getD l (length done * 5 + n) 0) in-front
-      ∙ (ap (λ (k : ℕ). getD (deliveryWords done ++ from) (k + n) 0) (sym (length-deliveryWords done))
+      ∙ (ap (λ (k : ℕ). getD (deliveryWords done ++ from) (k + n) 0) (sym (words-of done))
       ∙ getD-append-add (deliveryWords done) from n 0)
 
   pub sender-at : getD (writtenOver (deliveryWords (done ++ (d ∷ rest))) lent) (length done * 5) 0 ≡ d .sender
@@ -66,7 +62,7 @@ module _ (done : List Delivery) (d : Delivery) (rest : List Delivery) (lent : Li
   unfolding from
   claim-at h g =
       let w : List ℕ = writtenOver (deliveryWords (done ++ (d ∷ rest))) lent in
-      let same : length w ≡ length lent = length-writtenOver (done ++ (d ∷ rest)) lent h in
+      let same : length w ≡ length lent = length-over (done ++ (d ∷ rest)) lent h in
       let some : length done < recordsIn w = omega (arith, length-append done (d ∷ rest)) in
       let cnt : getD w (length done * 5 + 4) 0 % 65536 ≡ d .claim .cnt =
       let e : getD w (length done * 5 + 4) 0 ≡ d .claim .cnt = word-at 4 in omega arith in
@@ -84,8 +80,8 @@ putRecord-append ds lent sender c h =
     let x : List ℕ = deliveryWords ds in
     let w : List ℕ = writtenOver x lent in
     let v : List ℕ = recordWords sender c in
-    let len : length x ≡ length ds * 5 = length-deliveryWords ds in
-    let same : length w ≡ length lent = length-writtenOver ds lent (omega arith) in
+    let len : length x ≡ length ds * 5 = words-of ds in
+    let same : length w ≡ length lent = length-over ds lent (omega arith) in
     let some : length ds < recordsIn w = omega arith in
     let front : take (length x) w ≡ x = take-append-seam x (drop (length x) lent) in
     let back : drop (length x + 5) w ≡ drop (length x + 5) lent = drop-append-add x (drop (length x) lent) 5 ∙ drop-drop 5 (length x) lent in
@@ -104,8 +100,8 @@ putRecords-append ds lent sender (c ∷ cs) h =
     let w : List ℕ = writtenOver (deliveryWords ds) lent in
     let w′ : List ℕ = writtenOver (deliveryWords (ds ++ (d ∷ []))) lent in
     let more : length (ds ++ (d ∷ [])) ≡ length ds + 1 = length-append ds (d ∷ []) in
-    let same : length w ≡ length lent = length-writtenOver ds lent (omega arith) in
-    let same′ : length w′ ≡ length lent = length-writtenOver (ds ++ (d ∷ [])) lent (omega arith) in
+    let same : length w ≡ length lent = length-over ds lent (omega arith) in
+    let same′ : length w′ ≡ length lent = length-over (ds ++ (d ∷ [])) lent (omega arith) in
     let e : putRecord w (length ds) sender c ≡ w′ = putRecord-append ds lent sender c (omega arith) in
     let n : next w (length ds) ≡ length (ds ++ (d ∷ [])) = sym (next-some w (length ds) (omega arith)) ∙ sym more in
     let joined : (ds ++ (d ∷ [])) ++ map (delivery sender) cs ≡ ds ++ (d ∷ map (delivery sender) cs) = append-assoc ds (d ∷ []) (map (delivery sender) cs) in
