@@ -29,3 +29,5 @@ mod Asking
 mod WordsLaws
 mod CoreLaws
 mod Meeting
+mod Ordering
+pub mod Cases

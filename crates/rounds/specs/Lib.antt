@@ -5,6 +5,7 @@
 --   Question  question 1 for nodes, 8, 9 and 15
 --   Call      what each public call returns, for any content, and what every lent place holds afterwards
 --   Core      the round's core on flat words, for any content: an interface between our own functions, and no rule of document 01
+--   Lent      calls between our own crates, and no rule of document 01
 --   Cases     worked examples, as one table
 pub mod Table
 pub mod Node
@@ -12,4 +13,5 @@ pub mod Round
 pub mod Question
 pub mod Call
 pub mod Core
+pub mod Lent
 pub mod Cases

@@ -4,6 +4,7 @@ mod delivery;
 mod node;
 mod round;
 mod words;
+mod order;
 
 pub use answer::Beaten;
 pub use answer::Met;
@@ -12,3 +13,4 @@ pub use delivery::Delivery;
 pub use node::Node;
 pub use round::Reached;
 pub use round::round_words;
+pub use order::ordered;
