@@ -30,4 +30,6 @@ mod WordsLaws
 mod CoreLaws
 mod Meeting
 mod Ordering
+mod Placing
+pub mod TakeLaws
 pub mod Cases

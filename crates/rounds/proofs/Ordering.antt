@@ -4,11 +4,11 @@
 use mathlib.Core.Path.{_≡_, refl, sym, _∙_, ap, ap₂}
 use mathlib.Core.Bool.{Bool, true, false, cond, _&&_, false≢true, and-true, and-false, and-assoc}
 use mathlib.Core.List.{List, [], _∷_}
-use Prim.Native.Nat.{ℕ, suc, _+_, _≤_, _<_}
+use Prim.Native.Nat.{ℕ, _+_, _≤_, _<_}
 use native.Mathlib.Numerals.{add-one}
 use native.Mathlib.Omega.{arith}
-use borrow.Author.Tests.{lt-ltb, le-ltb, le-leb, lt-leb, eqb-true, eq-eqb, ne-eqb}
-use lib.Dec.{ltb, leb, eqb}
+use borrow.Author.Tests.{le-ltb, le-leb, lt-leb, eqb-true, eq-eqb, ne-eqb}
+use lib.Dec.{ltb, eqb}
 use lib.ListN.{length, take, drop, getD, drop-of-length-le}
 use lib.Seq.{drop-cons, getD-take, length-take-le}
 use Rattle.claims.specs.declared.claim.Claim.{Claim}
@@ -22,9 +22,8 @@ use Rattle.claims.specs.Lent.{orderedIn, placeIn}
 use Rattle.claims.proofs.ClaimLaws.{same-claim}
 use Rattle.claims.proofs.Order.{inOrder-rising, length-keysOf, storeOf-keysOf}
 use Rattle.claims.proofs.LentLaws.{orderedIn-inOrder, placeIn-store}
-use Rattle.rounds.specs.declared.node.Node.{Node}
 use Rattle.rounds.specs.Table.{tableLimit, before, climbsFrom, climbs}
-use Rattle.rounds.specs.Node.{pendingOf, holdsAll, allFit, allUnused, nodeInOrder}
+use Rattle.rounds.specs.Node.{holdsAll, allFit, allUnused, nodeInOrder}
 use Rattle.rounds.specs.Lent.{nodeFrom}
 use Rattle.rounds.proofs.TableLaws.{before-total}
 

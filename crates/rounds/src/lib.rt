@@ -5,6 +5,7 @@ mod node;
 mod round;
 mod words;
 mod order;
+mod taking;
 
 pub use answer::Beaten;
 pub use answer::Met;
@@ -14,3 +15,5 @@ pub use node::Node;
 pub use round::Reached;
 pub use round::round_words;
 pub use order::ordered;
+pub use taking::take;
+pub use taking::take_next;
