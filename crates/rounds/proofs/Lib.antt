@@ -32,4 +32,8 @@ mod Meeting
 mod Ordering
 mod Placing
 pub mod TakeLaws
+mod Writing
+mod Serve
+pub mod ServeLaws
+mod Beating
 pub mod Cases

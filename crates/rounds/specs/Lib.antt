@@ -6,6 +6,7 @@
 --   Call      what each public call returns, for any content, and what every lent place holds afterwards
 --   Core      the round's core on flat words, for any content: an interface between our own functions, and no rule of document 01
 --   Lent      calls between our own crates, and no rule of document 01
+--   Serving   a beat for any content of a node: likewise
 --   Cases     worked examples, as one table
 pub mod Table
 pub mod Node
@@ -14,4 +15,5 @@ pub mod Question
 pub mod Call
 pub mod Core
 pub mod Lent
+pub mod Serving
 pub mod Cases

@@ -1,5 +1,6 @@
 // The upper library: nodes with their pending claims, beats and rounds (document 01, "A round", "Pending table and beat").
 mod answer;
+mod beats;
 mod delivery;
 mod node;
 mod round;
@@ -10,6 +11,8 @@ mod taking;
 pub use answer::Beaten;
 pub use answer::Met;
 pub use answer::Taken;
+pub use beats::beat;
+pub use beats::beat_in;
 pub use delivery::Delivery;
 pub use node::Node;
 pub use round::Reached;
