@@ -1,4 +1,4 @@
--- The questions of a round as the code puts them (specs/Core, `asked`): one law for each way that `ask` of src/round.rt goes, and what a run of keys that
+-- The questions of a round as the code puts them (specs/Core, `asked`): one law for each way that `ask` of src/flat.rt goes, and what a run of keys that
 -- passes question 1 gives the walk over both. Assumes nothing.
 use Prim.Native.Nat.{ℕ, _+_, _*_, _≤_, _<_}
 use mathlib.Core.Bool.{Bool, true, false, _&&_}

@@ -16,7 +16,7 @@ use Rattle.claims.proofs.Between.{mem-between, between-rising, between-sub, len
 use Rattle.claims.proofs.Span.{first, last, first-le, le-last, mem-first, mem-last}
 use Rattle.claims.proofs.QuestionLaws.{Passes}
 use Rattle.claims.proofs.ClaimLaws.{spanClaim, spanClaim-passes}
-use Rattle.rounds.specs.Round.{End, Pair, keysAt, Entry, receiver, keysBefore}
+use Rattle.rounds.specs.Round.{End, Pair, keysAt, Entry, receiver, keysBefore, waits}
 use Rattle.rounds.proofs.Pair.{Rises, Within, Grown}
 
 -- ---- a sound entry
@@ -102,6 +102,10 @@ sound-entry p s l y r h n e = record {
   some = subst (λ (k : List ℕ). 0 < length k) (sym e) n;
   there = sub-trans (between (first y) (last y) l) l (keysAt s p) (between-sub (first y) (last y) l) h;
 }
+
+pub length-waits : (s : End) (l : List ℕ) (c : List Claim) → length (waits s l c) ≡ length c
+length-waits s l [] = refl
+length-waits s l (x ∷ xs) = ap suc (length-waits s l xs)
 
 -- ---- the weight of an entry
 

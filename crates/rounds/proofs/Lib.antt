@@ -10,8 +10,10 @@
 --   CallLaws   what the calls return, one law a return path
 --   Words      claims and records as words
 -- The laws of the code, each way that it goes.
---   Records, Steps, UnionCount, Asking   the functions of src/words.rt and src/round.rt
+--   Records, Steps, UnionCount, Asking   the functions of src/record.rt and src/flat.rt
 --   WordsLaws, CoreLaws, Meeting         the core of a round on flat words is the round
+--   Ordering, Placing, TakeLaws          the functions of src/order.rt and src/taking.rt
+--   Writing, Serve, ServeLaws, Beating   the functions of src/beats.rt
 pub mod Cases
 pub mod TableLaws
 pub mod NodeLaws
@@ -36,4 +38,3 @@ mod Writing
 mod Serve
 pub mod ServeLaws
 mod Beating
-pub mod Cases

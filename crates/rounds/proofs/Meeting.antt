@@ -1,4 +1,4 @@
--- `round_words` (src/round.rt): one law for each of its two ways, from the core to the definitions of specs/Call. Assumes nothing.
+-- `round_words` (src/flat.rt): one law for each of its two ways, from the core to the definitions of specs/Call. Assumes nothing.
 use Prim.Native.Nat.{ℕ, _+_, _*_, _/_, _≤_, _<_}
 use mathlib.Core.Bool.{true}
 use mathlib.Core.List.{List, [], _∷_, _++_, map, append-nil}
@@ -12,7 +12,7 @@ use Rattle.claims.proofs.Order.{inOrder-rising, length-keysOf, storeOf-keysOf, 
 use Rattle.claims.proofs.LentLaws.{orderedIn-inOrder}
 use Rattle.rounds.specs.declared.answer.Met.{Met}
 use Rattle.rounds.specs.declared.delivery.Delivery.{Delivery}
-use Rattle.rounds.specs.declared.round.Reached.{Reached}
+use Rattle.rounds.specs.declared.flat.Reached.{Reached}
 use Rattle.rounds.specs.Round.{Line, roundOf, transcript, union}
 use Rattle.rounds.specs.Call.{roundQuestions, roundBy, met, metWords, deliveryWords, writtenOver}
 use Rattle.rounds.specs.Core.{asked, Core, both, Stepped}

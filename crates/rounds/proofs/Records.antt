@@ -1,4 +1,4 @@
--- Records in a lent run of words, the whole claim and one delivery (specs/Core): one law for each way that the code of src/words.rt and src/round.rt
+-- Records in a lent run of words, the whole claim and one delivery (specs/Core): one law for each way that the code of src/record.rt and src/flat.rt
 -- goes. Assumes nothing.
 use Prim.Native.Nat.{ℕ, suc, _+_, _-_, _*_, _/_, _%_, _≤_, _<_}
 use mathlib.Core.Bool.{Bool, true, false, cond}

@@ -1,4 +1,4 @@
--- Deliveries until none waits (specs/Core, `steps`, `finish`): a turn of the loop of src/round.rt, and where it stops. A delivery keeps how many records
+-- Deliveries until none waits (specs/Core, `steps`, `finish`): a turn of the loop of src/flat.rt, and where it stops. A delivery keeps how many records
 -- there are, and what waits stays among them. Assumes nothing.
 use Prim.Native.Nat.{ℕ, zero, suc, _+_, _-_, _*_, _/_, _≤_, _<_}
 use mathlib.Core.Bool.{Bool, true, false, cond}
@@ -11,7 +11,7 @@ use lib.ListN.{length, getD}
 use Rattle.claims.specs.declared.claim.Claim.{Claim}
 use Rattle.claims.specs.Reply.{claimsOf}
 use Rattle.claims.specs.Lent.{makeIn, replyIn}
-use Rattle.rounds.specs.declared.round.Reached.{Reached}
+use Rattle.rounds.specs.declared.flat.Reached.{Reached}
 use Rattle.rounds.specs.Core.{recordsIn, claimIn, putRecord, next, putRecords, nextAfter, Core, toRight, toLeft, step, steps, finish, wholeWords, wholeNext, opened, reopened, both, Stepped}
 use Rattle.rounds.proofs.Records.{length-putRecord}
 

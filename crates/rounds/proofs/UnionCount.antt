@@ -1,4 +1,4 @@
--- Counting the union of two rising runs by walking both at once (src/round.rt, `union_count`): the lesser of two first keys is the union's first key.
+-- Counting the union of two rising runs by walking both at once (src/flat.rt, `union_count`): the lesser of two first keys is the union's first key.
 -- The invariant: the keys counted and those of the union of what is left are those of the union of all. Assumes nothing.
 use Prim.Native.Nat.{ℕ, zero, suc, _+_, _-_, _≤_, _<_}
 use mathlib.Core.List.{List, [], _∷_, _++_, List·Memᴰ, List·Memᴰ·head, List·Memᴰ·tail, List·Memᴰ·cases-cons, List·Memᴰ·not-nil}

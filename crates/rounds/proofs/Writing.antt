@@ -16,6 +16,7 @@ use Rattle.claims.specs.Reply.{claimsOf}
 use Rattle.claims.specs.Lent.{makeIn}
 use Rattle.rounds.specs.Call.{writtenOver, claimWords}
 use Rattle.rounds.specs.Serving.{wholeIn, wroteAt}
+use Rattle.rounds.proofs.Words.{length-claimWords, claimWords-append}
 
 -- ---- stores of lists
 
@@ -33,16 +34,6 @@ module _ {A : Type 0} where
 -- an array's list has as many elements as what the machine holds of it
 pub length-mapped : {A B : Type 0} (f : A → B) (l : List A) (n : ℕ) → length (map f l) ≡ n → length l ≡ n
 length-mapped f l n e = sym (length-map l f) ∙ e
-
--- ---- claims as words
-
-pub claimWords-append : (cs ds : List Claim) → claimWords (cs ++ ds) ≡ claimWords cs ++ claimWords ds
-claimWords-append [] ds = refl
-claimWords-append (c ∷ cs) ds = ap (λ (l : List ℕ). c .lo ∷ c .hi ∷ c .sum ∷ c .cnt ∷ l) (claimWords-append cs ds)
-
-pub length-claimWords : (cs : List Claim) → length (claimWords cs) ≡ 4 * length cs
-length-claimWords [] = refl
-length-claimWords (c ∷ cs) = omega (arith, length-claimWords cs)
 
 -- ---- claims written
 

@@ -16,7 +16,7 @@ use Rattle.claims.specs.Claim.{noClaim}
 use Rattle.claims.specs.Reply.{claimsOf}
 use Rattle.claims.specs.Lent.{orderedIn, makeIn, keysHearing, replyIn}
 use Rattle.claims.specs.Question.{question, firstNo}
-use Rattle.rounds.specs.declared.round.Reached.{Reached}
+use Rattle.rounds.specs.declared.flat.Reached.{Reached}
 use Rattle.rounds.specs.Question.{question8, question9}
 
 -- ---- records in words, five to a record

@@ -1,11 +1,12 @@
 // The upper library: nodes with their pending claims, beats and rounds (document 01, "A round", "Pending table and beat").
+// Each public call takes any content and states its whole result, and every lent place, by an equation with a definition of specs/.
 mod answer;
 mod beats;
 mod delivery;
+mod flat;
 mod node;
-mod round;
-mod words;
 mod order;
+mod record;
 mod taking;
 
 pub use answer::Beaten;
@@ -14,9 +15,9 @@ pub use answer::Taken;
 pub use beats::beat;
 pub use beats::beat_in;
 pub use delivery::Delivery;
+pub use flat::Reached;
+pub use flat::round_words;
 pub use node::Node;
-pub use round::Reached;
-pub use round::round_words;
 pub use order::ordered;
 pub use taking::take;
 pub use taking::take_next;

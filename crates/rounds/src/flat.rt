@@ -1,10 +1,10 @@
 // A round on flat words, for callers with plain parameters. The lent records are the queue itself: those before `head` are delivered, those from
 // `head` to `tail` wait. Question 1 is put once to each store, and no store is copied for a delivery.
 use crate::answer::Met;
-use crate::words::RECORD;
-use crate::words::claim_in;
-use crate::words::put_answer;
-use crate::words::put_record;
+use crate::record::RECORD;
+use crate::record::claim_in;
+use crate::record::put_answer;
+use crate::record::put_record;
 use claims::Store;
 use claims::make_in;
 use claims::ordered_in;

@@ -1,12 +1,12 @@
--- `rounds::words::put_record` meets its contract. Assumes nothing.
+-- `rounds::record::put_record` meets its contract. Assumes nothing.
 use Prim.Native.Nat.{_+_, _*_}
 use native.Mathlib.Omega.{arith}
 use borrow.Author.Needs.{needs}
 use denote.Ref.{now}
 use lib.ListN.{length-set}
 use Rattle.rounds.proofs.Records.{next-some, next-none, putRecord-some, putRecord-none}
-use Rattle.rounds.proofs.words.put_record.Statement.{statement}
-use Rattle.rounds.proofs.words.put_record.Tie as tie
+use Rattle.rounds.proofs.record.put_record.Statement.{statement}
+use Rattle.rounds.proofs.record.put_record.Tie as tie
 
 mul-base : tie.Need-mul-base
 mul-base c = search needs

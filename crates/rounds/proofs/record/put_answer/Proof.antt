@@ -1,10 +1,10 @@
--- `rounds::words::put_answer` meets its contract. Assumes nothing.
+-- `rounds::record::put_answer` meets its contract. Assumes nothing.
 use mathlib.Core.Path.{refl}
 use borrow.Author.Needs.{needs}
 use denote.Ref.{now}
 use Rattle.rounds.proofs.Records.{put-two}
-use Rattle.rounds.proofs.words.put_answer.Statement.{statement}
-use Rattle.rounds.proofs.words.put_answer.Tie as tie
+use Rattle.rounds.proofs.record.put_answer.Statement.{statement}
+use Rattle.rounds.proofs.record.put_answer.Tie as tie
 
 enum-known-answer : tie.Need-enum-known-answer
 enum-known-answer c = search needs

@@ -1,10 +1,10 @@
--- `rounds::words::claim_in` meets its contract. Assumes nothing.
+-- `rounds::record::claim_in` meets its contract. Assumes nothing.
 use borrow.Author.Needs.{needs}
 use native.Mathlib.Omega.{arith}
 use denote.Ref.{now}
 use Rattle.rounds.proofs.Records.{claimIn-some, claimIn-none}
-use Rattle.rounds.proofs.words.claim_in.Statement.{statement}
-use Rattle.rounds.proofs.words.claim_in.Tie as tie
+use Rattle.rounds.proofs.record.claim_in.Statement.{statement}
+use Rattle.rounds.proofs.record.claim_in.Tie as tie
 
 mul-base : tie.Need-mul-base
 mul-base c = search needs

@@ -1,4 +1,4 @@
--- `rounds::round::union_count` meets its contract. The invariant: the keys counted and those of the union of what is left are those of the union.
+-- `rounds::flat::union_count` meets its contract. The invariant: the keys counted and those of the union of what is left are those of the union.
 -- Assumes nothing.
 use mathlib.Core.Logic.{inl, inr, ⊎-elim}
 use mathlib.Core.Path.{_≡_}
@@ -11,10 +11,10 @@ use lib.ListN.{length, drop}
 use Rattle.claims.proofs.Rising.{rising-true}
 use Rattle.rounds.specs.Round.{union}
 use Rattle.rounds.proofs.UnionCount.{count-less, count-more, count-both, count-end}
-use Rattle.rounds.proofs.round.union_count.Statement.{statement}
-use Rattle.rounds.proofs.round.union_count.Tie as tie
-use Rattle.rounds.proofs.round.union_count.Reads as reads
-use Rattle.rounds.proofs.round.union_count.Lts as lts
+use Rattle.rounds.proofs.flat.union_count.Statement.{statement}
+use Rattle.rounds.proofs.flat.union_count.Tie as tie
+use Rattle.rounds.proofs.flat.union_count.Reads as reads
+use Rattle.rounds.proofs.flat.union_count.Lts as lts
 
 abbrev Inv-loop : tie.InvT-loop
 Inv-loop left right i₀ j₀ n₀ i j n =

@@ -1,4 +1,4 @@
--- `rounds::round::ask` meets its contract. Assumes nothing.
+-- `rounds::flat::ask` meets its contract. Assumes nothing.
 use mathlib.Core.Path.{sym, _∙_}
 use native.Mathlib.Omega.{arith}
 use borrow.Author.Needs.{needs}
@@ -6,8 +6,8 @@ use borrow.Author.Tests.{not-true, not-false}
 use denote.Ref.{now}
 use lib.Seq.{length-take-le}
 use Rattle.rounds.proofs.Asking.{ordered-long, ordered-rising, ordered-short, asked-left, asked-right, asked-8, asked-9, asked-0}
-use Rattle.rounds.proofs.round.ask.Statement.{statement}
-use Rattle.rounds.proofs.round.ask.Tie as tie
+use Rattle.rounds.proofs.flat.ask.Statement.{statement}
+use Rattle.rounds.proofs.flat.ask.Tie as tie
 
 ordered-in-requires : tie.Need-ordered-in-requires
 ordered-in-requires c κs = search needs

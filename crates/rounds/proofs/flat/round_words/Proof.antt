@@ -1,9 +1,9 @@
--- `rounds::round::round_words` meets its contract. Assumes nothing.
+-- `rounds::flat::round_words` meets its contract. Assumes nothing.
 use borrow.Author.Needs.{needs}
 use denote.Ref.{now}
 use Rattle.rounds.proofs.Meeting.{round-refused, round-met}
-use Rattle.rounds.proofs.round.round_words.Statement.{statement}
-use Rattle.rounds.proofs.round.round_words.Tie as tie
+use Rattle.rounds.proofs.flat.round_words.Statement.{statement}
+use Rattle.rounds.proofs.flat.round_words.Tie as tie
 
 ask-requires : tie.Need-ask-requires
 ask-requires c κs = search needs

@@ -1,9 +1,9 @@
--- `rounds::round::put_whole` meets its contract. Assumes nothing.
+-- `rounds::flat::put_whole` meets its contract. Assumes nothing.
 use borrow.Author.Needs.{needs}
 use denote.Ref.{now}
 use Rattle.rounds.proofs.Records.{whole-none, whole-some}
-use Rattle.rounds.proofs.round.put_whole.Statement.{statement}
-use Rattle.rounds.proofs.round.put_whole.Tie as tie
+use Rattle.rounds.proofs.flat.put_whole.Statement.{statement}
+use Rattle.rounds.proofs.flat.put_whole.Tie as tie
 
 returns : tie.Need-returns
 returns c =

@@ -1,10 +1,10 @@
--- `rounds::round::deliver` meets its contract. Assumes nothing.
+-- `rounds::flat::deliver` meets its contract. Assumes nothing.
 use borrow.Author.Needs.{needs}
 use native.Mathlib.Omega.{arith}
 use denote.Ref.{now}
 use Rattle.rounds.proofs.Records.{step-right, step-left}
-use Rattle.rounds.proofs.round.deliver.Statement.{statement}
-use Rattle.rounds.proofs.round.deliver.Tie as tie
+use Rattle.rounds.proofs.flat.deliver.Statement.{statement}
+use Rattle.rounds.proofs.flat.deliver.Tie as tie
 
 mul-at : tie.Need-mul-at
 mul-at c = search needs

@@ -1,12 +1,12 @@
--- `rounds::round::both_halves` meets its contract. Assumes nothing.
+-- `rounds::flat::both_halves` meets its contract. Assumes nothing.
 use mathlib.Core.Path.{_≡_, ap}
 use borrow.Author.Needs.{needs}
 use native.Mathlib.Omega.{arith}
 use denote.Ref.{now}
 use lib.ListN.{length}
 use Rattle.rounds.proofs.Steps.{opened-bound, both-halves}
-use Rattle.rounds.proofs.round.both_halves.Statement.{statement}
-use Rattle.rounds.proofs.round.both_halves.Tie as tie
+use Rattle.rounds.proofs.flat.both_halves.Statement.{statement}
+use Rattle.rounds.proofs.flat.both_halves.Tie as tie
 
 left-half-requires : tie.Need-left-half-requires
 left-half-requires c κs = search needs

@@ -1,12 +1,12 @@
--- `rounds::round::left_half` meets its contract. Assumes nothing.
+-- `rounds::flat::left_half` meets its contract. Assumes nothing.
 use mathlib.Core.Path.{_≡_}
 use borrow.Author.Needs.{needs}
 use native.Mathlib.Omega.{arith}
 use denote.Ref.{now}
 use Rattle.rounds.specs.Core.{finish}
 use Rattle.rounds.proofs.Steps.{whole-fits, opened-core}
-use Rattle.rounds.proofs.round.left_half.Statement.{statement}
-use Rattle.rounds.proofs.round.left_half.Tie as tie
+use Rattle.rounds.proofs.flat.left_half.Statement.{statement}
+use Rattle.rounds.proofs.flat.left_half.Tie as tie
 
 put-whole-requires : tie.Need-put-whole-requires
 put-whole-requires c κs = search needs

@@ -1,12 +1,12 @@
--- `rounds::round::right_half` meets its contract. Assumes nothing.
+-- `rounds::flat::right_half` meets its contract. Assumes nothing.
 use mathlib.Core.Path.{_≡_}
 use borrow.Author.Needs.{needs}
 use native.Mathlib.Omega.{arith}
 use denote.Ref.{now}
 use Rattle.rounds.specs.Core.{finish}
 use Rattle.rounds.proofs.Steps.{whole-fits, reopened-core}
-use Rattle.rounds.proofs.round.right_half.Statement.{statement}
-use Rattle.rounds.proofs.round.right_half.Tie as tie
+use Rattle.rounds.proofs.flat.right_half.Statement.{statement}
+use Rattle.rounds.proofs.flat.right_half.Tie as tie
 
 put-whole-requires : tie.Need-put-whole-requires
 put-whole-requires c κs = search needs

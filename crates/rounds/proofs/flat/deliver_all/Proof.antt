@@ -1,4 +1,4 @@
--- `rounds::round::deliver_all` meets its contract. The invariant: finishing from here is finishing from the start. Assumes nothing.
+-- `rounds::flat::deliver_all` meets its contract. The invariant: finishing from here is finishing from the start. Assumes nothing.
 use mathlib.Core.List.{List}
 use mathlib.Core.Path.{_≡_, refl, _∙_}
 use Prim.Native.Nat.{ℕ, _≤_, _+_, _-_}
@@ -8,11 +8,11 @@ use denote.Ref.{now}
 use lib.ListN.{length}
 use Rattle.rounds.specs.Core.{recordsIn, Core, finish}
 use Rattle.rounds.proofs.Steps.{finish-off, core-stepped, turn}
-use Rattle.rounds.proofs.round.deliver_all.Statement.{statement}
-use Rattle.rounds.proofs.round.deliver_all.Tie as tie
-use Rattle.rounds.proofs.round.deliver_all.Reads as reads
-use Rattle.rounds.proofs.round.deliver_all.Lts as lts
-use Rattle.rounds.proofs.round.deliver.Reads as deliver-reads
+use Rattle.rounds.proofs.flat.deliver_all.Statement.{statement}
+use Rattle.rounds.proofs.flat.deliver_all.Tie as tie
+use Rattle.rounds.proofs.flat.deliver_all.Reads as reads
+use Rattle.rounds.proofs.flat.deliver_all.Lts as lts
+use Rattle.rounds.proofs.flat.deliver.Reads as deliver-reads
 
 abbrev core : List ℕ → ℕ → List ℕ → ℕ → List ℕ → ℕ → ℕ → Core
 core left lc right rc words head tail = record { left = left; leftCount = lc; right = right; rightCount = rc; words = words; head = head; tail = tail }
