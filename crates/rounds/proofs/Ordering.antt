@@ -47,6 +47,17 @@ module _ (c d : Claim) where
       go true p = le-ltb (c .sum) (d .sum) (let q : c .sum ≡ d .sum = eqb-true (c .sum) (d .sum) p in omega arith)
       go false p = refl
 
+-- a claim that another comes before is not that other
+pub before-not-same : (c d : Claim) → before c d ≡ true → same d c ≡ false
+before-not-same c d h = go (same d c) refl
+  where
+    itself : before c c ≡ false
+    itself = rw (eq-eqb (c .cnt) (c .cnt) refl, eq-eqb (c .lo) (c .lo) refl, eq-eqb (c .hi) (c .hi) refl, eq-eqb (c .sum) (c .sum) refl)
+
+    go : (t : Bool) → same d c ≡ t → t ≡ false
+    go true e = absurd (false≢true (sym itself ∙ (ap (λ (x : Claim). before c x) (sym (same-claim d c e)) ∙ h)))
+    go false e = refl
+
 -- ---- the claim of zeros
 
 -- no claim comes before it
@@ -70,17 +81,6 @@ before-noClaim-not c h = go (same c noClaim) refl
     go : (t : Bool) → same c noClaim ≡ t → t ≡ true
     go true e = refl
     go false e = absurd (false≢true (sym h ∙ before-total noClaim c (before-noClaim c) e))
-
--- a claim that another comes before is not that other
-pub before-not-same : (c d : Claim) → before c d ≡ true → same d c ≡ false
-before-not-same c d h = go (same d c) refl
-  where
-    itself : before c c ≡ false
-    itself = rw (eq-eqb (c .cnt) (c .cnt) refl, eq-eqb (c .lo) (c .lo) refl, eq-eqb (c .hi) (c .hi) refl, eq-eqb (c .sum) (c .sum) refl)
-
-    go : (t : Bool) → same d c ≡ t → t ≡ false
-    go true e = absurd (false≢true (sym itself ∙ (ap (λ (x : Claim). before c x) (sym (same-claim d c e)) ∙ h)))
-    go false e = refl
 
 -- it is refused with 3
 judged-noClaim : judged noClaim ≡ 3

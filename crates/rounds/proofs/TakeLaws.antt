@@ -1,6 +1,7 @@
 -- Taking a claim (src/taking.rt): one law for each way that the code goes, and what `takenNext` of specs/Lent means on a node in order. In order: the
--- table with the claim put in; the node that hears it; the refusals of `take`; on a node in order, taking the next claim is `taken`. Assumes nothing.
-use mathlib.Core.Path.{_≡_, refl, sym, _∙_, ap, ap₂}
+-- table with the claim put in; the node that hears it; the refusals of `take`; on a node in order, taking the next claim is `taken`,
+-- and leaves it in order. Assumes nothing.
+use mathlib.Core.Path.{_≡_, refl, sym, _∙_, ap, ap₂, subst}
 use mathlib.Core.Bool.{Bool, true, false, cond}
 use mathlib.Core.Logic.{_⊎_, ⊎-elim}
 use mathlib.Core.List.{List, [], _∷_, _++_, map}
@@ -20,20 +21,21 @@ use Rattle.claims.specs.Question.{firstNo, question6, claimQuestions}
 use Rattle.claims.specs.Reply.{ends, hear, same}
 use Rattle.claims.specs.Call.{judged}
 use Rattle.claims.specs.Lent.{lacking, room, noRoom, heardAt, addOne, keysOne, putIn, raised, addTwo, keysTwo, placeIn, hearIn, keysHearing}
-use Rattle.claims.proofs.Tests.{and-left, and-right, lt-or-le}
+use Rattle.claims.proofs.Tests.{and-left, and-right, lt-or-le, eq-or-ne}
 use Rattle.claims.proofs.Rising.{Rising}
 use Rattle.claims.proofs.Order.{inOrder-rising, length-keysOf, storeOf-keysOf, count-storeOf}
 use Rattle.claims.proofs.QuestionLaws.{Passes, passes, firstNo-yes, firstNo-no, firstNo-append-zero, firstNo-append-no, claimQuestions-numbered, judged-firstNo}
 use Rattle.claims.proofs.ClaimLaws.{same-claim}
 use Rattle.claims.proofs.LentLaws.{hearIn-fits, hearIn-full, keysHearing-fits}
 use Rattle.rounds.specs.declared.node.Node.{Node}
+use Rattle.rounds.specs.declared.answer.Taken.{Taken}
 use Rattle.rounds.specs.Table.{tableLimit, before, insertClaim, tableWith}
 use Rattle.rounds.specs.Node.{blanks, pendingOf, nodeKeys, nodeOf, allUnused, nodeInOrder}
 use Rattle.rounds.specs.Question.{nodeQuestion1}
 use Rattle.rounds.specs.Call.{writtenOver, takeQuestions, taken}
 use Rattle.rounds.specs.Lent.{nodeFrom, placeAmong, isAt, placedAt, placedIn, tableIn, Enlisted, takenAfter, takenNext}
 use Rattle.rounds.proofs.NodeLaws.{Ordered, ordered-nodeInOrder}
-use Rattle.rounds.proofs.CallLaws.{taken-done, taken-refused, length-pendingOf}
+use Rattle.rounds.proofs.CallLaws.{takeQuestions-yes, taken-done, taken-refused, ordered-taken, length-pendingOf}
 use Rattle.rounds.proofs.Placing.{tableIn-tableWith}
 
 -- ---- the table with the claim put in
@@ -263,3 +265,11 @@ module _ (n : Node) (whole : length (n .pending) ≡ tableLimit) (o : Ordered n)
     -- Taking the next claim is `taken`, where the node is in order and the claim passes questions 2 to 5.
     pub takenNext-taken : takenNext n c ≡ taken n c
     takenNext-taken = ⊎-elim {C = takenNext n c ≡ taken n c} takenNext-full takenNext-fits (lt-or-le limit (length (hear c (nodeKeys n))))
+
+    -- The node is then in order again, and the next claim may be taken.
+    pub ordered-takenNext : Ordered (takenNext n c .node)
+    ordered-takenNext =
+        ⊎-elim {C = Ordered (takenNext n c .node)}
+        (λ (e : firstNo (takeQuestions n c) ≡ 0). subst (λ (r : Taken). Ordered (r .node)) (sym (takenNext-taken ∙ taken-done n c e)) (ordered-taken n c (takeQuestions-yes n c e)))
+        (λ (f : firstNo (takeQuestions n c) ≡ 0 → ⊥). subst (λ (r : Taken). Ordered (r .node)) (sym (takenNext-taken ∙ taken-refused n c f)) o)
+        (eq-or-ne (firstNo (takeQuestions n c)) 0)

@@ -34,7 +34,7 @@ halvedTo (suc n) t c base size =
 unfoldable pub placeAmong : Claim → List Claim → ℕ
 placeAmong c t = halvedTo (length t) t c 0 (length t)
 
--- is the claim c that of place p among the claims t? Where the one there does not come before c, nor c before it.
+-- Is c the claim at place p among the claims t? If it does not come before that one; where p is the place of c, that one does not come before c.
 abbrev pub isAt : ℕ → Claim → List Claim → Bool
 isAt p c t = ltb p (length t) && not (before c (getD t p noClaim))
 
