@@ -1,7 +1,7 @@
 -- What waits in a round: `Entry`, `waits` and `answers` of Round. In order: a sound entry, whose claim is the claim of what its sender held, and what
 -- that gives; it stays sound while stores grow; claims made of keys wait soundly; its weight, by which deliveries are counted: it never rises while
 -- stores grow, and is at least 1. `u` is the union of both stores. Not here: what a delivery does to the weights (Deliver). Assumes nothing.
-use Prim.Native.Nat.{ℕ, _+_, _-_, _≤_, _<_, min}
+use Prim.Native.Nat.{ℕ, suc, _+_, _-_, _≤_, _<_, min}
 use mathlib.Core.List.{List, [], _∷_, _++_, List·Memᴰ, List·Memᴰ·head, List·Memᴰ·tail, List·Memᴰ·not-nil, List·Memᴰ·append-cases, Memᴰ·cast}
 use mathlib.Core.Logic.{⊎-elim}
 use mathlib.Core.Path.{_≡_, refl, sym, ap, _∙_, subst}
