@@ -1,0 +1,3 @@
+-- The laws of `wire`, by topic.
+pub mod Numbers
+pub mod Places

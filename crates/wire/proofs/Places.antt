@@ -1,0 +1,41 @@
+-- Laws of what a lent buffer holds once something is written at a place of it: its length, nothing written, one element more, a block right after a block.
+-- Assumes nothing.
+use Prim.Native.Nat.{ℕ, zero, suc, _+_, _-_, _≤_, _<_, min}
+use native.Mathlib.Nat.{add-zero, add-assoc}
+use native.Mathlib.Omega.{arith}
+use mathlib.Core.Path.{_≡_, refl, ap, ap₂, sym, _∙_}
+use mathlib.Core.List.{List, [], _∷_, _++_, append-assoc}
+use lib.ListN.{length, take, drop, getD, set, length-append, length-take, length-drop, length-set, take-append-drop}
+use lib.Seq.{take-set-le, drop-set-lt, getD-set-same, drop-drop, drop-cons, length-take-le, take-at, drop-at, drop-append-add}
+use Rattle.wire.specs.Place.{putAt}
+
+module _ {A : Type 0} where
+  pub length-putAt : (s : List A) (at : ℕ) (bs : List A) → at + length bs ≤ length s → length (putAt s at bs) ≡ length s
+  unfolding putAt
+  length-putAt s at bs h = rw (length-append, length-append, length-take, length-drop) (omega arith)
+
+  pub putAt-nil : (s : List A) (at : ℕ) → putAt s at [] ≡ s
+  unfolding putAt
+  putAt-nil s at = rw add-zero (take-append-drop at s)
+
+  -- one element more: the one past the end may be written first
+  pub putAt-snoc : (s : List A) (at : ℕ) (bs : List A) (b : A) (n : ℕ) → length bs ≡ n → at + n < length s → putAt (set s (at + n) b) at bs ≡ putAt s at (bs ++ (b ∷ []))
+  unfolding putAt
+  putAt-snoc s at bs b n e h =
+      let front : take at (set s (at + n) b) ≡ take at s = take-set-le at s (at + n) b (omega arith) in
+      let past : at + length (bs ++ (b ∷ [])) ≡ suc (at + n) = rw (length-append, e) (omega arith) in
+      let rest : drop (at + length bs) (set s (at + n) b) ≡ b ∷ drop (suc (at + n)) s =
+      rw (e, drop-cons (set s (at + n) b) (at + n) b (rw length-set h), getD-set-same s (at + n) b b h, drop-set-lt (suc (at + n)) s (at + n) b (omega arith)) in
+      rw (front, rest, past, append-assoc bs)
+
+  -- a block right after a block is one block
+  pub putAt-append : (s : List A) (at : ℕ) (xs ys : List A) (n : ℕ) → length xs ≡ n → at + n ≤ length s → putAt (putAt s at xs) (at + n) ys ≡ putAt s at (xs ++ ys)
+  unfolding putAt
+  putAt-append s at xs ys n e h =
+      let long : length (take at s ++ xs) ≡ at + n = rw (length-append, length-take, e) (omega arith) in
+      let whole : take at s ++ (xs ++ drop (at + length xs) s) ≡ (take at s ++ xs) ++ drop (at + n) s = rw (e, append-assoc) in
+      let front : take (at + n) (take at s ++ (xs ++ drop (at + length xs) s)) ≡ take at s ++ xs =
+      rw whole (take-at (take at s ++ xs) (drop (at + n) s) (at + n) long) in
+      let rest : drop (at + n + length ys) (take at s ++ (xs ++ drop (at + length xs) s)) ≡ drop (at + length (xs ++ ys)) s =
+      rw (whole, ← long, drop-append-add, long, drop-drop, length-append, e, add-assoc) in
+      rw (front, rest, append-assoc (take at s), append-assoc xs)

@@ -1,0 +1,8 @@
+-- What a lent buffer holds once some bytes are written at a place of it: "output past what was written keeps its contents", and so does what stands before.
+-- Assumes nothing.
+use Prim.Native.Nat.{ℕ, _+_}
+use mathlib.Core.List.{List, _++_}
+use lib.ListN.{length, take, drop}
+
+unfoldable pub putAt : {A : Type 0} → List A → ℕ → List A → List A
+putAt s at bs = take at s ++ (bs ++ drop (at + length bs) s)
