@@ -1,3 +1,4 @@
 -- The laws of `wire`, by topic.
 pub mod Numbers
 pub mod Places
+pub mod Claims

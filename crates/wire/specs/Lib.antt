@@ -1,5 +1,9 @@
 -- The definitions that the contracts of `wire` cite, in the order of document 01. Read them from the top.
 --   Number  numbers in bytes, high byte first
---   Place   what a lent buffer holds once some bytes are written at a place of it
+--   Claim   a claim in 26 bytes
+--   Run     keys or claims, one after the other
+--   Place   what a lent buffer holds once something is written at a place of it
 pub mod Number
+pub mod Claim
+pub mod Run
 pub mod Place

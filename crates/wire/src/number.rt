@@ -5,6 +5,11 @@ ghost use lib.ListN.{length};
 ghost use Rattle.wire.specs.Number.{byte, bytes, numberAt};
 ghost use Rattle.wire.specs.Place.{putAt};
 
+// The width of a key or a sum, and that of a count, in bytes.
+pub(crate) const KEY: usize = 8;
+
+pub(crate) const COUNT: usize = 2;
+
 // A byte as a number.
 fn wide(x: u8) -> u64
     ensures { λ r. ⌜ (r ≡ x) × (r < byte) ⌝ }
