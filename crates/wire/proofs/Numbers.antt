@@ -9,7 +9,7 @@ use mathlib.Core.List.{List, [], _∷_, _++_}
 use lib.Arith.{digits-lt, digits-div, digits-mod, mod-mul}
 use lib.Dec.{lit<}
 use lib.ListN.{length, take, drop, getD, set, length-append, length-take, length-drop}
-use lib.Seq.{take-suc, getD-drop}
+use lib.Seq.{take-suc, getD-drop, take-at, drop-append-add}
 use Rattle.wire.specs.Number.{byte, number, bytes, numberAt, Below}
 use Rattle.wire.specs.Place.{putAt}
 use Rattle.wire.proofs.Places.{putAt-nil, putAt-snoc}
@@ -115,6 +115,20 @@ pub numberAt-turn : (s : List ℕ) (at w n b : ℕ) → at + w < length s → n 
 numberAt-turn s at w n b p e f =
     let q : w < length (drop at s) = rw length-drop (omega arith) in
     rw (add-one, take-suc (drop at s) w 0 q, number-snoc, getD-drop, e, f)
+
+-- a place past the first bytes
+pub numberAt-skip : (xs ys : List ℕ) (m k w : ℕ) → length xs ≡ m → numberAt (xs ++ ys) (m + k) w ≡ numberAt ys k w
+numberAt-skip xs ys m k w e = rw (← e, drop-append-add)
+
+-- what is written is read again, whatever follows it
+pub numberAt-bytes : (w n : ℕ) (rest : List ℕ) → n < byte ^ w → numberAt (bytes w n ++ rest) 0 w ≡ n
+numberAt-bytes w n rest h = rw (take-at (bytes w n) rest w (length-bytes w n)) (number-bytes w n h)
+
+-- what is read is written again
+pub bytes-numberAt : (s : List ℕ) (at w : ℕ) → Below byte s → at + w ≤ length s → bytes w (numberAt s at w) ≡ take w (drop at s)
+bytes-numberAt s at w h p =
+    let e : length (take w (drop at s)) ≡ w = rw (length-take, length-drop) (omega arith) in
+    rw e at (bytes-number (take w (drop at s)) (below-take w (drop at s) (lit< tt) (below-drop at s h)))
 
 -- ---- the bytes of a number at a place
 

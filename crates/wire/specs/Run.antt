@@ -27,3 +27,8 @@ readRun l (suc n) bs = l .read bs ∷ readRun l n (drop (l .size) bs)
 abbrev pub writeRun : {A : Type 0} → Layout A → List A → List ℕ
 writeRun l [] = []
 writeRun l (x ∷ xs) = l .write x ++ writeRun l xs
+
+-- each thing of a list is as P says
+abbrev pub Each : {A : Type 0} → (A → Type 0) → List A → Type 0
+Each P [] = Unit
+Each P (x ∷ xs) = P x × Each P xs
