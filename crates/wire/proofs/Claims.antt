@@ -11,7 +11,7 @@ use Rattle.claims.specs.declared.claim.Claim.{Claim}
 use Rattle.wire.specs.Number.{byte, bytes, numberAt, Below}
 use Rattle.wire.specs.Claim.{keyWidth, countWidth, claimSize, claimBytes, claimFrom, ClaimFits}
 use Rattle.wire.specs.Place.{putAt}
-use Rattle.wire.proofs.Numbers.{length-bytes, numberAt-skip, numberAt-bytes, bytes-numberAt, numberAt-below}
+use Rattle.wire.proofs.Numbers.{length-bytes, numberAt-drop, numberAt-skip, numberAt-bytes, bytes-numberAt, numberAt-below}
 use Rattle.wire.proofs.Places.{putAt-append, length-putAt}
 
 pub length-claimBytes : (c : Claim) → length (claimBytes c) ≡ claimSize
@@ -19,9 +19,6 @@ unfolding claimBytes
 length-claimBytes c = simp (length-append, length-bytes)
 
 -- ---- the fields at a place
-
-numberAt-drop : (s : List ℕ) (at k w : ℕ) → numberAt (drop at s) k w ≡ numberAt s (at + k) w
-numberAt-drop s at k w = rw drop-drop
 
 -- the four fields, each read at its place, are the claim that stands there
 pub claimFrom-at : (s : List ℕ) (at : ℕ) {lo hi sum cnt : ℕ} → lo ≡ numberAt s at keyWidth → hi ≡ numberAt s (at + keyWidth) keyWidth → sum ≡ numberAt s (at + 2 * keyWidth) keyWidth
@@ -34,10 +31,14 @@ claimFrom-at s at {lo} {hi} {sum} {cnt} p q r t =
     λ i. record { lo = p i; hi = q′ i; sum = r′ i; cnt = t′ i }
 
 -- the four fields, each written at its place, are the claim's bytes
-pub putAt-claimBytes : (s : List ℕ) (at : ℕ) (c : Claim) → at + claimSize ≤ length s
-    → putAt (putAt (putAt (putAt s at (bytes keyWidth (c .lo))) (at + keyWidth) (bytes keyWidth (c .hi))) (at + 2 * keyWidth) (bytes keyWidth (c .sum))) (at + 3 * keyWidth) (bytes countWidth (c .cnt)) ≡ putAt s at (claimBytes c)
+pub putAt-claimBytes : (s : List ℕ) (at : ℕ) (c : Claim) {o₁ o₂ o₃ o₄ : List ℕ} → at + claimSize ≤ length s
+    → o₁ ≡ putAt s at (bytes keyWidth (c .lo))
+    → o₂ ≡ putAt o₁ (at + keyWidth) (bytes keyWidth (c .hi))
+    → o₃ ≡ putAt o₂ (at + 2 * keyWidth) (bytes keyWidth (c .sum))
+    → o₄ ≡ putAt o₃ (at + 3 * keyWidth) (bytes countWidth (c .cnt))
+    → o₄ ≡ putAt s at (claimBytes c)
 unfolding claimBytes
-putAt-claimBytes s at c h =
+putAt-claimBytes s at c h e₁ e₂ e₃ e₄ =
     let lo = bytes keyWidth (c .lo) in
     let hi = bytes keyWidth (c .hi) in
     let sum = bytes keyWidth (c .sum) in
@@ -45,6 +46,10 @@ putAt-claimBytes s at c h =
     let two : length (lo ++ hi) ≡ 2 * keyWidth = simp (length-append, length-bytes) in
     let three : length ((lo ++ hi) ++ sum) ≡ 3 * keyWidth = simp (length-append, length-bytes) in
     rw (
+      e₄,
+      e₃,
+      e₂,
+      e₁,
       putAt-append s at lo hi keyWidth (length-bytes keyWidth (c .lo)) (omega arith),
       putAt-append s at (lo ++ hi) sum (2 * keyWidth) two (omega arith),
       putAt-append s at ((lo ++ hi) ++ sum) cnt (3 * keyWidth) three (omega arith),

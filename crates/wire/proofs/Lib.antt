@@ -3,3 +3,6 @@ pub mod Numbers
 pub mod Places
 pub mod Claims
 pub mod Runs
+pub mod Questions
+pub mod Frames
+pub mod FrameTrips

@@ -9,7 +9,7 @@ use mathlib.Core.List.{List, [], _∷_, _++_}
 use lib.Arith.{digits-lt, digits-div, digits-mod, mod-mul}
 use lib.Dec.{lit<}
 use lib.ListN.{length, take, drop, getD, set, length-append, length-take, length-drop}
-use lib.Seq.{take-suc, getD-drop, take-at, drop-append-add}
+use lib.Seq.{take-suc, drop-drop, getD-drop, take-at, drop-append-add}
 use Rattle.wire.specs.Number.{byte, number, bytes, numberAt, Below}
 use Rattle.wire.specs.Place.{putAt}
 use Rattle.wire.proofs.Places.{putAt-nil, putAt-snoc}
@@ -115,6 +115,10 @@ pub numberAt-turn : (s : List ℕ) (at w n b : ℕ) → at + w < length s → n 
 numberAt-turn s at w n b p e f =
     let q : w < length (drop at s) = rw length-drop (omega arith) in
     rw (add-one, take-suc (drop at s) w 0 q, number-snoc, getD-drop, e, f)
+
+-- a place counted from another place
+pub numberAt-drop : (s : List ℕ) (at k w : ℕ) → numberAt (drop at s) k w ≡ numberAt s (at + k) w
+numberAt-drop s at k w = rw drop-drop
 
 -- a place past the first bytes
 pub numberAt-skip : (xs ys : List ℕ) (m k w : ℕ) → length xs ≡ m → numberAt (xs ++ ys) (m + k) w ≡ numberAt ys k w

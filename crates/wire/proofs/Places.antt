@@ -1,12 +1,13 @@
 -- Laws of what a lent buffer holds once something is written at a place of it: its length, nothing written, one element more, a block right after a block.
 -- Assumes nothing.
 use Prim.Native.Nat.{ℕ, zero, suc, _+_, _-_, _≤_, _<_, min}
-use native.Mathlib.Nat.{add-zero, add-assoc}
+use native.Mathlib.Nat.{zero-add, add-zero, add-assoc, sub-zero, zero-sub, suc-sub-suc}
 use native.Mathlib.Omega.{arith}
 use mathlib.Core.Path.{_≡_, refl, ap, ap₂, sym, _∙_}
-use mathlib.Core.List.{List, [], _∷_, _++_, append-assoc}
-use lib.ListN.{length, take, drop, getD, set, length-append, length-take, length-drop, length-set, take-append-drop}
-use lib.Seq.{take-set-le, drop-set-lt, getD-set-same, drop-drop, drop-cons, length-take-le, take-at, drop-at, drop-append-add}
+use mathlib.Core.List.{List, [], _∷_, _++_, append-assoc, map}
+use lib.ListN.{length, take, drop, getD, set, replicate, length-append, length-take, length-drop, length-set, take-append-drop, length-map}
+use lib.Seq.{take-set-le, drop-set-lt, getD-set-same, drop-drop, drop-cons, set-at, take-at, drop-append-add}
+use Rattle.rounds.specs.Call.{writtenOver}
 use Rattle.wire.specs.Place.{putAt}
 
 module _ {A : Type 0} where
@@ -17,6 +18,10 @@ module _ {A : Type 0} where
   pub putAt-nil : (s : List A) (at : ℕ) → putAt s at [] ≡ s
   unfolding putAt
   putAt-nil s at = rw add-zero (take-append-drop at s)
+
+  pub putAt-zero : (s bs : List A) → putAt s 0 bs ≡ writtenOver bs s
+  unfolding putAt
+  putAt-zero s bs = rw zero-add
 
   -- one element more: the one past the end may be written first
   pub putAt-snoc : (s : List A) (at : ℕ) (bs : List A) (b : A) (n : ℕ) → length bs ≡ n → at + n < length s → putAt (set s (at + n) b) at bs ≡ putAt s at (bs ++ (b ∷ []))
@@ -39,3 +44,36 @@ module _ {A : Type 0} where
       let rest : drop (at + n + length ys) (take at s ++ (xs ++ drop (at + length xs) s)) ≡ drop (at + length (xs ++ ys)) s =
       rw (whole, ← long, drop-append-add, long, drop-drop, length-append, e, add-assoc) in
       rw (front, rest, append-assoc (take at s), append-assoc xs)
+
+  -- ---- written to the beginning
+
+  pub length-writtenOver : (new lent : List A) → length new ≤ length lent → length (writtenOver new lent) ≡ length lent
+  length-writtenOver new lent h = rw (length-append, length-drop) (omega arith)
+
+  -- one element more
+  pub set-writtenOver : (new lent : List A) (x : A) (n : ℕ) → length new ≡ n → n < length lent → set (writtenOver new lent) n x ≡ writtenOver (new ++ (x ∷ [])) lent
+  set-writtenOver new lent x n e h =
+      let long : length (new ++ (x ∷ [])) ≡ suc n = rw (length-append, e) (omega arith) in
+      rw (e, drop-cons lent n x h, set-at new (getD lent n x) (drop (suc n) lent) x n e, long, append-assoc)
+
+  -- a block written right after what was written to the beginning
+  pub putAt-writtenOver : (lent xs ys : List A) (n : ℕ) → length xs ≡ n → n ≤ length lent → putAt (writtenOver xs lent) n ys ≡ writtenOver (xs ++ ys) lent
+  putAt-writtenOver lent xs ys n e h =
+      let z : 0 + n ≡ n = zero-add n in
+      let p : putAt (putAt lent 0 xs) (0 + n) ys ≡ putAt lent 0 (xs ++ ys) = putAt-append lent 0 xs ys n e (rw z h) in
+      rw (← putAt-zero lent xs, ← putAt-zero lent (xs ++ ys)) (rw z at p)
+
+  -- ---- over a run of one value
+
+  drop-replicate : (k n : ℕ) (a : A) → drop k (replicate n a) ≡ replicate (n - k) a
+  drop-replicate zero n a = rw sub-zero
+  drop-replicate (suc k) zero a = rw zero-sub
+  drop-replicate (suc k) (suc n) a = rw suc-sub-suc (drop-replicate k n a)
+
+  -- what is written over a run of one value is followed by those that are left
+  pub writtenOver-replicate : (xs : List A) (n : ℕ) (a : A) → writtenOver xs (replicate n a) ≡ xs ++ replicate (n - length xs) a
+  writtenOver-replicate xs n a = ap (λ (l : List A). xs ++ l) (drop-replicate (length xs) n a)
+
+  -- an array's list has as many elements as what the machine holds of it
+  pub length-mapped : {B : Type 0} (f : A → B) (l : List A) (n : ℕ) → length (map f l) ≡ n → length l ≡ n
+  length-mapped f l n e = sym (length-map l f) ∙ e

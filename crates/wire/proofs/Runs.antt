@@ -2,15 +2,19 @@
 -- Then that keys and claims lie in bytes faithfully. Assumes nothing.
 use Prim.Native.Nat.{ℕ, zero, suc, _+_, _*_, _^_, _≤_, _<_}
 use native.Mathlib.Nat.{mul-suc, mul-zero}
+use native.Mathlib.Numerals.{add-one}
 use native.Mathlib.Omega.{arith}
 use mathlib.Core.Path.{_≡_, refl, ap, ap₂, sym, _∙_}
 use mathlib.Core.List.{List, [], _∷_, _++_, append-assoc, append-nil}
 use lib.Dec.{lit≤, lit<}
-use lib.ListN.{length, take, drop, length-append, length-drop}
-use lib.Seq.{drop-drop, take-add, drop-at}
+use lib.ListN.{length, take, drop, getD, set, length-append, length-drop}
+use lib.Seq.{drop-drop, take-add, take-suc, length-take-le, drop-at}
+use Rattle.rounds.specs.Call.{writtenOver}
 use Rattle.wire.specs.Number.{byte, Below}
 use Rattle.wire.specs.Claim.{keyWidth, ClaimFits}
 use Rattle.wire.specs.Run.{Layout, key, claim, readRun, writeRun, Each}
+use Rattle.wire.specs.Place.{putAt}
+use Rattle.wire.proofs.Places.{putAt-append, set-writtenOver}
 use Rattle.wire.proofs.Numbers.{below-drop, length-bytes, numberAt-bytes, bytes-numberAt, numberAt-below}
 use Rattle.wire.proofs.Claims.{length-claimBytes, claimFrom-claimBytes, claimBytes-claimFrom, claimFrom-fits}
 
@@ -41,12 +45,23 @@ module _ {A : Type 0} (l : Layout A) where
   length-readRun zero bs = refl
   length-readRun (suc n) bs = ap suc (length-readRun n (drop (l .size) bs))
 
-  -- the turn of reading: one thing more at the end
-  pub readRun-snoc : (n : ℕ) (bs : List ℕ) → readRun l (suc n) bs ≡ readRun l n bs ++ (l .read (drop (l .size * n) bs) ∷ [])
-  readRun-snoc zero bs = rw mul-zero
-  readRun-snoc (suc n) bs =
+  readRun-suc : (n : ℕ) (bs : List ℕ) → readRun l (suc n) bs ≡ readRun l n bs ++ (l .read (drop (l .size * n) bs) ∷ [])
+  readRun-suc zero bs = rw mul-zero
+  readRun-suc (suc n) bs =
       let e : drop (l .size * n) (drop (l .size) bs) ≡ drop (l .size * suc n) bs = rw (drop-drop, size-suc) in
-      ap (λ (xs : List A). l .read bs ∷ xs) (rw e at (readRun-snoc n (drop (l .size) bs)))
+      ap (λ (xs : List A). l .read bs ∷ xs) (rw e at (readRun-suc n (drop (l .size) bs)))
+
+  -- the turn of reading: one thing more at the end
+  pub readRun-snoc : (n : ℕ) (bs : List ℕ) → readRun l (n + 1) bs ≡ readRun l n bs ++ (l .read (drop (l .size * n) bs) ∷ [])
+  readRun-snoc n bs = rw add-one (readRun-suc n bs)
+
+  -- the turn of reading into a run of places: x is what stands at the next place of the bytes
+  pub set-readRun : (lent : List A) (bs : List ℕ) (at i : ℕ) {out : List A} {x : A} → i < length lent → out ≡ writtenOver (readRun l i (drop at bs)) lent → x ≡ l .read (drop (at + l .size * i) bs)
+      → set out i x ≡ writtenOver (readRun l (i + 1) (drop at bs)) lent
+  set-readRun lent bs at i {out} {x} h e f =
+      let g : x ≡ l .read (drop (l .size * i) (drop at bs)) = rw drop-drop f in
+      let more = readRun-snoc i (drop at bs) in
+      rw (more, e, g) (set-writtenOver (readRun l i (drop at bs)) lent _ i (length-readRun i (drop at bs)) h)
 
   -- the turn of writing: one thing more at the end
   pub writeRun-snoc : (xs : List A) (x : A) → writeRun l (xs ++ (x ∷ [])) ≡ writeRun l xs ++ l .write x
@@ -77,3 +92,11 @@ module _ {A : Type 0} {l : Layout A} {Fit : A → Type 0} (faith : Faithful l Fi
   pub readRun-fits : (n : ℕ) (bs : List ℕ) → Below byte bs → Each Fit (readRun l n bs)
   readRun-fits zero bs h = tt
   readRun-fits (suc n) bs h = (faith .fits bs h, readRun-fits n (drop (l .size) bs) (below-drop (l .size) bs h))
+
+  -- the turn of writing at a place: one thing more, right after those before it
+  pub putAt-writeRun : (s : List ℕ) (at i : ℕ) (xs : List A) (d : A) {out : List ℕ} → i < length xs → at + l .size * i ≤ length s → out ≡ putAt s at (writeRun l (take i xs))
+      → putAt out (at + l .size * i) (l .write (getD xs i d)) ≡ putAt s at (writeRun l (take (i + 1) xs))
+  putAt-writeRun s at i xs d {out} h p e =
+      let long : length (writeRun l (take i xs)) ≡ l .size * i = rw (length-writeRun, length-take-le i xs (omega arith)) in
+      let more : writeRun l (take (i + 1) xs) ≡ writeRun l (take i xs) ++ l .write (getD xs i d) = rw (add-one, take-suc xs i d h, writeRun-snoc) in
+      rw (more, e) (putAt-append s at (writeRun l (take i xs)) (l .write (getD xs i d)) (l .size * i) long p)

@@ -44,11 +44,11 @@ returns c =
     let second = third .before .before .before .before in
     let first = second .before .before .before .before in
     let start = first .before .before .before in
-    let e1 = first .write .ensures in
-    let e2 = second .write2 .ensures in
-    let e3 = third .write3 .ensures in
-    let e4 = fourth .write4 .ensures in
-    cc (putAt-claimBytes (start .args .out .now) (start .args .at) (start .args .c) (start .pre))
+    putAt-claimBytes (start .args .out .now) (start .args .at) (start .args .c) (start .pre)
+    (first .write .ensures)
+    (second .write2 .ensures)
+    (third .write3 .ensures)
+    (fourth .write4 .ensures)
 
 pub write-spec : {M : Type 1} → statement M
 write-spec =

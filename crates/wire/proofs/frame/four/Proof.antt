@@ -1,0 +1,77 @@
+-- `frame::four` meets its contract. The invariant: the claims passed, with zeros past them. Assumes nothing.
+use Prim.Native.Nat.{_+_, _<_, _*_}
+use Prim.Native.Nat.{_≤_, _-_}
+use native.Mathlib.Omega.{arith}
+use mathlib.Core.Path.{_≡_}
+use mathlib.Core.Path.{sym, _∙_}
+use borrow.Author.Needs.{needs}
+use lib.ListN.{length}
+use lib.ListN.{take, drop}
+use Rattle.wire.specs.Frame.{headSize, frameLimit}
+use Rattle.wire.specs.Run.{claim, readRun}
+use Rattle.rounds.specs.Node.{blanks}
+use Rattle.rounds.specs.Call.{writtenOver}
+use Rattle.rounds.proofs.NodeLaws.{length-blanks}
+use Rattle.wire.proofs.Runs.{set-readRun}
+use Rattle.wire.proofs.Frames.{blanks-four, writtenOver-four}
+use Rattle.wire.proofs.frame.four.Statement.{statement}
+use Rattle.wire.proofs.frame.four.Tie as tie
+
+abbrev Inv-loop : tie.InvT-loop
+Inv-loop bytes n claims₀ i₀ claims i = (i ≤ n) × (claims ≡ writtenOver (readRun claim i (drop headSize bytes)) (blanks frameLimit))
+
+abbrev μ-loop : tie.MeasureT-loop
+μ-loop bytes n claims₀ i₀ claims i = n - i
+
+loop-holds : tie.Need-loop-holds Inv-loop μ-loop
+loop-holds c = (search needs, blanks-four)
+
+mul-read : tie.Need-mul-read Inv-loop μ-loop
+mul-read c = search needs
+
+add-read : tie.Need-add-read Inv-loop μ-loop
+add-read c = search needs
+
+read-requires : tie.Need-read-requires Inv-loop μ-loop
+read-requires c κs = search needs
+
+mul-claims : tie.Need-mul-claims Inv-loop μ-loop
+mul-claims c = search needs
+
+array-set-from-claims : tie.Need-array-set-from-claims Inv-loop μ-loop
+array-set-from-claims c = search needs
+
+add-i : tie.Need-add-i Inv-loop μ-loop
+add-i c = search needs
+
+loop-less : tie.Need-loop-less Inv-loop μ-loop
+loop-less c = search needs
+
+loop-again : tie.Need-loop-again Inv-loop μ-loop
+loop-again c = let t = c .before in
+    let l = t .before .loop in
+    let s = t .before .before .before .args .bytes .now in
+    (search needs, set-readRun claim (blanks frameLimit) s headSize (l .i) (rw (length-blanks frameLimit) (omega arith)) (l .inv .1) (c .read .ensures))
+
+returns : tie.Need-returns Inv-loop μ-loop
+returns c =
+    let s = c .before .before .before .args .bytes .now in
+    let e : c .before .loop .i ≡ c .before .before .before .args .n = omega arith in
+    rw (← e) (c .before .loop .inv .1 ∙ writtenOver-four (readRun claim (c .before .loop .i) (drop headSize s)))
+
+pub four-spec : {M : Type 1} → statement M
+four-spec =
+    tie.close
+    (tie.spec
+    Inv-loop
+    μ-loop
+    loop-holds
+    mul-read
+    add-read
+    read-requires
+    mul-claims
+    array-set-from-claims
+    add-i
+    loop-less
+    loop-again
+    returns)

@@ -1,0 +1,38 @@
+-- `frame::has_mark` meets its contract. Assumes nothing.
+use borrow.Author.Needs.{needs}
+use Rattle.wire.proofs.Frames.{marked-short, marked-first, marked-second}
+use Rattle.wire.proofs.frame.has_mark.Statement.{statement}
+use Rattle.wire.proofs.frame.has_mark.Tie as tie
+
+returns : tie.Need-returns
+returns c = marked-short (c .before .args .bytes .now) (c .if1 .taken)
+
+shared-slice-read-if2 : tie.Need-shared-slice-read-if2
+shared-slice-read-if2 c = search needs
+
+array-read-if2 : tie.Need-array-read-if2
+array-read-if2 c = search needs
+
+returns-2 : tie.Need-returns-2
+returns-2 c = marked-first (c .before .before .before .args .bytes .now) (c .before .before .if1 .left) (c .if2 .taken)
+
+shared-slice-read-result : tie.Need-shared-slice-read-result
+shared-slice-read-result c = search needs
+
+array-read-result : tie.Need-array-read-result
+array-read-result c = search needs
+
+returns-3 : tie.Need-returns-3
+returns-3 c = marked-second (c .before .before .before .before .args .bytes .now) (c .before .before .before .if1 .left) (c .before .if2 .left)
+
+pub has-mark-spec : {M : Type 1} → statement M
+has-mark-spec =
+    tie.close
+    (tie.spec
+    returns
+    shared-slice-read-if2
+    array-read-if2
+    returns-2
+    shared-slice-read-result
+    array-read-result
+    returns-3)

@@ -1,0 +1,26 @@
+-- `frame::read_frame` meets its contract. Assumes nothing.
+use mathlib.Core.Path.{sym, _∙_}
+use borrow.Author.Needs.{needs}
+use Rattle.wire.proofs.Frames.{readFrame-head}
+use Rattle.wire.proofs.frame.read_frame.Statement.{statement}
+use Rattle.wire.proofs.frame.read_frame.Tie as tie
+
+heading-requires : tie.Need-heading-requires
+heading-requires c κs = search needs
+
+refused-requires : tie.Need-refused-requires
+refused-requires c κs = search needs
+
+returns : tie.Need-returns
+returns c = let h = c .before .before in
+    c .refused .ensures ∙ readFrame-head (h .before .before .args .bytes .now) (h .heading .ensures) (c .before .if1 .taken)
+
+contents-requires : tie.Need-contents-requires
+contents-requires c κs = search needs
+
+returns-2 : tie.Need-returns-2
+returns-2 c = search needs
+
+pub read-frame-spec : {M : Type 1} → statement M
+read-frame-spec =
+    tie.close (tie.spec heading-requires refused-requires returns contents-requires returns-2)

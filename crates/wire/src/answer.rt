@@ -1,0 +1,25 @@
+// What the calls answer. A number is that of the first question of document 01 answered no, or 0.
+use crate::claim;
+use crate::frame;
+use claims::Claim;
+
+// The claims of a frame, zeros past the count; all zeros where it was refused.
+pub struct Framed {
+    pub number: u8,
+    pub claims: [Claim; Framed::CLAIMS],
+    pub count: usize,
+}
+
+impl Framed {
+    // A frame has from one claim to so many.
+    pub const CLAIMS: usize = 4;
+
+    // The longest frame.
+    pub const LENGTH: usize = frame::HEAD + claim::SIZE * Framed::CLAIMS;
+}
+
+// How many bytes were written or are told; 0 where the call was refused.
+pub struct Length {
+    pub number: u8,
+    pub length: usize,
+}
