@@ -6,3 +6,4 @@ pub mod Runs
 pub mod Questions
 pub mod Frames
 pub mod FrameTrips
+pub mod Images

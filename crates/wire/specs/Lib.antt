@@ -5,9 +5,13 @@
 --   Place   what a lent buffer holds once something is written at a place of it
 --   Length  a length as a call returns it
 --   Frame   frames, read and written
+--   Image   images, read and written
+--   Told    what an image's counts tell, as the code hands it on
 pub mod Number
 pub mod Claim
 pub mod Run
 pub mod Place
 pub mod Length
 pub mod Frame
+pub mod Image
+pub mod Told

@@ -1,7 +1,10 @@
 // What the calls answer. A number is that of the first question of document 01 answered no, or 0.
 use crate::claim;
 use crate::frame;
+use crate::number;
 use claims::Claim;
+use claims::Store;
+use rounds::Node;
 
 // The claims of a frame, zeros past the count; all zeros where it was refused.
 pub struct Framed {
@@ -22,4 +25,17 @@ impl Framed {
 pub struct Length {
     pub number: u8,
     pub length: usize,
+}
+
+// The node of an image; the empty node where it was refused.
+pub struct Imaged {
+    pub number: u8,
+    pub node: Node,
+}
+
+impl Imaged {
+    // The longest image: both counts, and as many keys and pending claims as there may be.
+    pub const LENGTH: usize = 2 * number::COUNT
+        + number::KEY * Store::LIMIT
+        + claim::SIZE * Node::TABLE;
 }

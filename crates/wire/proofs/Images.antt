@@ -1,0 +1,291 @@
+-- Laws of images: what the counts tell, as the code finds it; then the calls, one law for each way that the code goes. Assumes nothing.
+use Prim.Native.Nat.{ℕ, zero, suc, _+_, _-_, _*_, _≤_, _<_}
+use native.Mathlib.Omega.{arith}
+use mathlib.Core.Bool.{Bool, true, false, cond, _&&_}
+use mathlib.Core.List.{List, [], _∷_, _++_, append-assoc}
+use mathlib.Core.Path.{_≡_, refl, ap, sym, _∙_}
+use borrow.Author.Tests.{le-leb, lt-leb, leb-true, leb-false, eqb-true, eqb-false, eq-eqb, ne-eqb}
+use lib.Dec.{leb, eqb, lit<}
+use lib.ListN.{length, take, drop, replicate, length-append}
+use lib.Seq.{drop-drop, length-take-le}
+use Rattle.claims.specs.declared.claim.Claim.{Claim}
+use Rattle.claims.specs.declared.store.Store.{Store}
+use Rattle.claims.specs.Claim.{noClaim}
+use Rattle.claims.specs.Store.{limit, zeros, storeOf, emptyStore}
+use Rattle.claims.specs.Question.{firstNo, settle}
+use Rattle.claims.proofs.Order.{inOrder-count}
+use Rattle.claims.proofs.Tests.{and-left, and-right}
+use Rattle.claims.proofs.QuestionLaws.{firstNo-zero, settle-done, settle-refused}
+use Rattle.rounds.specs.Table.{tableLimit}
+use Rattle.rounds.specs.declared.node.Node.{Node}
+use Rattle.rounds.specs.Node.{blanks, nodeOf, nodeInOrder, nodeKeys, pendingOf}
+use Rattle.rounds.specs.Call.{writtenOver}
+use Rattle.rounds.proofs.NodeLaws.{nodeInOrder-ordered}
+use Rattle.wire.specs.declared.answer.Length.{Length}
+use Rattle.wire.specs.declared.image.Part.{Part}
+use Rattle.wire.specs.declared.image.Told.{Told}
+use Rattle.wire.specs.Number.{bytes}
+use Rattle.wire.specs.Place.{putAt}
+use Rattle.wire.specs.Claim.{keyWidth, countWidth, claimSize}
+use Rattle.wire.specs.Length.{noLength}
+use Rattle.wire.specs.Image.{keySection, claimSection, sections, sectionLength, imageLimit, countOf, behind, countFits, countsFit, toldLength, imageLength, parse, nodeFrom, question14, noImage, readImage, imageBytes, sectionBytes, nodeBytes, Shaped, writeImageQuestions, writeImage, imageLent}
+use Rattle.wire.specs.Run.{key, claim, readRun, writeRun}
+use Rattle.wire.specs.Told.{partOf, toldOf, nodeAt, AsTold, HasRoom}
+use Rattle.wire.proofs.Places.{putAt-zero, putAt-writtenOver, writtenOver-replicate}
+use Rattle.wire.proofs.Runs.{length-readRun, length-writeRun, key-faithful, claim-faithful}
+use Rattle.wire.proofs.Numbers.{length-bytes}
+
+-- the size that document 01 names
+pub image-size : imageLimit ≡ 9860
+image-size = refl
+
+-- ---- one count
+
+module _ (most : ℕ) (bs : List ℕ) where
+  pub countFits-missing : length bs < countWidth → countFits most bs ≡ false
+  unfolding countFits
+  countFits-missing h = rw (lt-leb countWidth (length bs) h)
+
+  pub countFits-high : countWidth ≤ length bs → most < countOf bs → countFits most bs ≡ false
+  unfolding countFits
+  countFits-high h p = rw (le-leb countWidth (length bs) h, lt-leb (countOf bs) most p)
+
+  pub countFits-of : countWidth ≤ length bs → countOf bs ≤ most → countFits most bs ≡ true
+  unfolding countFits
+  countFits-of h p = rw (le-leb countWidth (length bs) h, le-leb (countOf bs) most p)
+
+  pub countFits-yes : countFits most bs ≡ true → (countWidth ≤ length bs) × (countOf bs ≤ most)
+  unfolding countFits
+  countFits-yes e =
+      (leb-true countWidth (length bs) (and-left (leb countWidth (length bs)) (leb (countOf bs) most) e), leb-true (countOf bs) most (and-right (leb countWidth (length bs)) (leb (countOf bs) most) e))
+
+  pub partOf-no : countFits most bs ≡ false → record { fits = false; count = 0 } ≡ partOf most bs
+  unfolding partOf
+  partOf-no e = rw e
+
+  pub partOf-yes : countFits most bs ≡ true → record { fits = true; count = countOf bs } ≡ partOf most bs
+  unfolding partOf
+  partOf-yes e = rw e
+
+  -- a part that fits tells its count, and no part a count above the most
+  pub partOf-fits : partOf most bs .fits ≡ countFits most bs
+  partOf-fits = go (countFits most bs) refl
+    where
+      go : (t : Bool) → countFits most bs ≡ t → partOf most bs .fits ≡ countFits most bs
+      go true e = rw (e, ← partOf-yes e)
+      go false e = rw (e, ← partOf-no e)
+
+  pub partOf-count : countFits most bs ≡ true → partOf most bs .count ≡ countOf bs
+  partOf-count e = rw (← partOf-yes e)
+
+  pub partOf-most : partOf most bs .count ≤ most
+  partOf-most = go (countFits most bs) refl
+    where
+      go : (t : Bool) → countFits most bs ≡ t → partOf most bs .count ≤ most
+      go true e = rw (partOf-count e) (countFits-yes e .1)
+      go false e = rw (← partOf-no e) (omega arith)
+
+  pub part-most : {p : Part} → p ≡ partOf most bs → p .count ≤ most
+  part-most e = rw e partOf-most
+
+-- ---- both counts
+
+module _ (bs : List ℕ) where
+  pub toldOf-no : countsFit sections bs ≡ false → record { fits = false; keys = 0; pending = 0; length = 0 } ≡ toldOf bs
+  unfolding toldOf
+  toldOf-no e = rw e
+
+  pub toldOf-yes : countsFit sections bs ≡ true → record { fits = true; keys = countOf bs; pending = countOf (behind keySection bs); length = toldLength sections bs } ≡ toldOf bs
+  unfolding toldOf
+  toldOf-yes e = rw e
+
+  pub toldOf-fits : toldOf bs .fits ≡ countsFit sections bs
+  toldOf-fits = go (countsFit sections bs) refl
+    where
+      go : (t : Bool) → countsFit sections bs ≡ t → toldOf bs .fits ≡ countsFit sections bs
+      go true e = rw (e, ← toldOf-yes e)
+      go false e = rw (e, ← toldOf-no e)
+
+  -- the three ways of the code: p and q are the two parts that it finds
+  module _ {p q : Part} (e : p ≡ partOf limit bs) (f : q ≡ partOf tableLimit (drop (countWidth + keyWidth * p .count) bs)) where
+    keys-fit : p .fits ≡ countFits limit bs
+    keys-fit = rw e (partOf-fits limit bs)
+
+    place : p .fits ≡ true → drop (countWidth + keyWidth * p .count) bs ≡ behind keySection bs
+    place t = rw (e, partOf-count limit bs (sym keys-fit ∙ t))
+
+    pending-fit : p .fits ≡ true → q .fits ≡ countFits tableLimit (behind keySection bs)
+    pending-fit t = rw (f, place t) (partOf-fits tableLimit (behind keySection bs))
+
+    pub told-keys : p .fits ≡ false → record { fits = false; keys = 0; pending = 0; length = 0 } ≡ toldOf bs
+    unfolding countsFit
+    told-keys t = toldOf-no (rw (← keys-fit, t))
+
+    pub told-pending : p .fits ≡ true → q .fits ≡ false → record { fits = false; keys = 0; pending = 0; length = 0 } ≡ toldOf bs
+    unfolding countsFit
+    told-pending t u = toldOf-no (rw (← keys-fit, t, ← pending-fit t, u))
+
+    pub told-both : p .fits ≡ true → q .fits ≡ true
+        → record { fits = true; keys = p .count; pending = q .count; length = countWidth + keyWidth * p .count + countWidth + claimSize * q .count } ≡ toldOf bs
+    unfolding countsFit toldLength
+    told-both t u =
+        let k : countFits limit bs ≡ true = sym keys-fit ∙ t in
+        let l : countFits tableLimit (behind keySection bs) ≡ true = sym (pending-fit t) ∙ u in
+        let m : p .count ≡ countOf bs = rw e (partOf-count limit bs k) in
+        let n : q .count ≡ countOf (behind keySection bs) = rw (f, place t) (partOf-count tableLimit (behind keySection bs) l) in
+        let whole : countWidth + keyWidth * p .count + countWidth + claimSize * q .count ≡ toldLength sections bs = rw (m, n) (omega arith) in
+        (λ i. record { fits = true; keys = m i; pending = n i; length = whole i }) ∙ toldOf-yes (rw (k, l))
+
+-- ---- the length at the front
+
+module _ (bs : List ℕ) {t : Told} (e : t ≡ toldOf bs) where
+  pub counts : countsFit sections bs ≡ t .fits
+  counts = rw e (sym (toldOf-fits bs))
+
+  pub lengths : countsFit sections bs ≡ true → t .length ≡ toldLength sections bs
+  lengths y = rw (e, ← toldOf-yes bs y)
+
+  pub imageLength-counts : t .fits ≡ false → noLength 14 ≡ imageLength bs
+  unfolding imageLength
+  imageLength-counts h = rw (counts ∙ h)
+
+  pub imageLength-short : t .fits ≡ true → length bs < t .length → noLength 14 ≡ imageLength bs
+  unfolding imageLength
+  imageLength-short h p =
+      let y = counts ∙ h in
+      rw (y, lt-leb (toldLength sections bs) (length bs) (rw (← lengths y) p))
+
+  pub imageLength-0 : t .fits ≡ true → t .length ≤ length bs → record { number = 0; length = t .length } ≡ imageLength bs
+  unfolding imageLength
+  imageLength-0 h p =
+      let y = counts ∙ h in
+      rw (y, le-leb (toldLength sections bs) (length bs) (rw (← lengths y) p), lengths y)
+
+-- ---- reading
+
+-- the node that the code puts together: the keys over the empty store's, the claims over zeros
+pub nodeAt-laid : (bs : List ℕ) (n m : ℕ) {s : Store} {ks : List ℕ} {cs : List Claim} → s ≡ emptyStore → ks ≡ writtenOver (readRun key n (drop countWidth bs)) (s .keys)
+    → cs ≡ writtenOver (readRun claim m (drop (sectionLength keySection n + countWidth) bs)) (blanks tableLimit)
+    → record { store = record { keys = ks; count = n }; pending = cs; count = m } ≡ nodeAt bs n m
+unfolding nodeAt nodeOf storeOf emptyStore zeros blanks
+nodeAt-laid bs n m {s} {ks} {cs} e f g =
+    let k = readRun key n (drop countWidth bs) in
+    let t = readRun claim m (drop (sectionLength keySection n + countWidth) bs) in
+    let p : ks ≡ k ++ replicate (limit - length k) 0 = f ∙ (rw e (writtenOver-replicate k limit 0)) in
+    let q : cs ≡ t ++ replicate (tableLimit - length t) noClaim = g ∙ writtenOver-replicate t tableLimit noClaim in
+    let u : n ≡ length k = sym (length-readRun key n (drop countWidth bs)) in
+    let v : m ≡ length t = sym (length-readRun claim m (drop (sectionLength keySection n + countWidth) bs)) in
+    λ i. record { store = record { keys = p i; count = u i }; pending = q i; count = v i }
+
+module _ {bs : List ℕ} {n m : ℕ} (told : AsTold bs n m) where
+  keys-told : countFits limit bs ≡ true
+  unfolding countsFit
+  keys-told = and-left (countFits limit bs) (countFits tableLimit (behind keySection bs) && true) (told .counts)
+
+  pending-told : countFits tableLimit (behind keySection bs) ≡ true
+  unfolding countsFit
+  pending-told = and-left (countFits tableLimit (behind keySection bs)) true (and-right (countFits limit bs) (countFits tableLimit (behind keySection bs) && true) (told .counts))
+
+  pub told-room : (n ≤ limit) × (m ≤ tableLimit) × (sectionLength keySection n + sectionLength claimSection m ≤ length bs)
+  unfolding toldLength
+  told-room =
+      let p : countOf bs ≤ limit = countFits-yes limit bs keys-told .1 in
+      let q : countOf (behind keySection bs) ≤ tableLimit = countFits-yes tableLimit (behind keySection bs) pending-told .1 in
+      let k = told .keys in
+      let l = told .pending in
+      let w = told .whole in
+      (rw k p, rw l q, rw (k, l, w) (omega arith))
+
+  pub nodeAt-parse : nodeAt bs n m ≡ nodeFrom (parse bs)
+  unfolding nodeAt parse
+  nodeAt-parse = rw (told .keys, told .pending, ← drop-drop countWidth (sectionLength keySection (countOf bs)) bs)
+
+  whole-told : question14 bs .yes ≡ true
+  whole-told = rw (told .counts) (eq-eqb (length bs) (toldLength sections bs) (told .whole))
+
+  pub readImage-1 : nodeInOrder (nodeFrom (parse bs)) ≡ false → noImage 1 ≡ readImage bs
+  unfolding readImage
+  readImage-1 e = rw (whole-told, e)
+
+  pub readImage-0 : nodeInOrder (nodeFrom (parse bs)) ≡ true → record { number = 0; node = nodeFrom (parse bs) } ≡ readImage bs
+  unfolding readImage
+  readImage-0 e = rw (whole-told, e)
+
+module _ (bs : List ℕ) {t : Told} (e : t ≡ toldOf bs) where
+  pub readImage-counts : t .fits ≡ false → noImage 14 ≡ readImage bs
+  unfolding readImage
+  readImage-counts h = rw (counts bs e ∙ h)
+
+  pub readImage-length : t .fits ≡ true → (length bs ≡ t .length → ⊥) → noImage 14 ≡ readImage bs
+  unfolding readImage
+  readImage-length h f =
+      let y = counts bs e ∙ h in
+      rw (y, ne-eqb (length bs) (toldLength sections bs) (λ z. f (z ∙ sym (lengths bs e y))))
+
+  pub told-as : t .fits ≡ true → length bs ≡ t .length → AsTold bs (t .keys) (t .pending)
+  told-as h w =
+      let y = counts bs e ∙ h in
+      record { counts = y; whole = w ∙ lengths bs e y; keys = rw (e, ← toldOf-yes bs y); pending = rw (e, ← toldOf-yes bs y) }
+
+-- ---- writing
+
+module _ (n : Node) where
+  -- the counts of a node in order are not too high
+  pub ordered-counts : nodeInOrder n ≡ true → (n .store .count ≤ limit) × (n .count ≤ tableLimit)
+  ordered-counts e = let o = nodeInOrder-ordered n e in (inOrder-count (n .store) (o .store), o .count)
+
+  module _ (shaped : Shaped n) (few : n .store .count ≤ limit) (several : n .count ≤ tableLimit) where
+    length-nodeKeys : length (nodeKeys n) ≡ n .store .count
+    length-nodeKeys = length-take-le (n .store .count) (n .store .keys) (rw (shaped .keys) few)
+
+    length-pending : length (pendingOf n) ≡ n .count
+    length-pending = length-take-le (n .count) (n .pending) (rw (shaped .pending) several)
+
+    length-keyBytes : length (sectionBytes key (nodeKeys n)) ≡ sectionLength keySection (n .store .count)
+    length-keyBytes = rw (length-append, length-bytes, length-writeRun key-faithful, length-nodeKeys)
+
+    pub length-nodeBytes : length (nodeBytes n) ≡ sectionLength keySection (n .store .count) + sectionLength claimSection (n .count)
+    unfolding imageBytes
+    length-nodeBytes = rw (length-append, length-keyBytes, length-append (bytes countWidth (length (pendingOf n))), length-bytes, length-writeRun claim-faithful, length-pending)
+
+    -- the four blocks, each written right after the one before
+    pub nodeBytes-put : (out : List ℕ) {o₁ o₂ o₃ o₄ : List ℕ} → sectionLength keySection (n .store .count) + sectionLength claimSection (n .count) ≤ length out
+        → o₁ ≡ putAt out 0 (bytes countWidth (n .store .count))
+        → o₂ ≡ putAt o₁ countWidth (writeRun key (nodeKeys n))
+        → o₃ ≡ putAt o₂ (sectionLength keySection (n .store .count)) (bytes countWidth (n .count))
+        → o₄ ≡ putAt o₃ (sectionLength keySection (n .store .count) + countWidth) (writeRun claim (pendingOf n))
+        → o₄ ≡ writtenOver (nodeBytes n) out
+    unfolding imageBytes
+    nodeBytes-put out h e₁ e₂ e₃ e₄ =
+        let a = bytes countWidth (n .store .count) in
+        let b = writeRun key (nodeKeys n) in
+        let d = bytes countWidth (n .count) in
+        let e = writeRun claim (pendingOf n) in
+        let two : length (a ++ b) ≡ sectionLength keySection (n .store .count) = rw (length-append, length-bytes, length-writeRun key-faithful, length-nodeKeys) in
+        let three : length ((a ++ b) ++ d) ≡ sectionLength keySection (n .store .count) + countWidth = rw (length-append (a ++ b), two, length-bytes) in
+        let whole : ((a ++ b) ++ d) ++ e ≡ nodeBytes n = rw (append-assoc (a ++ b), length-nodeKeys, length-pending) in
+        rw (
+          e₄,
+          e₃,
+          e₂,
+          e₁,
+          putAt-zero out a,
+          putAt-writtenOver out a b countWidth (length-bytes countWidth (n .store .count)) (omega arith),
+          putAt-writtenOver out (a ++ b) d (sectionLength keySection (n .store .count)) two (omega arith),
+          putAt-writtenOver out ((a ++ b) ++ d) e (sectionLength keySection (n .store .count) + countWidth) three (omega arith),
+          whole,
+        )
+
+  module _ (out : List ℕ) where
+    pub writeImage-1 : nodeInOrder n ≡ false → (noLength 1 ≡ writeImage n (length out)) × (out ≡ imageLent n out)
+    unfolding writeImage imageLent
+    writeImage-1 e = (rw e, rw e)
+
+    pub writeImage-15 : nodeInOrder n ≡ true → length out < length (nodeBytes n) → (noLength 15 ≡ writeImage n (length out)) × (out ≡ imageLent n out)
+    unfolding writeImage imageLent
+    writeImage-15 e h = (rw (e, lt-leb (length (nodeBytes n)) (length out) h), rw (e, lt-leb (length (nodeBytes n)) (length out) h))
+
+    pub writeImage-0 : nodeInOrder n ≡ true → length (nodeBytes n) ≤ length out
+        → (record { number = 0; length = length (nodeBytes n) } ≡ writeImage n (length out)) × (writtenOver (nodeBytes n) out ≡ imageLent n out)
+    unfolding writeImage imageLent
+    writeImage-0 e h = (rw (e, le-leb (length (nodeBytes n)) (length out) h), rw (e, le-leb (length (nodeBytes n)) (length out) h))

@@ -1,0 +1,64 @@
+-- `image::put_image` meets its contract: four blocks, each right after the one before, are the image. Assumes nothing.
+use mathlib.Core.Path.{_≡_}
+use borrow.Author.Needs.{needs}
+use lib.ListN.{length}
+use Rattle.claims.specs.Store.{limit}
+use Rattle.rounds.specs.Table.{tableLimit}
+use Rattle.wire.specs.Image.{Shaped}
+use Rattle.wire.proofs.Images.{nodeBytes-put}
+use Rattle.wire.proofs.Places.{length-mapped}
+use Rattle.wire.proofs.image.put_image.Statement.{statement}
+use Rattle.wire.proofs.image.put_image.Tie as tie
+
+shaped : (c : tie.Start) → Shaped (c .args .t2)
+shaped c = record { keys = search (needs, length-mapped); pending = search (needs, length-mapped) }
+
+mul-at : tie.Need-mul-at
+mul-at c = search needs
+
+add-at : tie.Need-add-at
+add-at c = search needs
+
+write-requires : tie.Need-write-requires
+write-requires c κs = search needs
+
+write-keys-requires : tie.Need-write-keys-requires
+write-keys-requires c κs = search needs
+
+write-requires-2 : tie.Need-write-requires-2
+write-requires-2 c κs = search needs
+
+add-write-claims : tie.Need-add-write-claims
+add-write-claims c = search needs
+
+write-claims-requires : tie.Need-write-claims-requires
+write-claims-requires c κs = search needs
+
+same-length : tie.Need-same-length
+same-length c = search needs
+
+returns : tie.Need-returns
+returns c = let fourth = c .before .before in
+    let third = fourth .before .before .before .before .before in
+    let second = third .before .before .before .before in
+    let first = second .before .before .before .before .before .before .before in
+    let start = first .before .before .before in
+    nodeBytes-put (start .args .t2) (shaped start) (start .pre .keys) (start .pre .pending) (start .args .out .now) (start .pre .enough)
+    (first .write .ensures)
+    (second .write-keys .ensures)
+    (third .write2 .ensures)
+    (fourth .write-claims .ensures)
+
+pub put-image-spec : {M : Type 1} → statement M
+put-image-spec =
+    tie.close
+    (tie.spec
+    mul-at
+    add-at
+    write-requires
+    write-keys-requires
+    write-requires-2
+    add-write-claims
+    write-claims-requires
+    same-length
+    returns)

@@ -1,0 +1,75 @@
+-- `image::read_claims` meets its contract. The invariant: the claims passed, with zeros past them. Assumes nothing.
+use Prim.Native.Nat.{_≤_, _<_, _-_, _+_, _*_}
+use native.Mathlib.Omega.{arith}
+use mathlib.Core.Path.{_≡_, refl, sym, _∙_}
+use borrow.Author.Needs.{needs}
+use lib.ListN.{length, drop}
+use Rattle.rounds.proofs.NodeLaws.{length-blanks}
+use Rattle.rounds.specs.Call.{writtenOver}
+use Rattle.rounds.specs.Node.{blanks}
+use Rattle.rounds.specs.Table.{tableLimit}
+use Rattle.wire.specs.Run.{claim, readRun}
+use Rattle.wire.proofs.Runs.{set-readRun}
+use Rattle.wire.proofs.image.read_claims.Statement.{statement}
+use Rattle.wire.proofs.image.read_claims.Tie as tie
+
+abbrev Inv-loop : tie.InvT-loop
+Inv-loop bytes at n claims₀ i₀ claims i = (i ≤ n) × (claims ≡ writtenOver (readRun claim i (drop at bytes)) (blanks tableLimit))
+
+abbrev μ-loop : tie.MeasureT-loop
+μ-loop bytes at n claims₀ i₀ claims i = n - i
+
+no-claims-requires : tie.Need-no-claims-requires Inv-loop μ-loop
+no-claims-requires c κs = search needs
+
+loop-holds : tie.Need-loop-holds Inv-loop μ-loop
+loop-holds c = (search needs, c .no-claims .ensures)
+
+mul-read : tie.Need-mul-read Inv-loop μ-loop
+mul-read c = search needs
+
+add-read : tie.Need-add-read Inv-loop μ-loop
+add-read c = search needs
+
+read-requires : tie.Need-read-requires Inv-loop μ-loop
+read-requires c κs = search needs
+
+mul-claims : tie.Need-mul-claims Inv-loop μ-loop
+mul-claims c = search needs
+
+array-set-from-claims : tie.Need-array-set-from-claims Inv-loop μ-loop
+array-set-from-claims c = search needs
+
+add-i : tie.Need-add-i Inv-loop μ-loop
+add-i c = search needs
+
+loop-less : tie.Need-loop-less Inv-loop μ-loop
+loop-less c = search needs
+
+loop-again : tie.Need-loop-again Inv-loop μ-loop
+loop-again c = let t = c .before in
+    let l = t .before .loop in
+    let a = t .before .before .before .before .args in
+    (search needs, set-readRun claim (blanks tableLimit) (a .bytes .now) (a .at) (l .i) (rw (length-blanks tableLimit) (omega arith)) (l .inv .1) (c .read .ensures))
+
+returns : tie.Need-returns Inv-loop μ-loop
+returns c = let e : c .before .loop .i ≡ c .before .before .before .before .args .n = omega arith in
+    rw (← e) (c .before .loop .inv .1)
+
+pub read-claims-spec : {M : Type 1} → statement M
+read-claims-spec =
+    tie.close
+    (tie.spec
+    Inv-loop
+    μ-loop
+    no-claims-requires
+    loop-holds
+    mul-read
+    add-read
+    read-requires
+    mul-claims
+    array-set-from-claims
+    add-i
+    loop-less
+    loop-again
+    returns)

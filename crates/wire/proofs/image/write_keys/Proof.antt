@@ -1,0 +1,76 @@
+-- `image::write_keys` meets its contract. The invariant: the keys passed stand at the place. Assumes nothing.
+use Prim.Native.Nat.{_≤_, _<_, _-_, _+_, _*_}
+use native.Mathlib.Omega.{arith}
+use mathlib.Core.Path.{_≡_, refl, sym, _∙_}
+use borrow.Author.Needs.{needs}
+use lib.ListN.{length, take, getD}
+use Rattle.wire.specs.Place.{putAt}
+use Rattle.wire.specs.Run.{key, writeRun}
+use Rattle.wire.proofs.Places.{putAt-nil}
+use Rattle.wire.proofs.Runs.{putAt-writeRun, key-faithful}
+use Rattle.wire.proofs.image.write_keys.Statement.{statement}
+use Rattle.wire.proofs.image.write_keys.Tie as tie
+
+abbrev Inv-loop : tie.InvT-loop
+Inv-loop out₀ at keys n i₀ out i = (i ≤ n) × (length out ≡ length out₀) × (out ≡ putAt out₀ at (writeRun key (take i keys)))
+
+abbrev μ-loop : tie.MeasureT-loop
+μ-loop out₀ at keys n i₀ out i = n - i
+
+loop-holds : tie.Need-loop-holds Inv-loop μ-loop
+loop-holds c = (search needs, refl, sym (putAt-nil (c .before .before .args .out .now) (c .before .before .args .at)))
+
+mul-write : tie.Need-mul-write Inv-loop μ-loop
+mul-write c = search needs
+
+add-write : tie.Need-add-write Inv-loop μ-loop
+add-write c = search needs
+
+mul-write-2 : tie.Need-mul-write-2 Inv-loop μ-loop
+mul-write-2 c = search needs
+
+shared-slice-read-write : tie.Need-shared-slice-read-write Inv-loop μ-loop
+shared-slice-read-write c = search needs
+
+write-requires : tie.Need-write-requires Inv-loop μ-loop
+write-requires c κs = search needs
+
+add-i : tie.Need-add-i Inv-loop μ-loop
+add-i c = search needs
+
+loop-less : tie.Need-loop-less Inv-loop μ-loop
+loop-less c = search needs
+
+loop-again : tie.Need-loop-again Inv-loop μ-loop
+loop-again c = let w = c .before .before in
+    let t = w .before .before .before in
+    let a = t .before .before .before .before .args in
+    let l = t .before .loop in
+    let put = putAt-writeRun key-faithful (a .out .now) (a .at) (l .i) (a .keys .now) 0 (omega arith) (omega arith) (l .inv .2) in
+    let kept : length (w .write .last .0) ≡ length (l .out) = w .write .kept .0 in
+    (search needs, kept ∙ l .inv .1, w .write .ensures ∙ put)
+
+same-length : tie.Need-same-length Inv-loop μ-loop
+same-length c = search needs
+
+returns : tie.Need-returns Inv-loop μ-loop
+returns c = let e : c .before .loop .i ≡ c .before .before .before .before .args .n = omega arith in
+    rw (← e) (c .before .loop .inv .2)
+
+pub write-keys-spec : {M : Type 1} → statement M
+write-keys-spec =
+    tie.close
+    (tie.spec
+    Inv-loop
+    μ-loop
+    loop-holds
+    mul-write
+    add-write
+    mul-write-2
+    shared-slice-read-write
+    write-requires
+    add-i
+    loop-less
+    loop-again
+    same-length
+    returns)
