@@ -21,7 +21,7 @@ use Rattle.wire.specs.Run.{claim, readRun, writeRun, Each}
 use Rattle.wire.specs.Frame
 use Rattle.wire.specs.Frame.{mark, version, versionPlace, frameLimit, headSize, frameLength, headBytes, frameBytes, frameCount, frameClaims, begins, marked, countable, sized, headQuestions, question13, readFrameQuestions, allPass, fourOf, readFrame, noFrame, writeFrameQuestions, writeFrame, frameLent}
 use Rattle.wire.proofs.Numbers.{below-drop}
-use Rattle.wire.proofs.Runs.{claim-faithful, length-readRun, length-writeRun, readRun-writeRun, writeRun-readRun}
+use Rattle.wire.proofs.Runs.{each-take, claim-faithful, length-readRun, length-writeRun, readRun-writeRun, writeRun-readRun}
 use Rattle.wire.proofs.Frames.{head-yes, sized-yes, readFrame-0, writable-0, writable-yes, writeFrame-0, countable-of, countable-yes, take-fourOf, readFrame-number, readFrame-yes, writeFrame-number, frameLent-yes}
 
 -- ---- a frame's bytes are read as its claims
@@ -66,12 +66,6 @@ frameBytes-frameClaims (a ∷ (b ∷ (d ∷ (n ∷ bs)))) h m v e =
     let rest : writeRun claim (readRun claim n bs) ≡ bs =
     writeRun-readRun claim-faithful n bs (λ (i : ℕ). h (suc (suc (suc (suc i))))) (omega arith) ∙ take-all (claimSize * n) bs (omega arith) in
     λ i. sym first i ∷ (sym second i ∷ (sym v i ∷ (count i ∷ rest i)))
-
-each-take : {A : Type 0} (P : A → Type 0) (n : ℕ) (xs : List A) → Each P xs → Each P (take n xs)
-each-take P zero [] f = tt
-each-take P zero (x ∷ xs) f = tt
-each-take P (suc n) [] f = tt
-each-take P (suc n) (x ∷ xs) f = (f .0, each-take P n xs (f .1))
 
 -- ---- the theorems
 

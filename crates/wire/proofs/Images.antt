@@ -19,19 +19,22 @@ use Rattle.claims.proofs.QuestionLaws.{firstNo-zero, settle-done, settle-refuse
 use Rattle.rounds.specs.Table.{tableLimit}
 use Rattle.rounds.specs.declared.node.Node.{Node}
 use Rattle.rounds.specs.Node.{blanks, nodeOf, nodeInOrder, nodeKeys, pendingOf}
+use Rattle.rounds.specs.Question.{nodeQuestion1, question15}
 use Rattle.rounds.specs.Call.{writtenOver}
 use Rattle.rounds.proofs.NodeLaws.{nodeInOrder-ordered}
 use Rattle.wire.specs.declared.answer.Length.{Length}
+use Rattle.wire.specs.declared.answer.Imaged.{Imaged}
 use Rattle.wire.specs.declared.image.Part.{Part}
 use Rattle.wire.specs.declared.image.Told.{Told}
 use Rattle.wire.specs.Number.{bytes}
 use Rattle.wire.specs.Place.{putAt}
 use Rattle.wire.specs.Claim.{keyWidth, countWidth, claimSize}
 use Rattle.wire.specs.Length.{noLength}
-use Rattle.wire.specs.Image.{keySection, claimSection, sections, sectionLength, imageLimit, countOf, behind, countFits, countsFit, toldLength, imageLength, parse, nodeFrom, question14, noImage, readImage, imageBytes, sectionBytes, nodeBytes, Shaped, writeImageQuestions, writeImage, imageLent}
+use Rattle.wire.specs.Image.{keySection, claimSection, sections, sectionLength, imageLimit, countOf, behind, countFits, countsFit, toldLength, imageLength, parse, nodeFrom, question14, readImageQuestions, noImage, readImage, imageBytes, sectionBytes, nodeBytes, Shaped, writeImageQuestions, writeImage, imageLent}
 use Rattle.wire.specs.Run.{key, claim, readRun, writeRun}
 use Rattle.wire.specs.Told.{partOf, toldOf, nodeAt, AsTold, HasRoom}
 use Rattle.wire.proofs.Places.{putAt-zero, putAt-writtenOver, writtenOver-replicate}
+use Rattle.wire.proofs.Questions.{settle-number}
 use Rattle.wire.proofs.Runs.{length-readRun, length-writeRun, key-faithful, claim-faithful}
 use Rattle.wire.proofs.Numbers.{length-bytes}
 
@@ -200,7 +203,7 @@ module _ {bs : List ℕ} {n m : ℕ} (told : AsTold bs n m) where
   unfolding nodeAt parse
   nodeAt-parse = rw (told .keys, told .pending, ← drop-drop countWidth (sectionLength keySection (countOf bs)) bs)
 
-  whole-told : question14 bs .yes ≡ true
+  pub whole-told : question14 bs .yes ≡ true
   whole-told = rw (told .counts) (eq-eqb (length bs) (toldLength sections bs) (told .whole))
 
   pub readImage-1 : nodeInOrder (nodeFrom (parse bs)) ≡ false → noImage 1 ≡ readImage bs
@@ -227,6 +230,19 @@ module _ (bs : List ℕ) {t : Told} (e : t ≡ toldOf bs) where
       let y = counts bs e ∙ h in
       record { counts = y; whole = w ∙ lengths bs e y; keys = rw (e, ← toldOf-yes bs y); pending = rw (e, ← toldOf-yes bs y) }
 
+module _ (bs : List ℕ) where
+  readImage-number : readImage bs .number ≡ firstNo (readImageQuestions bs)
+  unfolding readImage
+  readImage-number = settle-number (λ (r : Imaged). r .number) (firstNo (readImageQuestions bs)) _ noImage refl (λ (k : ℕ). refl)
+
+  -- an image that is accepted has passed 14 and 1
+  pub readImage-yes : readImage bs .number ≡ 0 → AsTold bs (countOf bs) (countOf (behind keySection bs)) × (nodeInOrder (nodeFrom (parse bs)) ≡ true)
+  readImage-yes h =
+      let (y, h₁) = firstNo-zero (question14 bs) (nodeQuestion1 (nodeFrom (parse bs)) ∷ []) (lit< tt) (sym readImage-number ∙ h) in
+      let c = and-left (countsFit sections bs) (eqb (length bs) (toldLength sections bs)) y in
+      let w = eqb-true (length bs) (toldLength sections bs) (and-right (countsFit sections bs) (eqb (length bs) (toldLength sections bs)) y) in
+      (record { counts = c; whole = w; keys = refl; pending = refl }, firstNo-zero (nodeQuestion1 (nodeFrom (parse bs))) [] (lit< tt) h₁ .0)
+
 -- ---- writing
 
 module _ (n : Node) where
@@ -235,10 +251,10 @@ module _ (n : Node) where
   ordered-counts e = let o = nodeInOrder-ordered n e in (inOrder-count (n .store) (o .store), o .count)
 
   module _ (shaped : Shaped n) (few : n .store .count ≤ limit) (several : n .count ≤ tableLimit) where
-    length-nodeKeys : length (nodeKeys n) ≡ n .store .count
+    pub length-nodeKeys : length (nodeKeys n) ≡ n .store .count
     length-nodeKeys = length-take-le (n .store .count) (n .store .keys) (rw (shaped .keys) few)
 
-    length-pending : length (pendingOf n) ≡ n .count
+    pub length-pending : length (pendingOf n) ≡ n .count
     length-pending = length-take-le (n .count) (n .pending) (rw (shaped .pending) several)
 
     length-keyBytes : length (sectionBytes key (nodeKeys n)) ≡ sectionLength keySection (n .store .count)
@@ -289,3 +305,11 @@ module _ (n : Node) where
         → (record { number = 0; length = length (nodeBytes n) } ≡ writeImage n (length out)) × (writtenOver (nodeBytes n) out ≡ imageLent n out)
     unfolding writeImage imageLent
     writeImage-0 e h = (rw (e, le-leb (length (nodeBytes n)) (length out) h), rw (e, le-leb (length (nodeBytes n)) (length out) h))
+
+    -- an image that is written has passed 1 and 15
+    pub writeImage-yes : writeImage n (length out) .number ≡ 0 → (nodeInOrder n ≡ true) × (length (nodeBytes n) ≤ length out)
+    unfolding writeImage
+    writeImage-yes h =
+        let number = settle-number (λ (r : Length). r .number) (firstNo (writeImageQuestions n (length out))) (record { number = 0; length = length (nodeBytes n) }) noLength refl (λ (k : ℕ). refl) in
+        let (o, h₁) = firstNo-zero (nodeQuestion1 n) (question15 (length out) (length (nodeBytes n)) ∷ []) (lit< tt) (sym number ∙ h) in
+        (o, leb-true (length (nodeBytes n)) (length out) (firstNo-zero (question15 (length out) (length (nodeBytes n))) [] (lit< tt) h₁ .0))

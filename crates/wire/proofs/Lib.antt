@@ -7,3 +7,5 @@ pub mod Questions
 pub mod Frames
 pub mod FrameTrips
 pub mod Images
+pub mod Sections
+pub mod ImageTrips

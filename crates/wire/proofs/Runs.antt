@@ -37,6 +37,13 @@ key-faithful =
 pub claim-faithful : Faithful claim ClaimFits
 claim-faithful = record { long = length-claimBytes; back = claimFrom-claimBytes; again = claimBytes-claimFrom; fits = claimFrom-fits }
 
+-- the first things of a list are as the list's things are
+pub each-take : {A : Type 0} (P : A → Type 0) (n : ℕ) (xs : List A) → Each P xs → Each P (take n xs)
+each-take P zero [] f = tt
+each-take P zero (x ∷ xs) f = tt
+each-take P (suc n) [] f = tt
+each-take P (suc n) (x ∷ xs) f = (f .0, each-take P n xs (f .1))
+
 size-suc : (m n : ℕ) → m * suc n ≡ m + m * n
 size-suc m n = rw mul-suc (omega arith)
 

@@ -1,6 +1,6 @@
 -- Images (document 01, "Frame and image"): "Image of a node: key count (2 bytes), keys (8 each), pending count (2 bytes), pending claims (26 each), each
 -- in its order. At most 9,860 bytes." Then question 14, and what the calls return for any bytes and any node. Assumes nothing.
-use Prim.Native.Nat.{ℕ, _+_, _*_}
+use Prim.Native.Nat.{ℕ, _+_, _*_, _^_, _<_}
 use mathlib.Core.Bool.{Bool, true, _&&_}
 use mathlib.Core.List.{List, [], _∷_, _++_}
 use mathlib.Core.Path.{_≡_}
@@ -16,9 +16,9 @@ use Rattle.rounds.specs.Question.{nodeQuestion1, question15}
 use Rattle.rounds.specs.Call.{writtenOver}
 use Rattle.wire.specs.declared.answer.Imaged.{Imaged}
 use Rattle.wire.specs.declared.answer.Length.{Length}
-use Rattle.wire.specs.Number.{bytes, numberAt}
-use Rattle.wire.specs.Claim.{keyWidth, countWidth, claimSize}
-use Rattle.wire.specs.Run.{Layout, key, claim, readRun, writeRun}
+use Rattle.wire.specs.Number.{byte, bytes, numberAt}
+use Rattle.wire.specs.Claim.{keyWidth, countWidth, ClaimFits}
+use Rattle.wire.specs.Run.{Layout, key, claim, readRun, writeRun, Each}
 use Rattle.wire.specs.Length.{noLength}
 
 -- ---- sections
@@ -61,10 +61,16 @@ imageBytes ks cs = sectionBytes key ks ++ sectionBytes claim cs
 abbrev pub nodeBytes : Node → List ℕ
 nodeBytes n = imageBytes (nodeKeys n) (pendingOf n)
 
--- a node whose arrays are as long as their types say, as those of every node in the code are
+-- a node whose arrays are as long as their types say ..
 pub record Shaped (n : Node) : Type 0 where
   pub keys : length (n .store .keys) ≡ limit
   pub pending : length (n .pending) ≡ tableLimit
+
+-- .. and whose numbers fit their widths: so is every node that the code holds
+pub record NodeFits (n : Node) : Type 0 where
+  pub shaped : Shaped n
+  pub keys : Each (λ (k : ℕ). k < byte ^ keyWidth) (n .store .keys)
+  pub pending : Each ClaimFits (n .pending)
 
 -- ---- what the counts of some bytes tell
 

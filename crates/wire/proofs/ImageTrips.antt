@@ -1,0 +1,146 @@
+-- The round trips of images, over the definitions that the contracts of `read_image` and `write_image` cite: every image of a node in order is
+-- accepted, and read as that node; no two nodes in order have the same image; an image that is written is read as the same node; one that is accepted is
+-- written again as the same bytes. The lemmas come first, the four theorems last. Assumes nothing.
+use Prim.Native.Nat.{ℕ, _+_, _-_, _*_, _^_, _≤_, _<_}
+use native.Mathlib.Omega.{arith}
+use mathlib.Core.Bool.{Bool, true, false, _&&_}
+use mathlib.Core.List.{List, [], _∷_, _++_, append-nil}
+use mathlib.Core.Path.{_≡_, refl, ap, sym, _∙_}
+use borrow.Author.Tests.{eqb-true}
+use lib.Dec.{eqb, lit<}
+use lib.ListN.{length, take, drop, length-append, length-drop, take-append-drop, drop-of-length-le}
+use lib.Seq.{take-append-seam}
+use Rattle.claims.specs.declared.claim.Claim.{Claim}
+use Rattle.claims.specs.Store.{limit, storeOf, keysOf, inOrder}
+use Rattle.claims.specs.Claim.{noClaim}
+use Rattle.claims.specs.Reply.{same}
+use Rattle.claims.specs.Question.{firstNo}
+use Rattle.claims.proofs.Tests.{and-left, and-right}
+use Rattle.claims.proofs.Order.{storeOf-keysOf, inOrder-count}
+use Rattle.claims.proofs.ClaimLaws.{same-claim}
+use Rattle.claims.proofs.QuestionLaws.{firstNo-zero}
+use Rattle.rounds.specs.declared.node.Node.{Node}
+use Rattle.rounds.specs.Table.{tableLimit}
+use Rattle.rounds.specs.Node.{blanks, nodeKeys, pendingOf, nodeOf, nodeInOrder, allUnused}
+use Rattle.rounds.specs.Question.{nodeQuestion1, question15}
+use Rattle.rounds.specs.Call.{writtenOver}
+use Rattle.rounds.proofs.NodeLaws.{nodeInOrder-ordered, nodeKeys-nodeOf, pendingOf-nodeOf}
+use Rattle.wire.specs.declared.answer.Imaged.{Imaged}
+use Rattle.wire.specs.declared.answer.Length.{Length}
+use Rattle.wire.specs.Number.{byte, Below}
+use Rattle.wire.specs.Claim.{keyWidth, countWidth, ClaimFits}
+use Rattle.wire.specs.Run.{key, claim, Each}
+use Rattle.wire.specs.Length.{noLength}
+use Rattle.wire.specs.Image.{keySection, claimSection, sections, sectionLength, sectionBytes, imageBytes, nodeBytes, Shaped, NodeFits, countOf, behind, countFits, countsFit, toldLength, question14, thingsIn, Contents, parse, nodeFrom, readImageQuestions, noImage, readImage, writeImageQuestions, writeImage, imageLent}
+use Rattle.wire.specs.Told.{AsTold}
+use Rattle.wire.proofs.Numbers.{below-drop}
+use Rattle.wire.proofs.Runs.{each-take, key-faithful, claim-faithful}
+use Rattle.wire.proofs.Questions.{settle-number}
+use Rattle.wire.proofs.Images.{ordered-counts, length-nodeKeys, length-pending, readImage-0, readImage-yes, writeImage-0, writeImage-yes}
+use Rattle.wire.proofs.Sections.{length-sectionBytes, countOf-section, thingsIn-section, behind-section, countFits-section, sectionBytes-thingsIn}
+
+-- ---- a node in order is the node of its keys and its pending claims
+
+unused-blanks : (cs : List Claim) → allUnused cs ≡ true → cs ≡ blanks (length cs)
+unfolding blanks
+unused-blanks [] e = refl
+unused-blanks (c ∷ cs) e =
+    let p : c ≡ noClaim = same-claim c noClaim (and-left (same c noClaim) (allUnused cs) e) in
+    let q : cs ≡ blanks (length cs) = unused-blanks cs (and-right (same c noClaim) (allUnused cs) e) in
+    λ i. p i ∷ q i
+
+ordered-nodeOf : (n : Node) → Shaped n → nodeInOrder n ≡ true → n ≡ nodeOf (nodeKeys n) (pendingOf n)
+unfolding nodeOf
+ordered-nodeOf n shaped e =
+    let o = nodeInOrder-ordered n e in
+    let y = ordered-counts n e in
+    let count : n .count ≡ length (pendingOf n) = sym (length-pending n shaped (y .0) (y .1)) in
+    let left : length (drop (n .count) (n .pending)) ≡ tableLimit - length (pendingOf n) = rw (length-drop, shaped .pending, ← count) in
+    let rest : drop (n .count) (n .pending) ≡ blanks (tableLimit - length (pendingOf n)) = unused-blanks (drop (n .count) (n .pending)) (o .unused) ∙ ap blanks left in
+    let p : n .store ≡ storeOf (nodeKeys n) = storeOf-keysOf (n .store) (shaped .keys) (o .store) in
+    let q : n .pending ≡ pendingOf n ++ blanks (tableLimit - length (pendingOf n)) = sym (take-append-drop (n .count) (n .pending)) ∙ ap (λ (l : List Claim). pendingOf n ++ l) rest in
+    λ i. record { store = p i; pending = q i; count = count i }
+
+-- ---- an image's bytes are read as its keys and claims
+
+module _ (ks : List ℕ) (cs : List Claim) (few : length ks ≤ limit) (several : length cs ≤ tableLimit) where
+  small : length ks < byte ^ countWidth
+  small = omega arith
+
+  little : length cs < byte ^ countWidth
+  little = omega arith
+
+  -- what stands behind the keys, with nothing behind it
+  behind-imageBytes : behind keySection (imageBytes ks cs) ≡ sectionBytes claim cs ++ []
+  unfolding imageBytes
+  behind-imageBytes = behind-section key-faithful ks (sectionBytes claim cs) small ∙ sym (append-nil (sectionBytes claim cs))
+
+  parse-imageBytes : Each (λ (k : ℕ). k < byte ^ keyWidth) ks → Each ClaimFits cs → parse (imageBytes ks cs) ≡ record { keys = ks; pending = cs }
+  unfolding parse imageBytes
+  parse-imageBytes f g =
+      let p : thingsIn key (imageBytes ks cs) ≡ ks = thingsIn-section key-faithful ks (sectionBytes claim cs) small f in
+      let q : thingsIn claim (behind keySection (imageBytes ks cs)) ≡ cs = rw behind-imageBytes (thingsIn-section claim-faithful cs [] little g) in
+      λ i. record { keys = p i; pending = q i }
+
+  imageBytes-told : AsTold (imageBytes ks cs) (length ks) (length cs)
+  unfolding countsFit toldLength imageBytes
+  imageBytes-told =
+      let p : countOf (imageBytes ks cs) ≡ length ks = countOf-section key-faithful ks (sectionBytes claim cs) small in
+      let q : countOf (behind keySection (imageBytes ks cs)) ≡ length cs = rw behind-imageBytes (countOf-section claim-faithful cs [] little) in
+      let r : countFits limit (imageBytes ks cs) ≡ true = countFits-section key-faithful ks (sectionBytes claim cs) small limit few in
+      let s : countFits tableLimit (behind keySection (imageBytes ks cs)) ≡ true = rw behind-imageBytes (countFits-section claim-faithful cs [] little tableLimit several) in
+      let long : length (imageBytes ks cs) ≡ sectionLength keySection (length ks) + sectionLength claimSection (length cs) =
+      rw (length-append (sectionBytes key ks), length-sectionBytes key-faithful, length-sectionBytes claim-faithful) in
+      let whole : length (imageBytes ks cs) ≡ toldLength sections (imageBytes ks cs) = omega arith in
+      record { counts = rw (r, s); whole = whole; keys = sym p; pending = sym q }
+
+-- ---- an image's keys and claims are written as its bytes
+
+imageBytes-parse : (bs : List ℕ) → Below byte bs → length bs ≡ toldLength sections bs → imageBytes (parse bs .keys) (parse bs .pending) ≡ bs
+unfolding imageBytes parse toldLength
+imageBytes-parse bs below whole =
+    let tail = behind keySection bs in
+    let rest : length tail ≡ sectionLength claimSection (countOf tail) = rw length-drop (omega arith) in
+    let last : sectionBytes claim (thingsIn claim tail) ≡ tail =
+    let e = sectionBytes-thingsIn claim-faithful tail (below-drop (sectionLength keySection (countOf bs)) bs below) (omega arith) in
+    let none : behind claimSection tail ≡ [] = drop-of-length-le tail {i = sectionLength claimSection (countOf tail)} (omega arith) in
+    sym (append-nil (sectionBytes claim (thingsIn claim tail))) ∙ (ap (λ (l : List ℕ). sectionBytes claim (thingsIn claim tail) ++ l) (sym none) ∙ e) in
+    rw last (sectionBytes-thingsIn key-faithful bs below (omega arith))
+
+-- ---- the theorems
+
+-- Every image of a node in order is accepted, and read as that node.
+pub image-accepted : (n : Node) → NodeFits n → nodeInOrder n ≡ true → readImage (nodeBytes n) ≡ record { number = 0; node = n }
+image-accepted n fit e =
+    let (few, several) = ordered-counts n e in
+    let ks = nodeKeys n in
+    let cs = pendingOf n in
+    let k : length ks ≤ limit = rw (length-nodeKeys n (fit .shaped) few several) few in
+    let c : length cs ≤ tableLimit = rw (length-pending n (fit .shaped) few several) several in
+    let parsed = parse-imageBytes ks cs k c (each-take _ (n .store .count) (n .store .keys) (fit .keys)) (each-take ClaimFits (n .count) (n .pending) (fit .pending)) in
+    let node : nodeFrom (parse (nodeBytes n)) ≡ n = ap nodeFrom parsed ∙ sym (ordered-nodeOf n (fit .shaped) e) in
+    sym (readImage-0 (imageBytes-told ks cs k c) (ap nodeInOrder node ∙ e)) ∙ (λ i. record { number = 0; node = node i })
+
+-- No two nodes in order have the same image.
+pub image-tells-node : (n m : Node) → NodeFits n → NodeFits m → nodeInOrder n ≡ true → nodeInOrder m ≡ true → nodeBytes n ≡ nodeBytes m → n ≡ m
+image-tells-node n m fn fm en em same = λ i. (sym (image-accepted n fn en) ∙ (ap readImage same ∙ image-accepted m fm em)) i .node
+
+-- An image that is written is read as the same node.
+pub image-written-is-read : (n : Node) (out : List ℕ) → NodeFits n → writeImage n (length out) .number ≡ 0
+    → readImage (take (writeImage n (length out) .length) (imageLent n out)) ≡ record { number = 0; node = n }
+image-written-is-read n out fit done =
+    let (o, room) = writeImage-yes n out done in
+    let (w, lent) = writeImage-0 n out o room in
+    let long : writeImage n (length out) .length ≡ length (nodeBytes n) = λ i. sym w i .length in
+    let front : take (length (nodeBytes n)) (writtenOver (nodeBytes n) out) ≡ nodeBytes n = take-append-seam (nodeBytes n) (drop (length (nodeBytes n)) out) in
+    rw (long, ← lent, front) (image-accepted n fit o)
+
+-- An image that is accepted is written again as the same bytes, past which the buffer keeps its contents.
+pub image-read-is-written : (bs out : List ℕ) → Below byte bs → readImage bs .number ≡ 0 → length bs ≤ length out
+    → (writeImage (readImage bs .node) (length out) ≡ record { number = 0; length = length bs }) × (imageLent (readImage bs .node) out ≡ writtenOver bs out)
+image-read-is-written bs out below done room =
+    let (told, o) = readImage-yes bs done in
+    let n = nodeFrom (parse bs) in
+    let same : nodeBytes n ≡ bs = rw (nodeKeys-nodeOf, pendingOf-nodeOf) (imageBytes-parse bs below (told .whole)) in
+    let (w, lent) = writeImage-0 n out o (rw same room) in
+    rw (← readImage-0 told o) (sym w ∙ (λ i. record { number = 0; length = length (same i) }), sym lent ∙ ap (λ (l : List ℕ). writtenOver l out) same)
