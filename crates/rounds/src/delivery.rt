@@ -6,3 +6,16 @@ pub struct Delivery {
     pub sender: u8,
     pub claim: Claim,
 }
+
+impl Delivery {
+    // The record of zeros.
+    pub const NONE: Delivery = Delivery {
+        sender: 0,
+        claim: Claim {
+            lo: 0,
+            hi: 0,
+            sum: 0,
+            cnt: 0,
+        },
+    };
+}
