@@ -1,7 +1,35 @@
--- The lent run of transcript records (document 01, "A round"). Assumes nothing.
+-- The lent run of transcript records, and records in words (document 01, "A round"). Assumes nothing.
+use Prim.Native.Nat.{ℕ, zero, suc, _*_, _%_, min}
+use mathlib.Core.Bool.{cond}
+use mathlib.Core.List.{List, _++_}
+use lib.Dec.{ltb}
+use lib.ListN.{length, take, drop, getD, set}
+use Rattle.claims.specs.declared.store.Store.{Store}
 use Rattle.claims.specs.Claim.{noClaim}
 use Rattle.rounds.specs.declared.delivery.Delivery.{Delivery}
+use Rattle.rounds.specs.Call.{metWords}
+use Rattle.rounds.specs.Core.{recordsIn, claimIn}
 
 -- the record of zeros, which stands where there is none
 abbrev pub noDelivery : Delivery
 noDelivery = record { sender = 0; claim = noClaim }
+
+-- ---- our own functions between the words and the records, for any content
+
+-- the record that lies in words, and the record of zeros past the last one
+unfoldable pub deliveryIn : List ℕ → ℕ → Delivery
+deliveryIn words at = cond (ltb at (recordsIn words)) (record { sender = getD words (at * 5) 0 % 256; claim = claimIn words at }) noDelivery
+
+-- the first n records that lie in words, stored one after the other
+abbrev pub copied : ℕ → List ℕ → List Delivery → List Delivery
+copied zero words lent = lent
+copied (suc n) words lent = set (copied n words lent) n (deliveryIn words n)
+
+-- so many records, or all that there are words for
+abbrev pub frontRecords : List ℕ → ℕ → ℕ
+frontRecords words records = min records (recordsIn words)
+
+-- the words after a round on the first of them
+unfoldable pub frontWords : Store → Store → List ℕ → ℕ → List ℕ
+frontWords s t words records =
+    metWords s t (take (frontRecords words records * 5) words) ++ drop (frontRecords words records * 5) words

@@ -1,5 +1,6 @@
 // One record of a round's transcript.
 use claims::Claim;
+use claims::Store;
 
 // The sender is 0 for the left end and 1 for the right one.
 pub struct Delivery {
@@ -8,6 +9,9 @@ pub struct Delivery {
 }
 
 impl Delivery {
+    // The records that no round exceeds: twice the keys of the greatest union.
+    pub const RECORDS: usize = 2 * Store::LIMIT;
+
     // The record of zeros.
     pub const NONE: Delivery = Delivery {
         sender: 0,

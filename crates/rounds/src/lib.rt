@@ -20,6 +20,7 @@ pub use flat::Reached;
 pub use flat::round_words;
 pub use log::get;
 pub use log::put;
+pub use log::round;
 pub use node::Node;
 pub use order::ordered;
 pub use taking::take;

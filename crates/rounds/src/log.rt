@@ -1,8 +1,18 @@
 // The lent run of transcript records, as a slice of delivery structs (document 01, "A round").
 ghost use mathlib.Core.Path.{_≡_};
-ghost use lib.ListN.{set, getD};
-ghost use Rattle.rounds.specs.Log.{noDelivery};
+ghost use Prim.Native.Nat.{_≤_, min};
+ghost use lib.ListN.{length, set, getD};
+ghost use Rattle.rounds.specs.Call.{met, metLent};
+ghost use Rattle.rounds.specs.Log.{noDelivery, deliveryIn, copied, frontRecords, frontWords};
+use crate::answer::Met;
 use crate::delivery::Delivery;
+use crate::flat::round_words;
+use crate::record::RECORD;
+use crate::record::claim_in;
+use claims::Store;
+
+// The words of all the records that a round can fill.
+const WORDS: usize = RECORD * Delivery::RECORDS;
 
 // Stores one record. Past the end nothing changes.
 pub fn put(log: &mut [Delivery], at: usize, delivery: Delivery)
@@ -22,4 +32,59 @@ pub fn get(log: &[Delivery], at: usize) -> Delivery
     } else {
         Delivery::NONE
     }
+}
+
+// The record that lies in words, and the record of zeros past the last one.
+fn delivery_in(words: &[u64], at: usize) -> Delivery
+    ensures { λ r. ⌜ r ≡ deliveryIn (now (words .entry)) at ⌝ }
+{
+    if at < words.len() / RECORD {
+        let sender = words[at * RECORD];
+        let claim = claim_in(words, at);
+        return Delivery {
+            sender: (sender % 256) as u8,
+            claim,
+        };
+    }
+    Delivery::NONE
+}
+
+// Stores the first n records that lie in words.
+fn copy_out(log: &mut [Delivery], words: &[u64], n: usize)
+    requires { ⌜ n ≤ length (now log) ⌝ }
+    ensures { λ _. ⌜ now (log .exit) ≡ copied n (now (words .entry)) (now (log .entry)) ⌝ }
+{
+    let mut i = 0;
+    while i < n {
+        log[i] = delivery_in(words, i);
+        i += 1;
+    }
+}
+
+fn lesser(a: usize, b: usize) -> usize
+    ensures { λ r. ⌜ r ≡ min a b ⌝ }
+{
+    if a < b {
+        return a;
+    }
+    b
+}
+
+// A round on the words of so many records, or of all that there are words for.
+fn round_front(left: Store, right: Store, words: &mut [u64], records: usize) -> Met
+    ensures { λ r. ⌜ (r ≡ met left right (frontRecords (now (words .entry)) records))
+        × (now (words .exit) ≡ frontWords left right (now (words .entry)) records) ⌝ }
+{
+    let n = lesser(records, words.len() / RECORD);
+    round_words(left, right, &mut words[..n * RECORD])
+}
+
+// A round, whose deliveries are written to the records lent. Asks 1 (left, then right), 8 and 9.
+pub fn round(left: Store, right: Store, log: &mut [Delivery]) -> Met
+    ensures { λ r. ⌜ (r ≡ met left right (length (now (log .entry)))) × (now (log .exit) ≡ metLent left right (now (log .entry))) ⌝ }
+{
+    let mut words = [0; WORDS];
+    let met = round_front(left, right, &mut words, log.len());
+    copy_out(log, &words, met.deliveries);
+    met
 }

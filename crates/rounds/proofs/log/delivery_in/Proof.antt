@@ -1,0 +1,41 @@
+-- `rounds::log::delivery_in` meets its contract. Assumes nothing.
+use borrow.Author.Needs.{needs}
+use denote.Ref.{now}
+use Rattle.rounds.proofs.LogLaws.{deliveryIn-some, deliveryIn-none}
+use Rattle.rounds.proofs.log.delivery_in.Statement.{statement}
+use Rattle.rounds.proofs.log.delivery_in.Tie as tie
+
+mul-sender : tie.Need-mul-sender
+mul-sender c = search needs
+
+mul-sender-2 : tie.Need-mul-sender-2
+mul-sender-2 c = search needs
+
+shared-slice-read-sender : tie.Need-shared-slice-read-sender
+shared-slice-read-sender c = search needs
+
+claim-in-requires : tie.Need-claim-in-requires
+claim-in-requires c κs = search needs
+
+cast-t12 : tie.Need-cast-t12
+cast-t12 c = search needs
+
+returns : tie.Need-returns
+returns c =
+    let s = c .before .before .before .before in
+    deliveryIn-some (now (s .args .words)) (s .args .at) (c .before .before .if1 .taken) (c .claim-in .result) (c .claim-in .ensures)
+
+returns-2 : tie.Need-returns-2
+returns-2 c = deliveryIn-none (now (c .before .before .args .words)) (c .before .before .args .at) (c .if1 .left)
+
+pub delivery-in-spec : {M : Type 1} → statement M
+delivery-in-spec =
+    tie.close
+    (tie.spec
+    mul-sender
+    mul-sender-2
+    shared-slice-read-sender
+    claim-in-requires
+    cast-t12
+    returns
+    returns-2)
