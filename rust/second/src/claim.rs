@@ -1,0 +1,41 @@
+//! Claims (document 01, "Claims"; the paper, 3.1).
+
+/// What a sender says of a span of its store.
+///
+/// Any content: whether it could be of a store is what questions 2 to 5 ask.
+#[derive(Clone, Copy, Debug, Default, PartialEq, Eq, Hash)]
+pub struct Claim {
+    /// The smallest key of the span.
+    pub lo: u64,
+    /// The largest key of the span.
+    pub hi: u64,
+    /// The XOR of all keys of the span, both ends with it.
+    pub sum: u64,
+    /// How many keys the span has.
+    pub cnt: u16,
+}
+
+impl Claim {
+    /// The claim of zeros: what an unused place holds and a refusal returns.
+    pub const ZERO: Claim = Claim::new(0, 0, 0, 0);
+
+    /// The claim (lo, hi, sum, cnt), in the order the document writes them.
+    pub const fn new(lo: u64, hi: u64, sum: u64, cnt: u16) -> Claim {
+        Claim { lo, hi, sum, cnt }
+    }
+
+    /// The claim of a whole span of keys that rise strictly.
+    ///
+    /// Of one key the sum is that key: the fold says so, as the paper's
+    /// algorithm does and its text doesn't.
+    pub(crate) fn of_span(span: &[u64]) -> Claim {
+        let sum = span.iter().fold(0, |sum, key| sum ^ key);
+        // A span lies in a store, so its length is at most 1,024.
+        Claim::new(span[0], span[span.len() - 1], sum, span.len() as u16)
+    }
+
+    /// What pending claims rise by: "by cnt, then lo, hi, sum".
+    pub fn rank(&self) -> (u16, u64, u64, u64) {
+        (self.cnt, self.lo, self.hi, self.sum)
+    }
+}

@@ -1,0 +1,20 @@
+//! Document 01 in plain Rust, written from that document and the paper alone.
+//!
+//! This is the second program of document 01 ("the rest, with random stores,
+//! run against a second program"): it shares no code, table or constant with
+//! the proved one, so that where both agree two readings of the document do.
+//!
+//! Every public call takes stores of any content ([`RawStore`]), puts the questions that concern it in the document's order
+//! ([`questions`]) and answers with the number of the first one answered no,
+//! 0 if there is none. A refusal gives back the given store or node and zeros
+//! for any claim or count, and leaves every lent place as it was.
+
+#![forbid(unsafe_code)]
+#![warn(missing_docs)]
+
+mod claim;
+pub mod questions;
+mod store;
+
+pub use claim::Claim;
+pub use store::{Entered, Made, RawStore, Replied, Reply, enter, make, reply};

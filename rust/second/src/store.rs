@@ -1,0 +1,269 @@
+//! The key store, and the calls that enter, make and reply.
+
+use std::fmt;
+
+use crate::claim::Claim;
+use crate::questions;
+
+/// A store as it is given to a call: 1,024 places and a count of any content.
+#[derive(Clone, PartialEq, Eq)]
+pub struct RawStore {
+    /// The places. Boxed, so that a store passes from call to call without
+    /// its 8,192 bytes being copied.
+    pub keys: Box<[u64; 1024]>,
+    /// How many places are in use, if the store is in order.
+    pub count: usize,
+}
+
+impl RawStore {
+    /// "A store holds a count from 0 to 1,024 and 1,024 places."
+    pub const LIMIT: usize = 1024;
+
+    /// "The empty store is 1,024 zeros with count 0."
+    pub fn empty() -> RawStore {
+        RawStore {
+            keys: Box::new([0; RawStore::LIMIT]),
+            count: 0,
+        }
+    }
+
+    /// These keys as they stand, not sorted, in the first places, zeros after.
+    ///
+    /// # Panics
+    /// If there are more keys than places.
+    pub fn of(keys: &[u64]) -> RawStore {
+        let mut store = RawStore::empty();
+        store.keys[..keys.len()].copy_from_slice(keys);
+        store.count = keys.len();
+        store
+    }
+
+    /// The keys below the count; all places if the count exceeds them.
+    pub fn held(&self) -> &[u64] {
+        &self.keys[..self.count.min(RawStore::LIMIT)]
+    }
+}
+
+/// The places up to the last that is in use or isn't zero, since a thousand
+/// zeros tell a reader nothing.
+impl fmt::Debug for RawStore {
+    fn fmt(&self, out: &mut fmt::Formatter<'_>) -> fmt::Result {
+        let told = self.keys.iter().rposition(|&key| key != 0);
+        let told = told.map_or(0, |last| last + 1).max(self.held().len());
+        out.debug_struct("RawStore")
+            .field("count", &self.count)
+            .field("keys", &&self.keys[..told])
+            .finish()
+    }
+}
+
+/// A store in order: its keys and nothing else, rising strictly.
+#[derive(Clone, Debug)]
+pub(crate) struct Store {
+    keys: Vec<u64>,
+}
+
+impl Store {
+    /// The store of a raw one that question 1 was answered yes for.
+    pub(crate) fn from_raw(raw: RawStore) -> Store {
+        let mut keys = (raw.keys as Box<[u64]>).into_vec();
+        // The places cut off are zeros, so nothing is lost by this.
+        keys.truncate(raw.count);
+        Store { keys }
+    }
+
+    /// Keys that rise strictly, at most 1,024 of them.
+    pub(crate) fn from_keys(keys: Vec<u64>) -> Store {
+        debug_assert!(questions::keys_in_order(&keys));
+        Store { keys }
+    }
+
+    pub(crate) fn into_raw(self) -> RawStore {
+        let count = self.keys.len();
+        let mut keys = self.keys;
+        keys.resize(RawStore::LIMIT, 0);
+        RawStore {
+            keys: keys.try_into().expect("resized to as many places"),
+            count,
+        }
+    }
+
+    pub(crate) fn keys(&self) -> &[u64] {
+        &self.keys
+    }
+
+    /// Enters the key in its sorted place and returns that position; "a key
+    /// already held changes nothing".
+    pub(crate) fn enter(&mut self, key: u64) -> usize {
+        match self.keys.binary_search(&key) {
+            Ok(at) => at,
+            Err(at) => {
+                self.keys.insert(at, key);
+                at
+            }
+        }
+    }
+
+    fn position(&self, key: u64) -> usize {
+        self.keys
+            .binary_search(&key)
+            .expect("the ends of the claim are held")
+    }
+
+    /// The keys from lo to hi, both of which are held.
+    pub(crate) fn span(&self, lo: u64, hi: u64) -> &[u64] {
+        &self.keys[self.position(lo)..=self.position(hi)]
+    }
+
+    /// The claim for positions first to last.
+    pub(crate) fn claim(&self, first: usize, last: usize) -> Claim {
+        Claim::of_span(&self.keys[first..=last])
+    }
+
+    /// "whole claim (position 0 to the last; none if empty)"
+    pub(crate) fn whole(&self) -> Option<Claim> {
+        let last = self.keys.len().checked_sub(1)?;
+        Some(self.claim(0, last))
+    }
+
+    /// "Add lo and hi where missing", then what `answer` says.
+    pub(crate) fn reply(&mut self, claim: &Claim) -> Reply {
+        let first = self.enter(claim.lo);
+        // hi isn't below lo, so entering it leaves lo where it is.
+        let last = self.enter(claim.hi);
+        self.answer_span(claim, first, last)
+    }
+
+    /// The reply to a claim whose ends are held already.
+    pub(crate) fn answer(&self, claim: &Claim) -> Reply {
+        self.answer_span(claim, self.position(claim.lo), self.position(claim.hi))
+    }
+
+    /// The paper's lines 21 to 35, the ends of the claim at first and last.
+    fn answer_span(&self, claim: &Claim, first: usize, last: usize) -> Reply {
+        let own = self.claim(first, last);
+        if own == *claim {
+            return Reply::Match;
+        }
+        if claim.cnt > own.cnt {
+            return Reply::Ask(own);
+        }
+        // A span of one or two keys says all of itself by its ends, so past
+        // questions 2 to 5 a helper's has at least three, and a ≤ b.
+        let (a, b) = (first + 1, last - 1);
+        if b - a < 3 {
+            Reply::One(self.claim(a, b))
+        } else {
+            let z = (b + 1 - a) / 2;
+            Reply::Two(self.claim(a, a + z), self.claim(a + z + 1, b))
+        }
+    }
+}
+
+/// What a store replies to a claim.
+#[derive(Clone, Copy, Debug, PartialEq, Eq)]
+pub enum Reply {
+    /// Own equals the claim in all four fields.
+    Match,
+    /// The claim counts more keys; this carries own.
+    Ask(Claim),
+    /// Help in one claim.
+    One(Claim),
+    /// Help in two claims, in this order.
+    Two(Claim, Claim),
+}
+
+impl Reply {
+    /// How many claims the reply has and which, zeros in the unused places.
+    pub fn claims(&self) -> (usize, [Claim; 2]) {
+        match *self {
+            Reply::Match => (0, [Claim::ZERO; 2]),
+            Reply::Ask(own) => (1, [own, Claim::ZERO]),
+            Reply::One(only) => (1, [only, Claim::ZERO]),
+            Reply::Two(lower, upper) => (2, [lower, upper]),
+        }
+    }
+}
+
+/// What [`enter`] returns.
+#[derive(Clone, Debug, PartialEq, Eq)]
+pub struct Entered {
+    /// The first question answered no, 0 if there is none.
+    pub number: u8,
+    /// The store with the key in it; refused, the given one.
+    pub store: RawStore,
+}
+
+/// Enters a key into a store. Asks 1 and 6.
+pub fn enter(store: RawStore, key: u64) -> Entered {
+    if let Err(number) = questions::of_enter(&store, key) {
+        return Entered { number, store };
+    }
+    let mut store = Store::from_raw(store);
+    store.enter(key);
+    Entered {
+        number: 0,
+        store: store.into_raw(),
+    }
+}
+
+/// What [`make`] returns.
+#[derive(Clone, Copy, Debug, PartialEq, Eq)]
+pub struct Made {
+    /// The first question answered no, 0 if there is none.
+    pub number: u8,
+    /// The claim; refused, zeros.
+    pub claim: Claim,
+}
+
+/// Makes the claim for positions first to last of a store. Asks 1 and 7.
+pub fn make(store: &RawStore, first: usize, last: usize) -> Made {
+    match questions::of_make(store, first, last) {
+        Ok(()) => Made {
+            number: 0,
+            claim: Claim::of_span(&store.keys[first..=last]),
+        },
+        Err(number) => Made {
+            number,
+            claim: Claim::ZERO,
+        },
+    }
+}
+
+/// What [`reply`] returns.
+#[derive(Clone, Debug, PartialEq, Eq)]
+pub struct Replied {
+    /// The first question answered no, 0 if there is none.
+    pub number: u8,
+    /// The store with lo and hi in it; refused, the given one.
+    pub store: RawStore,
+    /// The reply; none if refused.
+    pub reply: Option<Reply>,
+}
+
+impl Replied {
+    /// How many claims the reply has and which; refused, zeros.
+    pub fn claims(&self) -> (usize, [Claim; 2]) {
+        self.reply
+            .as_ref()
+            .map_or((0, [Claim::ZERO; 2]), Reply::claims)
+    }
+}
+
+/// Replies to one claim. Asks 1, 2 to 5 and 6.
+pub fn reply(store: RawStore, claim: Claim) -> Replied {
+    if let Err(number) = questions::of_reply(&store, &claim) {
+        return Replied {
+            number,
+            store,
+            reply: None,
+        };
+    }
+    let mut store = Store::from_raw(store);
+    let reply = store.reply(&claim);
+    Replied {
+        number: 0,
+        store: store.into_raw(),
+        reply: Some(reply),
+    }
+}
