@@ -4,7 +4,8 @@
 //! run against a second program"): it shares no code, table or constant with
 //! the proved one, so that where both agree two readings of the document do.
 //!
-//! Every public call takes stores of any content ([`RawStore`]), puts the questions that concern it in the document's order
+//! Every public call takes stores and nodes of any content ([`RawStore`],
+//! [`RawNode`]), puts the questions that concern it in the document's order
 //! ([`questions`]) and answers with the number of the first one answered no,
 //! 0 if there is none. A refusal gives back the given store or node and zeros
 //! for any claim or count, and leaves every lent place as it was.
@@ -13,8 +14,10 @@
 #![warn(missing_docs)]
 
 mod claim;
+mod node;
 pub mod questions;
 mod store;
 
 pub use claim::Claim;
+pub use node::{BEAT_PLACES, Beaten, PENDING, RawNode, Taken, beat, take};
 pub use store::{Entered, Made, RawStore, Replied, Reply, enter, make, reply};

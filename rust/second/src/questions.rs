@@ -7,6 +7,7 @@
 //! those before it were answered yes, so that it may count on them.
 
 use crate::claim::Claim;
+use crate::node::{BEAT_PLACES, PENDING, RawNode};
 use crate::store::RawStore;
 
 /// A value, or the number of the first question answered no.
@@ -28,9 +29,30 @@ pub fn q1_store_in_order(store: &RawStore) -> bool {
     }
 }
 
+/// 1, of a node: its store is in order and so is its table, with zeros in
+/// the unused places.
+pub fn q1_node_in_order(node: &RawNode) -> bool {
+    q1_store_in_order(&node.store) && node.pending_count <= PENDING && {
+        let (pending, unused) = node.pending.split_at(node.pending_count);
+        table_in_order(node.store.held(), pending)
+            && unused.iter().all(|place| *place == Claim::ZERO)
+    }
+}
+
 /// Whether keys rise strictly.
 pub(crate) fn keys_in_order(keys: &[u64]) -> bool {
     keys.is_sorted_by(|lower, upper| lower < upper)
+}
+
+/// Whether pending claims rise strictly, pass questions 2 to 5 and have their
+/// ends among keys in order.
+fn table_in_order(keys: &[u64], pending: &[Claim]) -> bool {
+    pending.is_sorted_by(|before, after| before.rank() < after.rank())
+        && pending.iter().all(|claim| {
+            of_claim(claim).is_ok()
+                && keys.binary_search(&claim.lo).is_ok()
+                && keys.binary_search(&claim.hi).is_ok()
+        })
 }
 
 /// 2: "Is lo ≤ hi?"
@@ -80,6 +102,11 @@ pub fn q7_positions_held(count: usize, first: usize, last: usize) -> bool {
     first <= last && last < count
 }
 
+/// 15: "Is each lent output long enough?" Of each its length and the need.
+pub fn q15_outputs_long_enough(lent: &[(usize, usize)]) -> bool {
+    lent.iter().all(|(length, need)| length >= need)
+}
+
 // ---- the first answered no ----
 
 /// 2 to 5, of one claim.
@@ -107,4 +134,17 @@ pub fn of_reply(store: &RawStore, claim: &Claim) -> Asked {
     ask(1, q1_store_in_order(store))?;
     of_claim(claim)?;
     ask(6, q6_missing_fit(store.held(), &[claim.lo, claim.hi]))
+}
+
+/// 1, 2 to 5, 6.
+pub fn of_take(node: &RawNode, claim: &Claim) -> Asked {
+    ask(1, q1_node_in_order(node))?;
+    of_claim(claim)?;
+    ask(6, q6_missing_fit(node.store.held(), &[claim.lo, claim.hi]))
+}
+
+/// 1, 15: "a beat needs 129 places (15) … whatever is pending".
+pub fn of_beat(node: &RawNode, places: usize) -> Asked {
+    ask(1, q1_node_in_order(node))?;
+    ask(15, q15_outputs_long_enough(&[(places, BEAT_PLACES)]))
 }
