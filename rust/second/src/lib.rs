@@ -16,8 +16,10 @@
 mod claim;
 mod node;
 pub mod questions;
+mod round;
 mod store;
 
 pub use claim::Claim;
 pub use node::{BEAT_PLACES, Beaten, PENDING, RawNode, Taken, beat, take};
+pub use round::{Delivery, Rounded, is_false_match, round, round_watched};
 pub use store::{Entered, Made, RawStore, Replied, Reply, enter, make, reply};

@@ -102,6 +102,30 @@ pub fn q7_positions_held(count: usize, first: usize, last: usize) -> bool {
     first <= last && last < count
 }
 
+/// How many keys the union of two stores in order has: "every key that
+/// either holds, once".
+pub fn union_count(left: &[u64], right: &[u64]) -> usize {
+    let (mut i, mut j, mut count) = (0, 0, 0);
+    while i < left.len() && j < right.len() {
+        let (lower, upper) = (left[i], right[j]);
+        i += usize::from(lower <= upper);
+        j += usize::from(upper <= lower);
+        count += 1;
+    }
+    count + (left.len() - i) + (right.len() - j)
+}
+
+/// 8: "Has the union of both stores at most 1,024 keys?"
+pub fn q8_union_fits(union: usize) -> bool {
+    union <= RawStore::LIMIT
+}
+
+/// 9: "Has the transcript at least twice as many records as that union has
+/// keys?"
+pub fn q9_transcript_long_enough(union: usize, records: usize) -> bool {
+    records >= 2 * union
+}
+
 /// 15: "Is each lent output long enough?" Of each its length and the need.
 pub fn q15_outputs_long_enough(lent: &[(usize, usize)]) -> bool {
     lent.iter().all(|(length, need)| length >= need)
@@ -147,4 +171,12 @@ pub fn of_take(node: &RawNode, claim: &Claim) -> Asked {
 pub fn of_beat(node: &RawNode, places: usize) -> Asked {
     ask(1, q1_node_in_order(node))?;
     ask(15, q15_outputs_long_enough(&[(places, BEAT_PLACES)]))
+}
+
+/// 1, 8, 9.
+pub fn of_round(left: &RawStore, right: &RawStore, records: usize) -> Asked {
+    ask(1, q1_store_in_order(left) && q1_store_in_order(right))?;
+    let union = union_count(left.held(), right.held());
+    ask(8, q8_union_fits(union))?;
+    ask(9, q9_transcript_long_enough(union, records))
 }
