@@ -14,12 +14,16 @@
 #![warn(missing_docs)]
 
 mod claim;
+mod frame;
+mod image;
 mod node;
 pub mod questions;
 mod round;
 mod store;
 
 pub use claim::Claim;
+pub use frame::{CLAIM_BYTES, FRAME_MOST, FrameRead, MARK, VERSION, read_frame, write_frame};
+pub use image::{IMAGE_MOST, ImageRead, Length, image_length, read_image, write_image};
 pub use node::{BEAT_PLACES, Beaten, PENDING, RawNode, Taken, beat, take};
 pub use round::{Delivery, Rounded, is_false_match, round, round_watched};
 pub use store::{Entered, Made, RawStore, Replied, Reply, enter, make, reply};

@@ -7,6 +7,8 @@
 //! those before it were answered yes, so that it may count on them.
 
 use crate::claim::Claim;
+use crate::frame::{FRAME_CLAIMS, FRAME_HEAD, MARK, VERSION, claims_of_frame, frame_length};
+use crate::image::{front_length, length_of_counts, node_of_image};
 use crate::node::{BEAT_PLACES, PENDING, RawNode};
 use crate::store::RawStore;
 
@@ -53,6 +55,12 @@ fn table_in_order(keys: &[u64], pending: &[Claim]) -> bool {
                 && keys.binary_search(&claim.lo).is_ok()
                 && keys.binary_search(&claim.hi).is_ok()
         })
+}
+
+/// 1, of the contents of an image, which has no unused places. Its counts
+/// are at most 1,024 and 64 by question 14.
+pub(crate) fn contents_in_order(keys: &[u64], pending: &[Claim]) -> bool {
+    keys_in_order(keys) && table_in_order(keys, pending)
 }
 
 /// 2: "Is lo ≤ hi?"
@@ -126,6 +134,40 @@ pub fn q9_transcript_long_enough(union: usize, records: usize) -> bool {
     records >= 2 * union
 }
 
+/// 10: "Has the frame at least 4 bytes, the first two hex 4C 43?"
+pub fn q10_frame_marked(frame: &[u8]) -> bool {
+    frame.len() >= FRAME_HEAD && frame.starts_with(&MARK)
+}
+
+/// 11: "Is the version byte 1?"
+pub fn q11_version_known(frame: &[u8]) -> bool {
+    frame.get(2) == Some(&VERSION)
+}
+
+/// 12, of n alone: "Is n from 1 to 4 …?"
+pub fn q12_n_in_limit(n: usize) -> bool {
+    (1..=FRAME_CLAIMS).contains(&n)
+}
+
+/// 12: "Is n from 1 to 4, and the length 4 + 26n?"
+pub fn q12_length_told(frame: &[u8]) -> bool {
+    frame.get(3).is_some_and(|&n| {
+        let n = usize::from(n);
+        q12_n_in_limit(n) && frame.len() == frame_length(n)
+    })
+}
+
+/// 13: "Does each claim in it pass 2 to 5?"
+pub fn q13_claims_pass(mut claims: impl Iterator<Item = Claim>) -> bool {
+    claims.all(|claim| of_claim(&claim).is_ok())
+}
+
+/// 14: "Are the image's counts at most 1,024 and 64, and its length exactly
+/// theirs?" Bytes too few to tell both counts have no length of theirs.
+pub fn q14_length_told(image: &[u8]) -> bool {
+    front_length(image) == Ok(image.len())
+}
+
 /// 15: "Is each lent output long enough?" Of each its length and the need.
 pub fn q15_outputs_long_enough(lent: &[(usize, usize)]) -> bool {
     lent.iter().all(|(length, need)| length >= need)
@@ -179,4 +221,37 @@ pub fn of_round(left: &RawStore, right: &RawStore, records: usize) -> Asked {
     let union = union_count(left.held(), right.held());
     ask(8, q8_union_fits(union))?;
     ask(9, q9_transcript_long_enough(union, records))
+}
+
+/// 10 to 13.
+pub fn of_read_frame(frame: &[u8]) -> Asked {
+    ask(10, q10_frame_marked(frame))?;
+    ask(11, q11_version_known(frame))?;
+    ask(12, q12_length_told(frame))?;
+    ask(13, q13_claims_pass(claims_of_frame(frame)))
+}
+
+/// "Writing a frame asks 12 (of n), 13, 15."
+pub fn of_write_frame(claims: &[Claim], out: usize) -> Asked {
+    ask(12, q12_n_in_limit(claims.len()))?;
+    ask(13, q13_claims_pass(claims.iter().copied()))?;
+    let need = frame_length(claims.len());
+    ask(15, q15_outputs_long_enough(&[(out, need)]))
+}
+
+/// 14, 1.
+pub fn of_read_image(image: &[u8]) -> Asked {
+    node_of_image(image).map(drop)
+}
+
+/// 1, 15.
+pub fn of_write_image(node: &RawNode, out: usize) -> Asked {
+    ask(1, q1_node_in_order(node))?;
+    let need = length_of_counts(node.store.count, node.pending_count);
+    ask(15, q15_outputs_long_enough(&[(out, need)]))
+}
+
+/// 14, of an image with anything behind it.
+pub fn of_image_length(bytes: &[u8]) -> Asked {
+    front_length(bytes).map(drop)
 }
