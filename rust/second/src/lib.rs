@@ -15,6 +15,7 @@
 
 mod claim;
 mod frame;
+pub mod host;
 mod image;
 mod node;
 pub mod questions;

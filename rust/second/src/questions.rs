@@ -6,9 +6,12 @@
 //! order", and give the number of the first no. A question is put only when
 //! those before it were answered yes, so that it may count on them.
 
+use std::collections::BTreeSet;
+
 use crate::claim::Claim;
 use crate::frame::{FRAME_CLAIMS, FRAME_HEAD, MARK, VERSION, claims_of_frame, frame_length};
-use crate::image::{front_length, length_of_counts, node_of_image};
+use crate::host::BEAT_FRAMES;
+use crate::image::{IMAGE_MOST, front_length, length_of_counts, node_of_image};
 use crate::node::{BEAT_PLACES, PENDING, RawNode};
 use crate::store::RawStore;
 
@@ -254,4 +257,27 @@ pub fn of_write_image(node: &RawNode, out: usize) -> Asked {
 /// 14, of an image with anything behind it.
 pub fn of_image_length(bytes: &[u8]) -> Asked {
     front_length(bytes).map(drop)
+}
+
+/// "images come first: 14, 1, then 10 to 13, 6, 15. … In a frame, 6 is put
+/// claim by claim".
+///
+/// [`host::take_frame`](crate::host::take_frame) puts 6 on its way; here a plain set of
+/// keys grows instead, and the tests hold the two together.
+pub fn of_host_take_frame(image: &[u8], frame: &[u8], out: usize) -> Asked {
+    let node = node_of_image(image)?;
+    of_read_frame(frame)?;
+    let mut keys: BTreeSet<u64> = node.store.keys().iter().copied().collect();
+    for claim in claims_of_frame(frame) {
+        keys.extend([claim.lo, claim.hi]);
+        ask(6, keys.len() <= RawStore::LIMIT)?;
+    }
+    ask(15, q15_outputs_long_enough(&[(out, IMAGE_MOST)]))
+}
+
+/// 14, 1, 15.
+pub fn of_host_beat(image: &[u8], out: usize, frames: usize) -> Asked {
+    of_read_image(image)?;
+    let needs = [(out, IMAGE_MOST), (frames, BEAT_FRAMES)];
+    ask(15, q15_outputs_long_enough(&needs))
 }

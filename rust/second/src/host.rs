@@ -1,0 +1,66 @@
+//! The host calls, on numbers and byte slices (document 01, "Frame and
+//! image").
+
+use crate::frame::{FRAME_CLAIMS, claims_of_frame, put_frame};
+use crate::image::{IMAGE_MOST, node_of_image, put_image};
+use crate::questions::{self, Asked, ask};
+
+/// The bytes of a beat's frames: "129 claims' worth (3,486 bytes)".
+pub const BEAT_FRAMES: usize = 3_486;
+
+/// The length of what was written, or minus the number.
+fn answer(length: Asked<usize>) -> i64 {
+    match length {
+        // At most 9,860.
+        Ok(length) => length as i64,
+        Err(number) => -i64::from(number),
+    }
+}
+
+/// Takes each claim of a frame into the node of an image, writes the new
+/// image and returns its length, or minus the number.
+///
+/// Asks 14 and 1 of the image, 10 to 13 of the frame, 6 claim by claim and
+/// 15. "one no refuses the frame": nothing is written then.
+pub fn take_frame(image: &[u8], frame: &[u8], out: &mut [u8]) -> i64 {
+    answer(try_take_frame(image, frame, out))
+}
+
+fn try_take_frame(image: &[u8], frame: &[u8], out: &mut [u8]) -> Asked<usize> {
+    let mut node = node_of_image(image)?;
+    questions::of_read_frame(frame)?;
+    for claim in claims_of_frame(frame) {
+        ask(
+            6,
+            questions::q6_missing_fit(node.store.keys(), &[claim.lo, claim.hi]),
+        )?;
+        node.take(&claim);
+    }
+    ask(
+        15,
+        questions::q15_outputs_long_enough(&[(out.len(), IMAGE_MOST)]),
+    )?;
+    Ok(put_image(node.store.keys(), &node.pending, out))
+}
+
+/// Beats the node of an image, writes the new image to one buffer and the
+/// claims to a second, "four to a frame and the rest in a last one", and
+/// returns the length of the frames, or minus the number.
+///
+/// Asks 14 and 1 of the image, then 15 of both buffers.
+pub fn beat(image: &[u8], out: &mut [u8], frames: &mut [u8]) -> i64 {
+    answer(try_beat(image, out, frames))
+}
+
+fn try_beat(image: &[u8], out: &mut [u8], frames: &mut [u8]) -> Asked<usize> {
+    let mut node = node_of_image(image)?;
+    let needs = [(out.len(), IMAGE_MOST), (frames.len(), BEAT_FRAMES)];
+    ask(15, questions::q15_outputs_long_enough(&needs))?;
+    let claims = node.beat();
+    put_image(node.store.keys(), &node.pending, out);
+    let mut length = 0;
+    for claims in claims.chunks(FRAME_CLAIMS) {
+        length += put_frame(claims, &mut frames[length..]);
+    }
+    Ok(length)
+}
