@@ -19,6 +19,7 @@ pub mod host;
 mod image;
 mod node;
 pub mod questions;
+mod rehearse;
 mod round;
 mod store;
 
@@ -26,5 +27,6 @@ pub use claim::Claim;
 pub use frame::{CLAIM_BYTES, FRAME_MOST, FrameRead, MARK, VERSION, read_frame, write_frame};
 pub use image::{IMAGE_MOST, ImageRead, Length, image_length, read_image, write_image};
 pub use node::{BEAT_PLACES, Beaten, PENDING, RawNode, Taken, beat, take};
+pub use rehearse::{REHEARSAL_RECORDS, rehearse};
 pub use round::{Delivery, Rounded, is_false_match, round, round_watched};
 pub use store::{Entered, Made, RawStore, Replied, Reply, enter, make, reply};

@@ -13,6 +13,7 @@ use crate::frame::{FRAME_CLAIMS, FRAME_HEAD, MARK, VERSION, claims_of_frame, fra
 use crate::host::BEAT_FRAMES;
 use crate::image::{IMAGE_MOST, front_length, length_of_counts, node_of_image};
 use crate::node::{BEAT_PLACES, PENDING, RawNode};
+use crate::rehearse::REHEARSAL_RECORDS;
 use crate::store::RawStore;
 
 /// A value, or the number of the first question answered no.
@@ -280,4 +281,14 @@ pub fn of_host_beat(image: &[u8], out: usize, frames: usize) -> Asked {
     of_read_image(image)?;
     let needs = [(out, IMAGE_MOST), (frames, BEAT_FRAMES)];
     ask(15, q15_outputs_long_enough(&needs))
+}
+
+/// 14 and 1 of the first image, 14 and 1 of the second, 8, 9.
+pub fn of_rehearse(input: &[u8]) -> Asked {
+    let (first, rest) = input.split_at(front_length(input)?);
+    let left = node_of_image(first)?;
+    let right = node_of_image(rest)?;
+    let union = union_count(left.store.keys(), right.store.keys());
+    ask(8, q8_union_fits(union))?;
+    ask(9, q9_transcript_long_enough(union, REHEARSAL_RECORDS))
 }
