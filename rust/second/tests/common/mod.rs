@@ -1,0 +1,242 @@
+//! What the tests share: a seeded generator, and stores, claims, nodes and
+//! bytes drawn from it.
+
+#![allow(dead_code)] // Each test file is a program that uses a part of this.
+
+use std::collections::BTreeSet;
+
+use second::*;
+
+/// Shorthand for a claim as the document writes it.
+pub const fn c(lo: u64, hi: u64, sum: u64, cnt: u16) -> Claim {
+    Claim::new(lo, hi, sum, cnt)
+}
+
+/// The claim of all these keys, reckoned the long way.
+pub fn claim_of(keys: &[u64]) -> Claim {
+    let mut sum = 0;
+    for key in keys {
+        sum ^= key;
+    }
+    c(
+        *keys.iter().min().unwrap(),
+        *keys.iter().max().unwrap(),
+        sum,
+        keys.len() as u16,
+    )
+}
+
+/// The store of 1,024 keys 0, step, 2·step, ….
+pub fn full(step: u64) -> RawStore {
+    let keys: Vec<u64> = (0..1_024).map(|at| at * step).collect();
+    RawStore::of(&keys)
+}
+
+/// The image of a store with nothing pending, by hand.
+pub fn image_of_keys(keys: &[u64]) -> Vec<u8> {
+    image_of(keys, &[])
+}
+
+/// An image of any content, by hand.
+pub fn image_of(keys: &[u64], pending: &[Claim]) -> Vec<u8> {
+    let mut bytes = (keys.len() as u16).to_be_bytes().to_vec();
+    for key in keys {
+        bytes.extend(key.to_be_bytes());
+    }
+    bytes.extend((pending.len() as u16).to_be_bytes());
+    for claim in pending {
+        push_claim(&mut bytes, claim);
+    }
+    bytes
+}
+
+/// A frame of any content, by hand.
+pub fn frame_of(claims: &[Claim]) -> Vec<u8> {
+    let mut bytes = vec![0x4C, 0x43, 1, claims.len() as u8];
+    for claim in claims {
+        push_claim(&mut bytes, claim);
+    }
+    bytes
+}
+
+fn push_claim(bytes: &mut Vec<u8>, claim: &Claim) {
+    bytes.extend(claim.lo.to_be_bytes());
+    bytes.extend(claim.hi.to_be_bytes());
+    bytes.extend(claim.sum.to_be_bytes());
+    bytes.extend(claim.cnt.to_be_bytes());
+}
+
+/// Splitmix64: each draw is a mix of a counter that steps by an odd number.
+pub struct Rng(u64);
+
+impl Rng {
+    pub fn next(&mut self) -> u64 {
+        self.0 = self.0.wrapping_add(0x9E37_79B9_7F4A_7C15);
+        let mut z = self.0;
+        z = (z ^ (z >> 30)).wrapping_mul(0xBF58_476D_1CE4_E5B9);
+        z = (z ^ (z >> 27)).wrapping_mul(0x94D0_49BB_1331_11EB);
+        z ^ (z >> 31)
+    }
+
+    /// From 0 to below n.
+    pub fn below(&mut self, n: usize) -> usize {
+        (self.next() % n as u64) as usize
+    }
+
+    /// Once in n.
+    pub fn one_in(&mut self, n: usize) -> bool {
+        self.below(n) == 0
+    }
+
+    pub fn pick<'a, T>(&mut self, of: &'a [T]) -> &'a T {
+        &of[self.below(of.len())]
+    }
+
+    /// A key of one of several densities: of few neighbours, of many, of all,
+    /// with 0 and the largest key among them.
+    pub fn key(&mut self, density: usize) -> u64 {
+        match density {
+            0 => self.next() % 24,
+            1 => self.next() % 1_500,
+            2 => u64::MAX - self.next() % 2_000,
+            // One bit each: no key is the XOR of others.
+            3 => 1 << self.below(64),
+            _ => match self.below(40) {
+                0 => 0,
+                1 => u64::MAX,
+                _ => self.next(),
+            },
+        }
+    }
+
+    pub fn density(&mut self) -> usize {
+        self.below(5)
+    }
+
+    /// At most so many keys of one density, rising strictly.
+    pub fn keys(&mut self, most: usize, density: usize) -> Vec<u64> {
+        let wanted = match self.below(6) {
+            0 => 0,
+            1 => most,
+            2 => self.below(4.min(most) + 1),
+            3 => self.below(16.min(most) + 1),
+            _ => self.below(most + 1),
+        };
+        let mut keys = BTreeSet::new();
+        // The scarce densities run out of keys, so the draws are counted too.
+        for _ in 0..4 * wanted {
+            if keys.len() == wanted {
+                break;
+            }
+            keys.insert(self.key(density));
+        }
+        keys.into_iter().collect()
+    }
+
+    /// Keys of two stores whose union has at most 1,024.
+    pub fn pair(&mut self) -> (Vec<u64>, Vec<u64>) {
+        let density = self.density();
+        let all = self.keys(1_024, density);
+        let odds = *self.pick(&[1, 1, 2, 3, 8, 24, 200]);
+        let mut left = Vec::new();
+        let mut right = Vec::new();
+        for key in all {
+            match self.below(2 * odds) {
+                0 => left.push(key),
+                1 => right.push(key),
+                _ => {
+                    left.push(key);
+                    right.push(key);
+                }
+            }
+        }
+        (left, right)
+    }
+
+    /// A claim that passes 2 to 5, or seldom doesn't: true of some of these
+    /// keys, true of other keys, or bent.
+    pub fn claim(&mut self, keys: &[u64], density: usize) -> Claim {
+        let mut claim = if keys.is_empty() || self.one_in(3) {
+            let mut other = self.keys(12, density);
+            if other.is_empty() {
+                other.push(self.key(density));
+            }
+            claim_of(&other)
+        } else {
+            let first = self.below(keys.len());
+            let last = first + self.below(keys.len() - first);
+            claim_of(&keys[first..=last])
+        };
+        match self.below(8) {
+            0 => claim.cnt = claim.cnt.wrapping_add(self.below(4) as u16),
+            1 => claim.cnt = claim.cnt.wrapping_sub(self.below(4) as u16),
+            2 => claim.sum = self.key(density),
+            3 => claim.hi = self.key(density),
+            4 if self.one_in(3) => claim.lo = self.key(density),
+            5 if self.one_in(6) => claim.cnt = *self.pick(&[0, 1, 2, 1_024, 1_025, u16::MAX]),
+            _ => {}
+        }
+        claim
+    }
+
+    /// A node in order with some claims taken.
+    pub fn node(&mut self) -> RawNode {
+        let density = self.density();
+        let keys = self.keys(1_024, density);
+        let mut node = RawNode::of(RawStore::of(&keys), &[]);
+        let takes = *self.pick(&[0, 1, 5, 20, 70, 90]);
+        for _ in 0..takes {
+            let held = node.store.held().to_vec();
+            node = take(node, self.claim(&held, density)).node;
+        }
+        node
+    }
+
+    /// Damages bytes by a flip, a cut, an insertion or a swap.
+    pub fn damage(&mut self, bytes: &mut Vec<u8>) {
+        if bytes.is_empty() {
+            bytes.push(self.next() as u8);
+            return;
+        }
+        // Near the front are the mark, the version and the counts.
+        let at = if self.one_in(2) {
+            self.below(bytes.len().min(8))
+        } else {
+            self.below(bytes.len())
+        };
+        match self.below(5) {
+            0 => bytes[at] ^= 1 << self.below(8),
+            1 => bytes.truncate(at),
+            2 => bytes.insert(at, self.next() as u8),
+            3 => {
+                let other = self.below(bytes.len());
+                bytes.swap(at, other);
+            }
+            _ => bytes[at] = self.next() as u8,
+        }
+    }
+}
+
+/// Runs a property for so many seeds. `SECOND_SEED` in the environment runs
+/// one seed alone; a failure prints the one it happened with.
+pub fn for_seeds(cases: u64, property: impl Fn(&mut Rng)) {
+    struct Told(u64);
+    impl Drop for Told {
+        fn drop(&mut self) {
+            if std::thread::panicking() {
+                eprintln!("failed with SECOND_SEED={}", self.0);
+            }
+        }
+    }
+    let seeds = match std::env::var("SECOND_SEED") {
+        Ok(seed) => {
+            let seed = seed.parse().expect("SECOND_SEED is a number");
+            seed..seed + 1
+        }
+        Err(_) => 0..cases,
+    };
+    for seed in seeds {
+        let _told = Told(seed);
+        property(&mut Rng(seed));
+    }
+}
