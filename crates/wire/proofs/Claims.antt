@@ -1,10 +1,9 @@
 -- Laws of a claim in bytes: its length, its fields at a place, its fields written one after the other, and there and back. Assumes nothing.
-use Prim.Native.Nat.{ℕ, _+_, _*_, _≤_, _<_}
-use native.Mathlib.Nat.{add-zero}
+use Prim.Native.Nat.{ℕ, _+_, _*_, _≤_}
 use native.Mathlib.Omega.{arith}
-use mathlib.Core.Path.{_≡_, refl, ap, sym, _∙_}
-use mathlib.Core.List.{List, [], _∷_, _++_, append-assoc}
-use lib.Dec.{lit≤, lit<}
+use mathlib.Core.Path.{_≡_, sym, _∙_}
+use mathlib.Core.List.{List, _++_, append-assoc}
+use lib.Dec.{lit≤}
 use lib.ListN.{length, take, drop, length-append}
 use lib.Seq.{drop-drop, take-add}
 use Rattle.claims.specs.declared.claim.Claim.{Claim}
@@ -12,7 +11,7 @@ use Rattle.wire.specs.Number.{byte, bytes, numberAt, Below}
 use Rattle.wire.specs.Claim.{keyWidth, countWidth, claimSize, claimBytes, claimFrom, ClaimFits}
 use Rattle.wire.specs.Place.{putAt}
 use Rattle.wire.proofs.Numbers.{length-bytes, numberAt-drop, numberAt-skip, numberAt-bytes, bytes-numberAt, numberAt-below}
-use Rattle.wire.proofs.Places.{putAt-append, length-putAt}
+use Rattle.wire.proofs.Places.{putAt-append}
 
 pub length-claimBytes : (c : Claim) → length (claimBytes c) ≡ claimSize
 unfolding claimBytes

@@ -1,11 +1,11 @@
 -- The round trips of frames, over the definitions that the contracts of `read_frame` and `write_frame` cite: a frame that is written is read as the
 -- same contents, and one that is accepted is written again as the same bytes. The lemmas come first, the two theorems last. Assumes nothing.
-use Prim.Native.Nat.{ℕ, zero, suc, _+_, _*_, _≤_, _<_}
+use Prim.Native.Nat.{ℕ, suc, _*_, _≤_}
 use native.Mathlib.Omega.{arith}
-use mathlib.Core.Bool.{Bool, true, false, _&&_}
-use mathlib.Core.List.{List, [], _∷_, _++_, append-nil}
-use mathlib.Core.Path.{_≡_, refl, ap, sym, _∙_}
-use borrow.Author.Tests.{le-leb, leb-true, eqb-true, eq-eqb}
+use mathlib.Core.Bool.{true, _&&_}
+use mathlib.Core.List.{List, [], _∷_, append-nil}
+use mathlib.Core.Path.{_≡_, ap, sym, _∙_}
+use borrow.Author.Tests.{le-leb, eqb-true, eq-eqb}
 use lib.Dec.{leb, eqb}
 use lib.ListN.{length, take, drop, getD}
 use lib.Seq.{take-all, take-at, length-take-le}
@@ -13,14 +13,11 @@ use Rattle.claims.specs.declared.claim.Claim.{Claim}
 use Rattle.claims.specs.Question.{firstNo}
 use Rattle.claims.proofs.Tests.{and-left, and-right}
 use Rattle.rounds.specs.Call.{writtenOver}
-use Rattle.wire.specs.declared.answer.Framed.{Framed}
-use Rattle.wire.specs.declared.answer.Length.{Length}
 use Rattle.wire.specs.Number.{byte, Below}
 use Rattle.wire.specs.Claim.{claimSize, ClaimFits}
 use Rattle.wire.specs.Run.{claim, readRun, writeRun, Each}
 use Rattle.wire.specs.Frame
-use Rattle.wire.specs.Frame.{mark, version, versionPlace, frameLimit, headSize, frameLength, headBytes, frameBytes, frameCount, frameClaims, begins, marked, countable, sized, headQuestions, question13, readFrameQuestions, allPass, fourOf, readFrame, noFrame, writeFrameQuestions, writeFrame, frameLent}
-use Rattle.wire.proofs.Numbers.{below-drop}
+use Rattle.wire.specs.Frame.{version, versionPlace, frameLimit, headSize, frameLength, headBytes, frameBytes, frameCount, frameClaims, marked, sized, headQuestions, allPass, fourOf, readFrame, writeFrameQuestions, writeFrame, frameLent}
 use Rattle.wire.proofs.Runs.{each-take, claim-faithful, length-readRun, length-writeRun, readRun-writeRun, writeRun-readRun}
 use Rattle.wire.proofs.Frames.{head-yes, sized-yes, readFrame-0, writable-0, writable-yes, writeFrame-0, countable-of, countable-yes, take-fourOf, readFrame-number, readFrame-yes, writeFrame-number, frameLent-yes}
 

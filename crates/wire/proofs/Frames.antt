@@ -1,21 +1,21 @@
 -- Laws of frames: questions 10 to 13 as the code puts them, one law for each way that it goes; then the contents, both ways; then the round trips.
 -- Assumes nothing.
-use Prim.Native.Nat.{ℕ, zero, suc, _+_, _-_, _*_, _≤_, _<_}
+use Prim.Native.Nat.{ℕ, suc, _+_, _-_, _≤_, _<_}
 use native.Mathlib.Omega.{arith}
 use native.Mathlib.Numerals.{add-one}
-use mathlib.Core.Bool.{Bool, true, false, cond, _&&_, and-true}
-use mathlib.Core.List.{List, [], _∷_, _++_, append-assoc}
+use mathlib.Core.Bool.{true, false, and-true}
+use mathlib.Core.List.{List, [], _∷_, _++_}
 use mathlib.Core.Path.{_≡_, refl, ap, sym, _∙_}
 use borrow.Author.Tests.{le-leb, lt-leb, leb-true, eqb-true, eq-eqb, ne-eqb}
 use lib.Dec.{leb, eqb, lit<}
-use lib.ListN.{length, take, drop, getD, set, replicate, length-append, length-replicate, drop-of-length-le}
-use lib.Seq.{drop-cons, drop-drop, set-at, take-at, length-take-le}
+use lib.ListN.{length, take, drop, getD, set, drop-of-length-le}
+use lib.Seq.{drop-cons, take-at, length-take-le}
 use Rattle.claims.specs.declared.claim.Claim.{Claim}
 use Rattle.claims.specs.Claim.{noClaim}
 use Rattle.claims.specs.Call.{judged}
-use Rattle.claims.specs.Question.{firstNo, settle}
-use Rattle.wire.specs.Claim.{claimSize, claimFrom}
-use Rattle.wire.specs.Run.{claim, readRun, writeRun}
+use Rattle.claims.specs.Question.{firstNo}
+use Rattle.wire.specs.Claim.{claimSize}
+use Rattle.wire.specs.Run.{claim, writeRun}
 use Rattle.wire.specs.Frame.{frameLimit, headSize, versionPlace, version, frameLength, frameMost, frameCount, begins, mark, marked, countable, sized, headQuestions, allPass, fourOf, frameClaims, noFrame, question10, question11, question12, question13, readFrameQuestions, readFrame, headBytes, countPlace, question12n, writeFrameQuestions, writeFrame, frameLent, frameBytes}
 use Rattle.wire.specs.Place.{putAt}
 use Rattle.rounds.specs.Node.{blanks}
@@ -25,7 +25,6 @@ use Rattle.wire.specs.declared.answer.Framed.{Framed}
 use Rattle.wire.specs.declared.answer.Length.{Length}
 use Rattle.wire.specs.Length.{noLength}
 use Rattle.wire.proofs.Places.{putAt-append, putAt-zero, writtenOver-replicate}
-use Rattle.wire.proofs.Runs.{length-readRun, readRun-snoc}
 use Rattle.claims.proofs.Tests.{and-left, and-right}
 use Rattle.claims.proofs.QuestionLaws.{firstNo-zero, firstNo-append-no, settle-done, settle-refused}
 use Rattle.wire.proofs.Questions.{settle-number, firstNo-front}

@@ -1,41 +1,32 @@
 -- The round trips of images, over the definitions that the contracts of `read_image` and `write_image` cite: every image of a node in order is
 -- accepted, and read as that node; no two nodes in order have the same image; an image that is written is read as the same node; one that is accepted is
 -- written again as the same bytes. The lemmas come first, the four theorems last. Assumes nothing.
-use Prim.Native.Nat.{ℕ, _+_, _-_, _*_, _^_, _≤_, _<_}
+use Prim.Native.Nat.{ℕ, _+_, _-_, _^_, _≤_, _<_}
 use native.Mathlib.Omega.{arith}
-use mathlib.Core.Bool.{Bool, true, false, _&&_}
+use mathlib.Core.Bool.{true}
 use mathlib.Core.List.{List, [], _∷_, _++_, append-nil}
 use mathlib.Core.Path.{_≡_, refl, ap, sym, _∙_}
-use borrow.Author.Tests.{eqb-true}
-use lib.Dec.{eqb, lit<}
 use lib.ListN.{length, take, drop, length-append, length-drop, take-append-drop, drop-of-length-le}
 use lib.Seq.{take-append-seam}
 use Rattle.claims.specs.declared.claim.Claim.{Claim}
-use Rattle.claims.specs.Store.{limit, storeOf, keysOf, inOrder}
+use Rattle.claims.specs.Store.{limit, storeOf}
 use Rattle.claims.specs.Claim.{noClaim}
 use Rattle.claims.specs.Reply.{same}
-use Rattle.claims.specs.Question.{firstNo}
 use Rattle.claims.proofs.Tests.{and-left, and-right}
-use Rattle.claims.proofs.Order.{storeOf-keysOf, inOrder-count}
+use Rattle.claims.proofs.Order.{storeOf-keysOf}
 use Rattle.claims.proofs.ClaimLaws.{same-claim}
-use Rattle.claims.proofs.QuestionLaws.{firstNo-zero}
 use Rattle.rounds.specs.declared.node.Node.{Node}
 use Rattle.rounds.specs.Table.{tableLimit}
 use Rattle.rounds.specs.Node.{blanks, nodeKeys, pendingOf, nodeOf, nodeInOrder, allUnused}
-use Rattle.rounds.specs.Question.{nodeQuestion1, question15}
 use Rattle.rounds.specs.Call.{writtenOver}
 use Rattle.rounds.proofs.NodeLaws.{nodeInOrder-ordered, nodeKeys-nodeOf, pendingOf-nodeOf}
-use Rattle.wire.specs.declared.answer.Imaged.{Imaged}
-use Rattle.wire.specs.declared.answer.Length.{Length}
 use Rattle.wire.specs.Number.{byte, Below}
 use Rattle.wire.specs.Claim.{keyWidth, countWidth, ClaimFits}
 use Rattle.wire.specs.Run.{key, claim, Each}
-use Rattle.wire.specs.Length.{noLength}
-use Rattle.wire.specs.Image.{keySection, claimSection, sections, sectionLength, sectionBytes, imageBytes, nodeBytes, Shaped, NodeFits, countOf, behind, countFits, countsFit, toldLength, question14, thingsIn, Contents, parse, nodeFrom, readImageQuestions, noImage, readImage, writeImageQuestions, writeImage, imageLent}
+use Rattle.wire.specs.Image.{keySection, claimSection, sections, sectionLength, sectionBytes, imageBytes, nodeBytes, Shaped, NodeFits, countOf, behind, countFits, countsFit, toldLength, thingsIn, parse, nodeFrom, readImage, writeImage, imageLent}
 use Rattle.wire.specs.Told.{AsTold}
 use Rattle.wire.proofs.Numbers.{below-drop}
 use Rattle.wire.proofs.Runs.{each-take, key-faithful, claim-faithful}
-use Rattle.wire.proofs.Questions.{settle-number}
 use Rattle.wire.proofs.Images.{ordered-counts, length-nodeKeys, length-pending, readImage-0, readImage-yes, writeImage-0, writeImage-yes}
 use Rattle.wire.proofs.Sections.{length-sectionBytes, countOf-section, thingsIn-section, behind-section, countFits-section, sectionBytes-thingsIn}
 

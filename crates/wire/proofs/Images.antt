@@ -1,21 +1,21 @@
 -- Laws of images: what the counts tell, as the code finds it; then the calls, one law for each way that the code goes. Assumes nothing.
-use Prim.Native.Nat.{ℕ, zero, suc, _+_, _-_, _*_, _≤_, _<_}
+use Prim.Native.Nat.{ℕ, _+_, _-_, _*_, _≤_, _<_}
 use native.Mathlib.Omega.{arith}
-use mathlib.Core.Bool.{Bool, true, false, cond, _&&_}
+use mathlib.Core.Bool.{Bool, true, false, _&&_}
 use mathlib.Core.List.{List, [], _∷_, _++_, append-assoc}
-use mathlib.Core.Path.{_≡_, refl, ap, sym, _∙_}
-use borrow.Author.Tests.{le-leb, lt-leb, leb-true, leb-false, eqb-true, eqb-false, eq-eqb, ne-eqb}
+use mathlib.Core.Path.{_≡_, refl, sym, _∙_}
+use borrow.Author.Tests.{le-leb, lt-leb, leb-true, eqb-true, eq-eqb, ne-eqb}
 use lib.Dec.{leb, eqb, lit<}
-use lib.ListN.{length, take, drop, replicate, length-append}
+use lib.ListN.{length, drop, replicate, length-append}
 use lib.Seq.{drop-drop, length-take-le}
 use Rattle.claims.specs.declared.claim.Claim.{Claim}
 use Rattle.claims.specs.declared.store.Store.{Store}
 use Rattle.claims.specs.Claim.{noClaim}
 use Rattle.claims.specs.Store.{limit, zeros, storeOf, emptyStore}
-use Rattle.claims.specs.Question.{firstNo, settle}
+use Rattle.claims.specs.Question.{firstNo}
 use Rattle.claims.proofs.Order.{inOrder-count}
 use Rattle.claims.proofs.Tests.{and-left, and-right}
-use Rattle.claims.proofs.QuestionLaws.{firstNo-zero, settle-done, settle-refused}
+use Rattle.claims.proofs.QuestionLaws.{firstNo-zero}
 use Rattle.rounds.specs.Table.{tableLimit}
 use Rattle.rounds.specs.declared.node.Node.{Node}
 use Rattle.rounds.specs.Node.{blanks, nodeOf, nodeInOrder, nodeKeys, pendingOf}
@@ -32,7 +32,7 @@ use Rattle.wire.specs.Claim.{keyWidth, countWidth, claimSize}
 use Rattle.wire.specs.Length.{noLength}
 use Rattle.wire.specs.Image.{keySection, claimSection, sections, sectionLength, imageLimit, countOf, behind, countFits, countsFit, toldLength, imageLength, parse, nodeFrom, question14, readImageQuestions, noImage, readImage, imageBytes, sectionBytes, nodeBytes, Shaped, writeImageQuestions, writeImage, imageLent}
 use Rattle.wire.specs.Run.{key, claim, readRun, writeRun}
-use Rattle.wire.specs.Told.{partOf, toldOf, nodeAt, AsTold, HasRoom}
+use Rattle.wire.specs.Told.{partOf, toldOf, nodeAt, AsTold}
 use Rattle.wire.proofs.Places.{putAt-zero, putAt-writtenOver, writtenOver-replicate}
 use Rattle.wire.proofs.Questions.{settle-number}
 use Rattle.wire.proofs.Runs.{length-readRun, length-writeRun, key-faithful, claim-faithful}

@@ -9,3 +9,4 @@ pub mod FrameTrips
 pub mod Images
 pub mod Sections
 pub mod ImageTrips
+pub mod Cases

@@ -1,20 +1,16 @@
--- Laws of what a lent buffer holds once something is written at a place of it: its length, nothing written, one element more, a block right after a block.
+-- Laws of what a lent buffer holds once something is written at a place of it: nothing written, one element more, a block right after a block.
 -- Assumes nothing.
-use Prim.Native.Nat.{ℕ, zero, suc, _+_, _-_, _≤_, _<_, min}
+use Prim.Native.Nat.{ℕ, zero, suc, _+_, _-_, _≤_, _<_}
 use native.Mathlib.Nat.{zero-add, add-zero, add-assoc, sub-zero, zero-sub, suc-sub-suc}
 use native.Mathlib.Omega.{arith}
-use mathlib.Core.Path.{_≡_, refl, ap, ap₂, sym, _∙_}
+use mathlib.Core.Path.{_≡_, ap, sym, _∙_}
 use mathlib.Core.List.{List, [], _∷_, _++_, append-assoc, map}
-use lib.ListN.{length, take, drop, getD, set, replicate, length-append, length-take, length-drop, length-set, take-append-drop, length-map}
+use lib.ListN.{length, take, drop, getD, set, replicate, length-append, length-take, length-set, take-append-drop, length-map}
 use lib.Seq.{take-set-le, drop-set-lt, getD-set-same, drop-drop, drop-cons, set-at, take-at, drop-append-add}
 use Rattle.rounds.specs.Call.{writtenOver}
 use Rattle.wire.specs.Place.{putAt}
 
 module _ {A : Type 0} where
-  pub length-putAt : (s : List A) (at : ℕ) (bs : List A) → at + length bs ≤ length s → length (putAt s at bs) ≡ length s
-  unfolding putAt
-  length-putAt s at bs h = rw (length-append, length-append, length-take, length-drop) (omega arith)
-
   pub putAt-nil : (s : List A) (at : ℕ) → putAt s at [] ≡ s
   unfolding putAt
   putAt-nil s at = rw add-zero (take-append-drop at s)
@@ -46,9 +42,6 @@ module _ {A : Type 0} where
       rw (front, rest, append-assoc (take at s), append-assoc xs)
 
   -- ---- written to the beginning
-
-  pub length-writtenOver : (new lent : List A) → length new ≤ length lent → length (writtenOver new lent) ≡ length lent
-  length-writtenOver new lent h = rw (length-append, length-drop) (omega arith)
 
   -- one element more
   pub set-writtenOver : (new lent : List A) (x : A) (n : ℕ) → length new ≡ n → n < length lent → set (writtenOver new lent) n x ≡ writtenOver (new ++ (x ∷ [])) lent

@@ -4,9 +4,9 @@ use Prim.Native.Nat.{ℕ, zero, suc, _+_, _*_, _^_, _≤_, _<_}
 use native.Mathlib.Nat.{mul-suc, mul-zero}
 use native.Mathlib.Numerals.{add-one}
 use native.Mathlib.Omega.{arith}
-use mathlib.Core.Path.{_≡_, refl, ap, ap₂, sym, _∙_}
+use mathlib.Core.Path.{_≡_, refl, ap}
 use mathlib.Core.List.{List, [], _∷_, _++_, append-assoc, append-nil}
-use lib.Dec.{lit≤, lit<}
+use lib.Dec.{lit≤}
 use lib.ListN.{length, take, drop, getD, set, length-append, length-drop}
 use lib.Seq.{drop-drop, take-add, take-suc, length-take-le, drop-at}
 use Rattle.rounds.specs.Call.{writtenOver}

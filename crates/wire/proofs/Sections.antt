@@ -4,12 +4,12 @@ use Prim.Native.Nat.{ℕ, _+_, _*_, _^_, _≤_, _<_}
 use native.Mathlib.Omega.{arith}
 use mathlib.Core.Bool.{true}
 use mathlib.Core.List.{List, _++_, append-assoc}
-use mathlib.Core.Path.{_≡_, ap, sym, _∙_}
+use mathlib.Core.Path.{_≡_}
 use lib.ListN.{length, take, drop, length-append, length-drop, take-append-drop}
-use lib.Seq.{take-add, take-at, drop-at}
-use Rattle.wire.specs.Number.{byte, bytes, numberAt, Below}
+use lib.Seq.{take-add, drop-at}
+use Rattle.wire.specs.Number.{byte, bytes, Below}
 use Rattle.wire.specs.Claim.{countWidth}
-use Rattle.wire.specs.Run.{Layout, readRun, writeRun, Each}
+use Rattle.wire.specs.Run.{Layout, writeRun, Each}
 use Rattle.wire.specs.Image.{sectionBytes, countOf, countFits, thingsIn}
 use Rattle.wire.proofs.Numbers.{below-drop, length-bytes, numberAt-bytes, bytes-numberAt}
 use Rattle.wire.proofs.Runs.{Faithful, length-readRun, length-writeRun, readRun-writeRun, writeRun-readRun}

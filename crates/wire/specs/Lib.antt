@@ -7,6 +7,7 @@
 --   Frame   frames, read and written
 --   Image   images, read and written
 --   Told    what an image's counts tell, as the code hands it on
+--   Cases   worked examples, as one table
 pub mod Number
 pub mod Claim
 pub mod Run
@@ -15,3 +16,4 @@ pub mod Length
 pub mod Frame
 pub mod Image
 pub mod Told
+pub mod Cases

@@ -7,12 +7,11 @@ use claims::judge;
 ghost use mathlib.Core.Path.{_≡_};
 ghost use Prim.Native.Nat.{_+_, _*_, _≤_};
 ghost use lib.ListN.{length, take, drop};
-ghost use Rattle.claims.specs.Call.{judged};
 ghost use Rattle.claims.specs.Question.{firstNo};
 ghost use Rattle.wire.specs.Claim.{claimSize};
 ghost use Rattle.wire.specs.Run.{claim as claim-layout, readRun, writeRun};
 ghost use Rattle.wire.specs.Place.{putAt};
-ghost use Rattle.wire.specs.Frame.{frameLimit, headSize, headBytes, frameLength, frameCount, frameClaims, fourOf, marked, countable, sized, headQuestions, allPass, noFrame, readFrame, writeFrameQuestions, writeFrame, frameLent};
+ghost use Rattle.wire.specs.Frame.{frameLimit, headSize, headBytes, frameLength, fourOf, marked, countable, sized, headQuestions, allPass, noFrame, readFrame, writeFrameQuestions, writeFrame, frameLent};
 
 // Every frame begins with these two bytes.
 const MARK: [u8; VERSION_PLACE] = [0x4C, 0x43];

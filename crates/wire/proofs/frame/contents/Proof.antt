@@ -1,14 +1,12 @@
 -- `frame::contents` meets its contract. Assumes nothing.
 use Prim.Native.Nat.{_≤_}
 use native.Mathlib.Omega.{arith}
-use mathlib.Core.Bool.{true}
 use mathlib.Core.Path.{_≡_, ap, sym, _∙_}
 use borrow.Author.Needs.{needs}
 use borrow.Author.Tests.{not-true, not-false}
 use lib.ListN.{length, take}
-use lib.Seq.{length-take-le}
 use Rattle.wire.specs.Frame.{headSize, frameLimit, frameLength, frameCount, frameClaims, allPass}
-use Rattle.wire.specs.Run.{claim, readRun}
+use Rattle.wire.specs.Run.{claim}
 use Rattle.wire.proofs.Frames.{head-yes, marked-long, sized-yes, take-fourOf, readFrame-13, readFrame-0}
 use Rattle.wire.proofs.Runs.{length-readRun}
 use Rattle.wire.proofs.frame.contents.Statement.{statement}

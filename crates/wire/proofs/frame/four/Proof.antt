@@ -1,12 +1,10 @@
 -- `frame::four` meets its contract. The invariant: the claims passed, with zeros past them. Assumes nothing.
-use Prim.Native.Nat.{_+_, _<_, _*_}
 use Prim.Native.Nat.{_≤_, _-_}
 use native.Mathlib.Omega.{arith}
 use mathlib.Core.Path.{_≡_}
-use mathlib.Core.Path.{sym, _∙_}
+use mathlib.Core.Path.{_∙_}
 use borrow.Author.Needs.{needs}
-use lib.ListN.{length}
-use lib.ListN.{take, drop}
+use lib.ListN.{drop}
 use Rattle.wire.specs.Frame.{headSize, frameLimit}
 use Rattle.wire.specs.Run.{claim, readRun}
 use Rattle.rounds.specs.Node.{blanks}

@@ -1,11 +1,10 @@
 -- `frame::put_claims` meets its contract. The invariant: the claims passed stand right after the head. Assumes nothing.
-use Prim.Native.Nat.{_≤_, _<_, _-_, _+_, _*_}
+use Prim.Native.Nat.{_≤_, _-_}
 use native.Mathlib.Omega.{arith}
 use mathlib.Core.Path.{_≡_, refl, sym, _∙_}
 use borrow.Author.Needs.{needs}
-use lib.ListN.{length, take, getD}
+use lib.ListN.{length, take}
 use Rattle.claims.specs.Claim.{noClaim}
-use Rattle.wire.specs.Claim.{claimSize}
 use Rattle.wire.specs.Frame.{headSize}
 use Rattle.wire.specs.Place.{putAt}
 use Rattle.wire.specs.Run.{claim, writeRun}

@@ -1,5 +1,5 @@
 -- `frame::read_frame` meets its contract. Assumes nothing.
-use mathlib.Core.Path.{sym, _∙_}
+use mathlib.Core.Path.{_∙_}
 use borrow.Author.Needs.{needs}
 use Rattle.wire.proofs.Frames.{readFrame-head}
 use Rattle.wire.proofs.frame.read_frame.Statement.{statement}

@@ -7,7 +7,6 @@ use borrow.Author.Needs.{needs}
 use lib.ListN.{length, drop, length-drop}
 use Rattle.wire.specs.Claim.{countWidth}
 use Rattle.wire.specs.Image.{countOf}
-use Rattle.wire.specs.Number.{numberAt}
 use Rattle.wire.proofs.Images.{countFits-missing, countFits-high, countFits-of, partOf-no, partOf-yes}
 use Rattle.wire.proofs.Numbers.{numberAt-drop}
 use Rattle.wire.proofs.image.part_at.Statement.{statement}

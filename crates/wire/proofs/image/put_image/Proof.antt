@@ -1,9 +1,5 @@
 -- `image::put_image` meets its contract: four blocks, each right after the one before, are the image. Assumes nothing.
-use mathlib.Core.Path.{_≡_}
 use borrow.Author.Needs.{needs}
-use lib.ListN.{length}
-use Rattle.claims.specs.Store.{limit}
-use Rattle.rounds.specs.Table.{tableLimit}
 use Rattle.wire.specs.Image.{Shaped}
 use Rattle.wire.proofs.Images.{nodeBytes-put}
 use Rattle.wire.proofs.Places.{length-mapped}

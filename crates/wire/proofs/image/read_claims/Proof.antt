@@ -1,9 +1,9 @@
 -- `image::read_claims` meets its contract. The invariant: the claims passed, with zeros past them. Assumes nothing.
-use Prim.Native.Nat.{_≤_, _<_, _-_, _+_, _*_}
+use Prim.Native.Nat.{_≤_, _-_}
 use native.Mathlib.Omega.{arith}
-use mathlib.Core.Path.{_≡_, refl, sym, _∙_}
+use mathlib.Core.Path.{_≡_}
 use borrow.Author.Needs.{needs}
-use lib.ListN.{length, drop}
+use lib.ListN.{drop}
 use Rattle.rounds.proofs.NodeLaws.{length-blanks}
 use Rattle.rounds.specs.Call.{writtenOver}
 use Rattle.rounds.specs.Node.{blanks}

@@ -3,7 +3,6 @@ use Prim.Native.Nat.{_≤_}
 use native.Mathlib.Omega.{arith}
 use borrow.Author.Needs.{needs}
 use borrow.Author.Tests.{not-true, not-false}
-use lib.ListN.{drop}
 use Rattle.claims.specs.Store.{limit}
 use Rattle.rounds.specs.Table.{tableLimit}
 use Rattle.wire.proofs.Images.{part-most, told-keys, told-pending, told-both}

@@ -1,9 +1,9 @@
 -- `image::write_claims` meets its contract. The invariant: the claims passed stand at the place. Assumes nothing.
-use Prim.Native.Nat.{_≤_, _<_, _-_, _+_, _*_}
+use Prim.Native.Nat.{_≤_, _-_}
 use native.Mathlib.Omega.{arith}
 use mathlib.Core.Path.{_≡_, refl, sym, _∙_}
 use borrow.Author.Needs.{needs}
-use lib.ListN.{length, take, getD}
+use lib.ListN.{length, take}
 use Rattle.claims.specs.Claim.{noClaim}
 use Rattle.rounds.specs.Table.{tableLimit}
 use Rattle.wire.specs.Place.{putAt}

@@ -1,9 +1,9 @@
 -- `image::write_keys` meets its contract. The invariant: the keys passed stand at the place. Assumes nothing.
-use Prim.Native.Nat.{_≤_, _<_, _-_, _+_, _*_}
+use Prim.Native.Nat.{_≤_, _-_}
 use native.Mathlib.Omega.{arith}
 use mathlib.Core.Path.{_≡_, refl, sym, _∙_}
 use borrow.Author.Needs.{needs}
-use lib.ListN.{length, take, getD}
+use lib.ListN.{length, take}
 use Rattle.wire.specs.Place.{putAt}
 use Rattle.wire.specs.Run.{key, writeRun}
 use Rattle.wire.proofs.Places.{putAt-nil}

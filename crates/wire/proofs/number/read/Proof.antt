@@ -1,6 +1,6 @@
 -- `number::read` meets its contract. The invariant: what is read so far is the number of the bytes passed.
 -- Assumes nothing.
-use Prim.Native.Nat.{ℕ, suc, _≤_, _<_, _+_, _*_, _-_, _^_}
+use Prim.Native.Nat.{_≤_, _<_, _+_, _*_, _-_, _^_}
 use native.Mathlib.Omega.{arith}
 use mathlib.Core.Path.{_≡_}
 use borrow.Author.Needs.{needs}

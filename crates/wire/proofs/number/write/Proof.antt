@@ -1,6 +1,6 @@
 -- `number::write` meets its contract. The invariant: once the bytes of the rest are put before what is written, the buffer is as it is to be.
 -- Assumes nothing.
-use Prim.Native.Nat.{_≤_, _+_, _-_}
+use Prim.Native.Nat.{_≤_, _+_}
 use native.Mathlib.Omega.{arith}
 use mathlib.Core.Path.{_≡_, sym, _∙_}
 use borrow.Author.Needs.{needs}
