@@ -20,7 +20,8 @@ length-claimBytes c = simp (length-append, length-bytes)
 -- ---- the fields at a place
 
 -- the four fields, each read at its place, are the claim that stands there
-pub claimFrom-at : (s : List ℕ) (at : ℕ) {lo hi sum cnt : ℕ} → lo ≡ numberAt s at keyWidth → hi ≡ numberAt s (at + keyWidth) keyWidth → sum ≡ numberAt s (at + 2 * keyWidth) keyWidth
+pub claimFrom-at : (s : List ℕ) (at : ℕ) {lo hi sum cnt : ℕ} → lo ≡ numberAt s at keyWidth → hi ≡ numberAt s (at + keyWidth) keyWidth
+    → sum ≡ numberAt s (at + 2 * keyWidth) keyWidth
     → cnt ≡ numberAt s (at + 3 * keyWidth) countWidth → _≡_ {A = Claim} (record { lo = lo; hi = hi; sum = sum; cnt = cnt }) (claimFrom (drop at s))
 unfolding claimFrom
 claimFrom-at s at {lo} {hi} {sum} {cnt} p q r t =

@@ -1,5 +1,5 @@
 -- The round trips of frames, over the definitions that the contracts of `read_frame` and `write_frame` cite: a frame that is written is read as the
--- same contents, and one that is accepted is written again as the same bytes. The lemmas come first, the two theorems last. Assumes nothing.
+-- same contents, and one that is accepted is written again as the same bytes. The lemmas come first, the theorems last. Assumes nothing.
 use Prim.Native.Nat.{ℕ, suc, _*_, _≤_}
 use native.Mathlib.Omega.{arith}
 use mathlib.Core.Bool.{true, _&&_}
@@ -17,7 +17,7 @@ use Rattle.wire.specs.Number.{byte, Below}
 use Rattle.wire.specs.Claim.{claimSize, ClaimFits}
 use Rattle.wire.specs.Run.{claim, readRun, writeRun, Each}
 use Rattle.wire.specs.Frame
-use Rattle.wire.specs.Frame.{version, versionPlace, frameLimit, headSize, frameLength, headBytes, frameBytes, frameCount, frameClaims, marked, sized, headQuestions, allPass, fourOf, readFrame, writeFrameQuestions, writeFrame, frameLent}
+use Rattle.wire.specs.Frame.{version, versionPlace, frameLimit, headSize, frameLength, frameMost, headBytes, frameBytes, frameCount, frameClaims, marked, sized, headQuestions, allPass, fourOf, readFrame, writeFrameQuestions, writeFrame, frameLent}
 use Rattle.wire.proofs.Runs.{each-take, claim-faithful, length-readRun, length-writeRun, readRun-writeRun, writeRun-readRun}
 use Rattle.wire.proofs.Frames.{head-yes, sized-yes, readFrame-0, writable-0, writable-yes, writeFrame-0, countable-of, countable-yes, take-fourOf, readFrame-number, readFrame-yes, writeFrame-number, frameLent-yes}
 
@@ -39,7 +39,8 @@ head-frameBytes cs p q =
     let s : sized (frameBytes cs) ≡ true = rw (countable-of (length cs) p q) (eq-eqb _ _ (length-frameBytes cs)) in
     rw (m, s)
 
-readFrame-frameBytes : (cs : List Claim) → Each ClaimFits cs → 1 ≤ length cs → length cs ≤ frameLimit → allPass cs ≡ true → readFrame (frameBytes cs) ≡ record { number = 0; claims = fourOf cs; count = length cs }
+readFrame-frameBytes : (cs : List Claim) → Each ClaimFits cs → 1 ≤ length cs → length cs ≤ frameLimit → allPass cs ≡ true
+    → readFrame (frameBytes cs) ≡ record { number = 0; claims = fourOf cs; count = length cs }
 unfolding frameBytes headBytes
 readFrame-frameBytes cs f p q a =
     let c : frameClaims (frameBytes cs) ≡ cs = frameClaims-frameBytes cs f in
@@ -48,7 +49,8 @@ readFrame-frameBytes cs f p q a =
 
 -- ---- a frame's claims are written as its bytes
 
-frameBytes-frameClaims : (bs : List ℕ) → Below byte bs → marked bs ≡ true → getD bs versionPlace 0 ≡ version → length bs ≡ frameLength (frameCount bs) → frameBytes (frameClaims bs) ≡ bs
+frameBytes-frameClaims : (bs : List ℕ) → Below byte bs → marked bs ≡ true → getD bs versionPlace 0 ≡ version → length bs ≡ frameLength (frameCount bs)
+    → frameBytes (frameClaims bs) ≡ bs
 unfolding frameBytes headBytes marked
 frameBytes-frameClaims [] h m v e = absurd (let z : ⊥ = omega arith in z)
 frameBytes-frameClaims (a ∷ []) h m v e = absurd (let z : ⊥ = omega arith in z)
@@ -65,6 +67,10 @@ frameBytes-frameClaims (a ∷ (b ∷ (d ∷ (n ∷ bs)))) h m v e =
     λ i. sym first i ∷ (sym second i ∷ (sym v i ∷ (count i ∷ rest i)))
 
 -- ---- the theorems
+
+-- "At most 108 bytes."
+pub frame-at-most : (cs : List Claim) → length cs ≤ frameLimit → length (frameBytes cs) ≤ frameMost
+frame-at-most cs h = rw length-frameBytes (omega arith)
 
 -- A frame that is written is read as the same contents: the claims that were given, with zeros past the count. (The claims' fields fit their
 -- widths, as those of every claim that the code holds do.)
@@ -93,7 +99,8 @@ frame-read-is-written bs out below done room =
     let n = frameCount bs in
     let cs = fourOf (frameClaims bs) in
     let front : take n cs ≡ frameClaims bs = take-fourOf (frameClaims bs) n (length-readRun claim n (drop headSize bs)) in
-    let w : firstNo (writeFrameQuestions cs n (length out)) ≡ 0 = sym (writable-0 cs n (length out) (countable-of n (z .0) (z .1)) (rw front pass) (rw (← z .2) room)) in
+    let w : firstNo (writeFrameQuestions cs n (length out)) ≡ 0 =
+    sym (writable-0 cs n (length out) (countable-of n (z .0) (z .1)) (rw front pass) (rw (← z .2) room)) in
     let same : frameBytes (take n cs) ≡ bs = rw front (frameBytes-frameClaims bs below (y .0) (y .1) (z .2)) in
     let read : record { number = 0; claims = cs; count = n } ≡ readFrame bs = readFrame-0 bs h pass in
     rw (← read) (sym (writeFrame-0 cs n (length out) w) ∙ (λ i. record { number = 0; length = sym (z .2) i }), frameLent-yes cs n out w ∙ ap (λ (l : List ℕ). writtenOver l out) same)

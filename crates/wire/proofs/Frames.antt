@@ -1,5 +1,5 @@
--- Laws of frames: questions 10 to 13 as the code puts them, one law for each way that it goes; then the contents, both ways; then the round trips.
--- Assumes nothing.
+-- Laws of frames: questions 10 to 13 as the code puts them, then what the two calls return, one law for each way that the code goes.
+-- Not here: the round trips (FrameTrips). Assumes nothing.
 use Prim.Native.Nat.{ℕ, suc, _+_, _-_, _≤_, _<_}
 use native.Mathlib.Omega.{arith}
 use native.Mathlib.Numerals.{add-one}
@@ -157,7 +157,8 @@ pub readFrame-13 : (bs : List ℕ) → firstNo (headQuestions bs) ≡ 0 → allP
 unfolding readFrame
 readFrame-13 bs h e = let (m, v, s) = head-yes bs h in rw (m, eq-eqb (getD bs versionPlace 0) version v, s, e)
 
-pub readFrame-0 : (bs : List ℕ) → firstNo (headQuestions bs) ≡ 0 → allPass (frameClaims bs) ≡ true → record { number = 0; claims = fourOf (frameClaims bs); count = frameCount bs } ≡ readFrame bs
+pub readFrame-0 : (bs : List ℕ) → firstNo (headQuestions bs) ≡ 0 → allPass (frameClaims bs) ≡ true
+    → record { number = 0; claims = fourOf (frameClaims bs); count = frameCount bs } ≡ readFrame bs
 unfolding readFrame
 readFrame-0 bs h e = let (m, v, s) = head-yes bs h in rw (m, eq-eqb (getD bs versionPlace 0) version v, s, e)
 
@@ -210,7 +211,8 @@ pub frameLent-no : (cs : List Claim) (n : ℕ) (out : List ℕ) → (firstNo (wr
 unfolding frameLent
 frameLent-no cs n out f = sym (settle-refused (firstNo (writeFrameQuestions cs n (length out))) _ (λ (k : ℕ). out) f)
 
-pub frameLent-yes : (cs : List Claim) (n : ℕ) (out : List ℕ) → firstNo (writeFrameQuestions cs n (length out)) ≡ 0 → frameLent cs n out ≡ writtenOver (frameBytes (take n cs)) out
+pub frameLent-yes : (cs : List Claim) (n : ℕ) (out : List ℕ) → firstNo (writeFrameQuestions cs n (length out)) ≡ 0
+    → frameLent cs n out ≡ writtenOver (frameBytes (take n cs)) out
 unfolding frameLent
 frameLent-yes cs n out e = settle-done (firstNo (writeFrameQuestions cs n (length out))) _ (λ (k : ℕ). out) e
 

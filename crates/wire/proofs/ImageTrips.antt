@@ -1,6 +1,6 @@
 -- The round trips of images, over the definitions that the contracts of `read_image` and `write_image` cite: every image of a node in order is
 -- accepted, and read as that node; no two nodes in order have the same image; an image that is written is read as the same node; one that is accepted is
--- written again as the same bytes. The lemmas come first, the four theorems last. Assumes nothing.
+-- written again as the same bytes. The lemmas come first, the theorems last. Assumes nothing.
 use Prim.Native.Nat.{ℕ, _+_, _-_, _^_, _≤_, _<_}
 use native.Mathlib.Omega.{arith}
 use mathlib.Core.Bool.{true}
@@ -23,11 +23,11 @@ use Rattle.rounds.proofs.NodeLaws.{nodeInOrder-ordered, nodeKeys-nodeOf, pendin
 use Rattle.wire.specs.Number.{byte, Below}
 use Rattle.wire.specs.Claim.{keyWidth, countWidth, ClaimFits}
 use Rattle.wire.specs.Run.{key, claim, Each}
-use Rattle.wire.specs.Image.{keySection, claimSection, sections, sectionLength, sectionBytes, imageBytes, nodeBytes, Shaped, NodeFits, countOf, behind, countFits, countsFit, toldLength, thingsIn, parse, nodeFrom, readImage, writeImage, imageLent}
+use Rattle.wire.specs.Image.{keySection, claimSection, sections, sectionLength, imageLimit, sectionBytes, imageBytes, nodeBytes, Shaped, NodeFits, countOf, behind, countFits, countsFit, toldLength, thingsIn, parse, nodeFrom, readImage, writeImage, imageLent}
 use Rattle.wire.specs.Told.{AsTold}
 use Rattle.wire.proofs.Numbers.{below-drop}
 use Rattle.wire.proofs.Runs.{each-take, key-faithful, claim-faithful}
-use Rattle.wire.proofs.Images.{ordered-counts, length-nodeKeys, length-pending, readImage-0, readImage-yes, writeImage-0, writeImage-yes}
+use Rattle.wire.proofs.Images.{ordered-counts, length-nodeBytes, length-nodeKeys, length-pending, readImage-0, readImage-yes, writeImage-0, writeImage-yes}
 use Rattle.wire.proofs.Sections.{length-sectionBytes, countOf-section, thingsIn-section, behind-section, countFits-section, sectionBytes-thingsIn}
 
 -- ---- a node in order is the node of its keys and its pending claims
@@ -47,9 +47,11 @@ ordered-nodeOf n shaped e =
     let y = ordered-counts n e in
     let count : n .count ≡ length (pendingOf n) = sym (length-pending n shaped (y .0) (y .1)) in
     let left : length (drop (n .count) (n .pending)) ≡ tableLimit - length (pendingOf n) = rw (length-drop, shaped .pending, ← count) in
-    let rest : drop (n .count) (n .pending) ≡ blanks (tableLimit - length (pendingOf n)) = unused-blanks (drop (n .count) (n .pending)) (o .unused) ∙ ap blanks left in
+    let rest : drop (n .count) (n .pending) ≡ blanks (tableLimit - length (pendingOf n)) =
+    unused-blanks (drop (n .count) (n .pending)) (o .unused) ∙ ap blanks left in
     let p : n .store ≡ storeOf (nodeKeys n) = storeOf-keysOf (n .store) (shaped .keys) (o .store) in
-    let q : n .pending ≡ pendingOf n ++ blanks (tableLimit - length (pendingOf n)) = sym (take-append-drop (n .count) (n .pending)) ∙ ap (λ (l : List Claim). pendingOf n ++ l) rest in
+    let q : n .pending ≡ pendingOf n ++ blanks (tableLimit - length (pendingOf n)) =
+    sym (take-append-drop (n .count) (n .pending)) ∙ ap (λ (l : List Claim). pendingOf n ++ l) rest in
     λ i. record { store = p i; pending = q i; count = count i }
 
 -- ---- an image's bytes are read as its keys and claims
@@ -79,7 +81,8 @@ module _ (ks : List ℕ) (cs : List Claim) (few : length ks ≤ limit) (several 
       let p : countOf (imageBytes ks cs) ≡ length ks = countOf-section key-faithful ks (sectionBytes claim cs) small in
       let q : countOf (behind keySection (imageBytes ks cs)) ≡ length cs = rw behind-imageBytes (countOf-section claim-faithful cs [] little) in
       let r : countFits limit (imageBytes ks cs) ≡ true = countFits-section key-faithful ks (sectionBytes claim cs) small limit few in
-      let s : countFits tableLimit (behind keySection (imageBytes ks cs)) ≡ true = rw behind-imageBytes (countFits-section claim-faithful cs [] little tableLimit several) in
+      let s : countFits tableLimit (behind keySection (imageBytes ks cs)) ≡ true =
+      rw behind-imageBytes (countFits-section claim-faithful cs [] little tableLimit several) in
       let long : length (imageBytes ks cs) ≡ sectionLength keySection (length ks) + sectionLength claimSection (length cs) =
       rw (length-append (sectionBytes key ks), length-sectionBytes key-faithful, length-sectionBytes claim-faithful) in
       let whole : length (imageBytes ks cs) ≡ toldLength sections (imageBytes ks cs) = omega arith in
@@ -100,6 +103,10 @@ imageBytes-parse bs below whole =
 
 -- ---- the theorems
 
+-- "At most 9,860 bytes."
+pub image-at-most : (n : Node) → Shaped n → nodeInOrder n ≡ true → length (nodeBytes n) ≤ imageLimit
+image-at-most n shaped e = let (few, several) = ordered-counts n e in rw (length-nodeBytes n shaped few several) (omega arith)
+
 -- Every image of a node in order is accepted, and read as that node.
 pub image-accepted : (n : Node) → NodeFits n → nodeInOrder n ≡ true → readImage (nodeBytes n) ≡ record { number = 0; node = n }
 image-accepted n fit e =
@@ -108,7 +115,8 @@ image-accepted n fit e =
     let cs = pendingOf n in
     let k : length ks ≤ limit = rw (length-nodeKeys n (fit .shaped) few several) few in
     let c : length cs ≤ tableLimit = rw (length-pending n (fit .shaped) few several) several in
-    let parsed = parse-imageBytes ks cs k c (each-take _ (n .store .count) (n .store .keys) (fit .keys)) (each-take ClaimFits (n .count) (n .pending) (fit .pending)) in
+    let parsed =
+    parse-imageBytes ks cs k c (each-take _ (n .store .count) (n .store .keys) (fit .keys)) (each-take ClaimFits (n .count) (n .pending) (fit .pending)) in
     let node : nodeFrom (parse (nodeBytes n)) ≡ n = ap nodeFrom parsed ∙ sym (ordered-nodeOf n (fit .shaped) e) in
     sym (readImage-0 (imageBytes-told ks cs k c) (ap nodeInOrder node ∙ e)) ∙ (λ i. record { number = 0; node = node i })
 

@@ -1,4 +1,5 @@
--- Laws of images: what the counts tell, as the code finds it; then the calls, one law for each way that the code goes. Assumes nothing.
+-- Laws of images: what the counts tell, as the code finds it; then what the three calls return, one law for each way that the code goes.
+-- Not here: the round trips (ImageTrips). Assumes nothing.
 use Prim.Native.Nat.{ℕ, _+_, _-_, _*_, _≤_, _<_}
 use native.Mathlib.Omega.{arith}
 use mathlib.Core.Bool.{Bool, true, false, _&&_}
@@ -98,7 +99,8 @@ module _ (bs : List ℕ) where
   unfolding toldOf
   toldOf-no e = rw e
 
-  pub toldOf-yes : countsFit sections bs ≡ true → record { fits = true; keys = countOf bs; pending = countOf (behind keySection bs); length = toldLength sections bs } ≡ toldOf bs
+  pub toldOf-yes : countsFit sections bs ≡ true
+      → record { fits = true; keys = countOf bs; pending = countOf (behind keySection bs); length = toldLength sections bs } ≡ toldOf bs
   unfolding toldOf
   toldOf-yes e = rw e
 
@@ -167,7 +169,8 @@ module _ (bs : List ℕ) {t : Told} (e : t ≡ toldOf bs) where
 -- ---- reading
 
 -- the node that the code puts together: the keys over the empty store's, the claims over zeros
-pub nodeAt-laid : (bs : List ℕ) (n m : ℕ) {s : Store} {ks : List ℕ} {cs : List Claim} → s ≡ emptyStore → ks ≡ writtenOver (readRun key n (drop countWidth bs)) (s .keys)
+pub nodeAt-laid : (bs : List ℕ) (n m : ℕ) {s : Store} {ks : List ℕ} {cs : List Claim} → s ≡ emptyStore
+    → ks ≡ writtenOver (readRun key n (drop countWidth bs)) (s .keys)
     → cs ≡ writtenOver (readRun claim m (drop (sectionLength keySection n + countWidth) bs)) (blanks tableLimit)
     → record { store = record { keys = ks; count = n }; pending = cs; count = m } ≡ nodeAt bs n m
 unfolding nodeAt nodeOf storeOf emptyStore zeros blanks
@@ -310,6 +313,7 @@ module _ (n : Node) where
     pub writeImage-yes : writeImage n (length out) .number ≡ 0 → (nodeInOrder n ≡ true) × (length (nodeBytes n) ≤ length out)
     unfolding writeImage
     writeImage-yes h =
-        let number = settle-number (λ (r : Length). r .number) (firstNo (writeImageQuestions n (length out))) (record { number = 0; length = length (nodeBytes n) }) noLength refl (λ (k : ℕ). refl) in
+        let number =
+        settle-number (λ (r : Length). r .number) (firstNo (writeImageQuestions n (length out))) (record { number = 0; length = length (nodeBytes n) }) noLength refl (λ (k : ℕ). refl) in
         let (o, h₁) = firstNo-zero (nodeQuestion1 n) (question15 (length out) (length (nodeBytes n)) ∷ []) (lit< tt) (sym number ∙ h) in
         (o, leb-true (length (nodeBytes n)) (length out) (firstNo-zero (question15 (length out) (length (nodeBytes n))) [] (lit< tt) h₁ .0))

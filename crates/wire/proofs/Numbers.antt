@@ -140,7 +140,8 @@ pub putAt-none : (s : List ℕ) (at n : ℕ) → putAt s at (bytes 0 n) ≡ s
 unfolding bytes
 putAt-none s at n = putAt-nil s at
 
-pub putAt-bytes : (s : List ℕ) (at w n : ℕ) → 0 < w → at + w ≤ length s → putAt (set s (at + (w - 1)) (n % byte)) at (bytes (w - 1) (n / byte)) ≡ putAt s at (bytes w n)
+pub putAt-bytes : (s : List ℕ) (at w n : ℕ) → 0 < w → at + w ≤ length s
+    → putAt (set s (at + (w - 1)) (n % byte)) at (bytes (w - 1) (n / byte)) ≡ putAt s at (bytes w n)
 putAt-bytes s at zero n p h = absurd (let z : ⊥ = omega arith in z)
 putAt-bytes s at (suc w) n p h =
     let e : suc w - 1 ≡ w = omega arith in

@@ -20,7 +20,8 @@ module _ {A : Type 0} where
   putAt-zero s bs = rw zero-add
 
   -- one element more: the one past the end may be written first
-  pub putAt-snoc : (s : List A) (at : ℕ) (bs : List A) (b : A) (n : ℕ) → length bs ≡ n → at + n < length s → putAt (set s (at + n) b) at bs ≡ putAt s at (bs ++ (b ∷ []))
+  pub putAt-snoc : (s : List A) (at : ℕ) (bs : List A) (b : A) (n : ℕ) → length bs ≡ n → at + n < length s
+      → putAt (set s (at + n) b) at bs ≡ putAt s at (bs ++ (b ∷ []))
   unfolding putAt
   putAt-snoc s at bs b n e h =
       let front : take at (set s (at + n) b) ≡ take at s = take-set-le at s (at + n) b (omega arith) in

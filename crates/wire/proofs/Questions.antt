@@ -8,7 +8,8 @@ use Rattle.claims.proofs.Tests.{eq-or-ne}
 use Rattle.claims.proofs.QuestionLaws.{firstNo-append-no, settle-done, settle-refused}
 
 -- the number that a call returns is that of the first question answered no
-pub settle-number : {A : Type 0} (number : A → ℕ) (n : ℕ) (done : A) (refused : ℕ → A) → number done ≡ 0 → ((k : ℕ) → number (refused k) ≡ k) → number (settle n done refused) ≡ n
+pub settle-number : {A : Type 0} (number : A → ℕ) (n : ℕ) (done : A) (refused : ℕ → A) → number done ≡ 0 → ((k : ℕ) → number (refused k) ≡ k)
+    → number (settle n done refused) ≡ n
 settle-number number n done refused d r = go (eq-or-ne n 0)
   where
     go : (n ≡ 0) ⊎ (n ≡ 0 → ⊥) → number (settle n done refused) ≡ n

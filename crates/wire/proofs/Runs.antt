@@ -63,7 +63,8 @@ module _ {A : Type 0} (l : Layout A) where
   readRun-snoc n bs = rw add-one (readRun-suc n bs)
 
   -- the turn of reading into a run of places: x is what stands at the next place of the bytes
-  pub set-readRun : (lent : List A) (bs : List ℕ) (at i : ℕ) {out : List A} {x : A} → i < length lent → out ≡ writtenOver (readRun l i (drop at bs)) lent → x ≡ l .read (drop (at + l .size * i) bs)
+  pub set-readRun : (lent : List A) (bs : List ℕ) (at i : ℕ) {out : List A} {x : A} → i < length lent
+      → out ≡ writtenOver (readRun l i (drop at bs)) lent → x ≡ l .read (drop (at + l .size * i) bs)
       → set out i x ≡ writtenOver (readRun l (i + 1) (drop at bs)) lent
   set-readRun lent bs at i {out} {x} h e f =
       let g : x ≡ l .read (drop (l .size * i) (drop at bs)) = rw drop-drop f in
@@ -101,7 +102,8 @@ module _ {A : Type 0} {l : Layout A} {Fit : A → Type 0} (faith : Faithful l Fi
   readRun-fits (suc n) bs h = (faith .fits bs h, readRun-fits n (drop (l .size) bs) (below-drop (l .size) bs h))
 
   -- the turn of writing at a place: one thing more, right after those before it
-  pub putAt-writeRun : (s : List ℕ) (at i : ℕ) (xs : List A) (d : A) {out : List ℕ} → i < length xs → at + l .size * i ≤ length s → out ≡ putAt s at (writeRun l (take i xs))
+  pub putAt-writeRun : (s : List ℕ) (at i : ℕ) (xs : List A) (d : A) {out : List ℕ} → i < length xs → at + l .size * i ≤ length s
+      → out ≡ putAt s at (writeRun l (take i xs))
       → putAt out (at + l .size * i) (l .write (getD xs i d)) ≡ putAt s at (writeRun l (take (i + 1) xs))
   putAt-writeRun s at i xs d {out} h p e =
       let long : length (writeRun l (take i xs)) ≡ l .size * i = rw (length-writeRun, length-take-le i xs (omega arith)) in

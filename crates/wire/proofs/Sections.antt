@@ -46,6 +46,7 @@ module _ {A : Type 0} {l : Layout A} {Fit : A → Type 0} (faith : Faithful l Fi
       let n = countOf bs in
       let count : bytes countWidth (length (thingsIn l bs)) ≡ take countWidth bs = rw length-readRun (bytes-numberAt bs 0 countWidth h (omega arith)) in
       let room : l .size * n ≤ length (drop countWidth bs) = rw length-drop (omega arith) in
-      let things : writeRun l (thingsIn l bs) ≡ take (l .size * n) (drop countWidth bs) = writeRun-readRun faith n (drop countWidth bs) (below-drop countWidth bs h) room in
+      let things : writeRun l (thingsIn l bs) ≡ take (l .size * n) (drop countWidth bs) =
+      writeRun-readRun faith n (drop countWidth bs) (below-drop countWidth bs h) room in
       let section : sectionBytes l (thingsIn l bs) ≡ take (countWidth + l .size * n) bs = rw (count, things, take-add) in
       rw section (take-append-drop (countWidth + l .size * n) bs)

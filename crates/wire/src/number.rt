@@ -1,8 +1,8 @@
 // Numbers in bytes, high byte first, read from and written to a place of a slice: one function each for every width.
 ghost use mathlib.Core.Path.{_≡_};
-ghost use Prim.Native.Nat.{_+_, _≤_, _<_};
+ghost use Prim.Native.Nat.{_+_, _≤_};
 ghost use lib.ListN.{length};
-ghost use Rattle.wire.specs.Number.{byte, bytes, numberAt};
+ghost use Rattle.wire.specs.Number.{bytes, numberAt};
 ghost use Rattle.wire.specs.Place.{putAt};
 
 // The width of a key or a sum, and that of a count, in bytes.
@@ -12,7 +12,7 @@ pub(crate) const COUNT: usize = 2;
 
 // A byte as a number.
 fn wide(x: u8) -> u64
-    ensures { λ r. ⌜ (r ≡ x) × (r < byte) ⌝ }
+    ensures { λ r. ⌜ r ≡ x ⌝ }
 {
     x as u64
 }

@@ -15,13 +15,15 @@ use Rattle.wire.proofs.frame.contents.Tie as tie
 long : (c : tie.Start) → headSize ≤ length (c .args .bytes .now)
 long c = marked-long (c .args .bytes .now) (head-yes (c .args .bytes .now) (c .pre) .0)
 
-told : (c : tie.Start) → (1 ≤ frameCount (c .args .bytes .now)) × (frameCount (c .args .bytes .now) ≤ frameLimit) × (length (c .args .bytes .now) ≡ frameLength (frameCount (c .args .bytes .now)))
+told : (c : tie.Start)
+    → (1 ≤ frameCount (c .args .bytes .now)) × (frameCount (c .args .bytes .now) ≤ frameLimit) × (length (c .args .bytes .now) ≡ frameLength (frameCount (c .args .bytes .now)))
 told c = sized-yes (c .args .bytes .now) (head-yes (c .args .bytes .now) (c .pre) .2)
 
 passed : (c : tie.After-passing) → c .passing .result ≡ allPass (frameClaims (c .before .before .before .before .args .bytes .now))
 passed c =
     let bs = c .before .before .before .before .args .bytes .now in
-    let e : take (frameCount bs) (c .before .four .result) ≡ frameClaims bs = rw (c .before .four .ensures) (take-fourOf (frameClaims bs) (frameCount bs) (length-readRun claim (frameCount bs) _)) in
+    let e : take (frameCount bs) (c .before .four .result) ≡ frameClaims bs =
+    rw (c .before .four .ensures) (take-fourOf (frameClaims bs) (frameCount bs) (length-readRun claim (frameCount bs) _)) in
     c .passing .ensures ∙ ap allPass e
 
 shared-slice-read-n : tie.Need-shared-slice-read-n

@@ -28,10 +28,12 @@ has-size-requires : tie.Need-has-size-requires
 has-size-requires c κs = marked-long (c .before .before .before .before .before .args .bytes .now) (is-marked (c .before .before))
 
 returns-3 : tie.Need-returns-3
-returns-3 c = head-12 (c .before .before .before .before .before .before .before .args .bytes .now) (is-marked (c .before .before .before .before)) (c .before .before .if2 .left) (sym (c .before .has-size .ensures) ∙ not-true _ (c .if3 .taken))
+returns-3 c =
+    head-12 (c .before .before .before .before .before .before .before .args .bytes .now) (is-marked (c .before .before .before .before)) (c .before .before .if2 .left) (sym (c .before .has-size .ensures) ∙ not-true _ (c .if3 .taken))
 
 returns-4 : tie.Need-returns-4
-returns-4 c = head-0 (c .before .before .before .before .before .before .before .args .bytes .now) (is-marked (c .before .before .before .before)) (c .before .before .if2 .left) (sym (c .before .has-size .ensures) ∙ not-false _ (c .if3 .left))
+returns-4 c =
+    head-0 (c .before .before .before .before .before .before .before .args .bytes .now) (is-marked (c .before .before .before .before)) (c .before .before .if2 .left) (sym (c .before .has-size .ensures) ∙ not-false _ (c .if3 .left))
 
 pub heading-spec : {M : Type 1} → statement M
 heading-spec =

@@ -30,7 +30,8 @@ counted c =
 below : (c : tie.In-loop Inv-loop μ-loop) → c .before .loop .i < length (take (c .before .before .args .n) (c .before .before .args .t1))
 below c = rw (counted (c .before .before)) (c .loop-test .taken)
 
-judged-at : (c : tie.After-judge Inv-loop μ-loop) → let t = c .before .before in judged (getD (take (t .before .before .args .n) (t .before .before .args .t1)) (t .before .loop .i) noClaim) ≡ c .judge .result
+judged-at : (c : tie.After-judge Inv-loop μ-loop)
+    → let t = c .before .before in judged (getD (take (t .before .before .args .n) (t .before .before .args .t1)) (t .before .loop .i) noClaim) ≡ c .judge .result
 judged-at c =
     let t = c .before .before in
     let a = t .before .before .args in

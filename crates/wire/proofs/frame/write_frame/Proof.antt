@@ -35,7 +35,8 @@ put-head-requires c κs = let y = asked (c .before) in (y .0, omega arith)
 
 put-claims-requires : tie.Need-put-claims-requires
 put-claims-requires c κs = let y = asked (c .before .before .before .before .before) in
-    let kept : length (c .before .before .before .put-head .last .0) ≡ length (start (c .before .before .before .before .before) .args .out .now) = c .before .before .before .put-head .kept .0 in
+    let kept : length (c .before .before .before .put-head .last .0) ≡ length (start (c .before .before .before .before .before) .args .out .now) =
+    c .before .before .before .put-head .kept .0 in
     (y .0, omega arith)
 
 mul-t5 : tie.Need-mul-t5

@@ -37,7 +37,8 @@ returns-2 c = let a = c .before .before .before .before .args in
 
 returns-3 : tie.Need-returns-3
 returns-3 c = let a = c .before .before .before .before .args in
-    let e = partOf-yes (a .most) (drop (a .at) (a .bytes .now)) (countFits-of (a .most) (drop (a .at) (a .bytes .now)) (there (c .before .before)) (rw (counted (c .before)) (c .if2 .left))) in
+    let e =
+    partOf-yes (a .most) (drop (a .at) (a .bytes .now)) (countFits-of (a .most) (drop (a .at) (a .bytes .now)) (there (c .before .before)) (rw (counted (c .before)) (c .if2 .left))) in
     (λ i. record { fits = mathlib.Core.Bool.true; count = sym (counted (c .before)) i }) ∙ e
 
 pub part-at-spec : {M : Type 1} → statement M

@@ -25,7 +25,8 @@ counts c = ordered-counts (c .before .before .before .args .node) (ordered c)
 shaped : (c : tie.Start) → Shaped (c .args .node)
 shaped c = record { keys = search (needs, length-mapped); pending = search (needs, length-mapped) }
 
-long : (c : tie.Else1) → let n = c .before .before .before .args .node in length (nodeBytes n) ≡ sectionLength keySection (n .store .count) + sectionLength claimSection (n .count)
+long : (c : tie.Else1)
+    → let n = c .before .before .before .args .node in length (nodeBytes n) ≡ sectionLength keySection (n .store .count) + sectionLength claimSection (n .count)
 long c = let y = counts c in length-nodeBytes (c .before .before .before .args .node) (shaped (c .before .before .before)) (y .0) (y .1)
 
 -- the length as the code adds it up

@@ -23,12 +23,13 @@ are-bytes : (c : tie.In-loop Inv-loop μ-loop) → Below byte (start c .args .s 
 are-bytes c k = c .before .before .shared-slice-known .given k .fits
 
 -- what a turn makes of the number so far: the number of one byte more, which fits
-turn : (c : tie.After-wide Inv-loop μ-loop) → let t = c .before .before in t .before .loop .n * 256 + c .wide .result ≡ numberAt (start t .args .s .now) (start t .args .at) (t .before .loop .i + 1)
+turn : (c : tie.After-wide Inv-loop μ-loop)
+    → let t = c .before .before in t .before .loop .n * 256 + c .wide .result ≡ numberAt (start t .args .s .now) (start t .args .at) (t .before .loop .i + 1)
 turn c =
     let t = c .before .before in
     let a = start t .args in
     let i = t .before .loop .i in
-    numberAt-turn (a .s .now) (a .at) i _ _ (omega arith) (t .before .loop .inv .1) (c .wide .ensures .0)
+    numberAt-turn (a .s .now) (a .at) i _ _ (omega arith) (t .before .loop .inv .1) (c .wide .ensures)
 
 loop-holds : tie.Need-loop-holds Inv-loop μ-loop
 loop-holds c = (search needs, numberAt-zero (c .before .args .s .now) (c .before .args .at))
