@@ -1,25 +1,21 @@
 -- The round trips of images, over the definitions that the contracts of `read_image` and `write_image` cite: every image of a node in order is
 -- accepted, and read as that node; no two nodes in order have the same image; an image that is written is read as the same node; one that is accepted is
 -- written again as the same bytes. The lemmas come first, the theorems last. Assumes nothing.
-use Prim.Native.Nat.{ℕ, _+_, _-_, _^_, _≤_, _<_}
+use Prim.Native.Nat.{ℕ, _+_, _^_, _≤_, _<_}
 use native.Mathlib.Omega.{arith}
 use mathlib.Core.Bool.{true}
-use mathlib.Core.List.{List, [], _∷_, _++_, append-nil}
-use mathlib.Core.Path.{_≡_, refl, ap, sym, _∙_}
-use lib.ListN.{length, take, drop, length-append, length-drop, take-append-drop, drop-of-length-le}
+use mathlib.Core.List.{List, [], _++_, append-nil}
+use mathlib.Core.Path.{_≡_, ap, sym, _∙_}
+use lib.ListN.{length, take, drop, length-append, length-drop, drop-of-length-le}
 use lib.Seq.{take-append-seam}
 use Rattle.claims.specs.declared.claim.Claim.{Claim}
-use Rattle.claims.specs.Store.{limit, storeOf}
-use Rattle.claims.specs.Claim.{noClaim}
+use Rattle.claims.specs.Store.{limit}
 use Rattle.claims.specs.Reply.{same}
-use Rattle.claims.proofs.Tests.{and-left, and-right}
-use Rattle.claims.proofs.Order.{storeOf-keysOf}
-use Rattle.claims.proofs.ClaimLaws.{same-claim}
 use Rattle.rounds.specs.declared.node.Node.{Node}
 use Rattle.rounds.specs.Table.{tableLimit}
-use Rattle.rounds.specs.Node.{blanks, nodeKeys, pendingOf, nodeOf, nodeInOrder, allUnused}
+use Rattle.rounds.specs.Node.{nodeKeys, pendingOf, nodeInOrder}
 use Rattle.rounds.specs.Call.{writtenOver}
-use Rattle.rounds.proofs.NodeLaws.{nodeInOrder-ordered, nodeKeys-nodeOf, pendingOf-nodeOf}
+use Rattle.rounds.proofs.NodeLaws.{nodeInOrder-ordered, nodeOf-same, nodeKeys-nodeOf, pendingOf-nodeOf}
 use Rattle.wire.specs.Number.{byte, Below}
 use Rattle.wire.specs.Claim.{keyWidth, countWidth, ClaimFits}
 use Rattle.wire.specs.Run.{key, claim, Each}
@@ -29,30 +25,6 @@ use Rattle.wire.proofs.Numbers.{below-drop}
 use Rattle.wire.proofs.Runs.{each-take, key-faithful, claim-faithful}
 use Rattle.wire.proofs.Images.{ordered-counts, length-nodeBytes, length-nodeKeys, length-pending, readImage-0, readImage-yes, writeImage-0, writeImage-yes}
 use Rattle.wire.proofs.Sections.{length-sectionBytes, countOf-section, thingsIn-section, behind-section, countFits-section, sectionBytes-thingsIn}
-
--- ---- a node in order is the node of its keys and its pending claims
-
-unused-blanks : (cs : List Claim) → allUnused cs ≡ true → cs ≡ blanks (length cs)
-unfolding blanks
-unused-blanks [] e = refl
-unused-blanks (c ∷ cs) e =
-    let p : c ≡ noClaim = same-claim c noClaim (and-left (same c noClaim) (allUnused cs) e) in
-    let q : cs ≡ blanks (length cs) = unused-blanks cs (and-right (same c noClaim) (allUnused cs) e) in
-    λ i. p i ∷ q i
-
-ordered-nodeOf : (n : Node) → Shaped n → nodeInOrder n ≡ true → n ≡ nodeOf (nodeKeys n) (pendingOf n)
-unfolding nodeOf
-ordered-nodeOf n shaped e =
-    let o = nodeInOrder-ordered n e in
-    let y = ordered-counts n e in
-    let count : n .count ≡ length (pendingOf n) = sym (length-pending n shaped (y .0) (y .1)) in
-    let left : length (drop (n .count) (n .pending)) ≡ tableLimit - length (pendingOf n) = rw (length-drop, shaped .pending, ← count) in
-    let rest : drop (n .count) (n .pending) ≡ blanks (tableLimit - length (pendingOf n)) =
-    unused-blanks (drop (n .count) (n .pending)) (o .unused) ∙ ap blanks left in
-    let p : n .store ≡ storeOf (nodeKeys n) = storeOf-keysOf (n .store) (shaped .keys) (o .store) in
-    let q : n .pending ≡ pendingOf n ++ blanks (tableLimit - length (pendingOf n)) =
-    sym (take-append-drop (n .count) (n .pending)) ∙ ap (λ (l : List Claim). pendingOf n ++ l) rest in
-    λ i. record { store = p i; pending = q i; count = count i }
 
 -- ---- an image's bytes are read as its keys and claims
 
@@ -117,7 +89,7 @@ image-accepted n fit e =
     let c : length cs ≤ tableLimit = rw (length-pending n (fit .shaped) few several) several in
     let parsed =
     parse-imageBytes ks cs k c (each-take _ (n .store .count) (n .store .keys) (fit .keys)) (each-take ClaimFits (n .count) (n .pending) (fit .pending)) in
-    let node : nodeFrom (parse (nodeBytes n)) ≡ n = ap nodeFrom parsed ∙ sym (ordered-nodeOf n (fit .shaped) e) in
+    let node : nodeFrom (parse (nodeBytes n)) ≡ n = ap nodeFrom parsed ∙ sym (nodeOf-same n (fit .shaped .keys) (fit .shaped .pending) (nodeInOrder-ordered n e)) in
     sym (readImage-0 (imageBytes-told ks cs k c) (ap nodeInOrder node ∙ e)) ∙ (λ i. record { number = 0; node = node i })
 
 -- No two nodes in order have the same image.

@@ -3,9 +3,9 @@
 use Prim.Native.Nat.{ℕ, zero, suc, _+_, _-_, _≤_, _<_}
 use native.Mathlib.Nat.{zero-add, add-zero, add-assoc, sub-zero, zero-sub, suc-sub-suc}
 use native.Mathlib.Omega.{arith}
-use mathlib.Core.Path.{_≡_, ap, sym, _∙_}
-use mathlib.Core.List.{List, [], _∷_, _++_, append-assoc, map}
-use lib.ListN.{length, take, drop, getD, set, replicate, length-append, length-take, length-set, take-append-drop, length-map}
+use mathlib.Core.Path.{_≡_, ap}
+use mathlib.Core.List.{List, [], _∷_, _++_, append-assoc}
+use lib.ListN.{length, take, drop, getD, set, replicate, length-append, length-take, length-set, take-append-drop}
 use lib.Seq.{take-set-le, drop-set-lt, getD-set-same, drop-drop, drop-cons, set-at, take-at, drop-append-add}
 use Rattle.rounds.specs.Call.{writtenOver}
 use Rattle.wire.specs.Place.{putAt}
@@ -67,7 +67,3 @@ module _ {A : Type 0} where
   -- what is written over a run of one value is followed by those that are left
   pub writtenOver-replicate : (xs : List A) (n : ℕ) (a : A) → writtenOver xs (replicate n a) ≡ xs ++ replicate (n - length xs) a
   writtenOver-replicate xs n a = ap (λ (l : List A). xs ++ l) (drop-replicate (length xs) n a)
-
-  -- an array's list has as many elements as what the machine holds of it
-  pub length-mapped : {B : Type 0} (f : A → B) (l : List A) (n : ℕ) → length (map f l) ≡ n → length l ≡ n
-  length-mapped f l n e = sym (length-map l f) ∙ e

@@ -5,10 +5,11 @@ use mathlib.Core.Path.{_≡_, refl, sym, _∙_}
 use borrow.Author.Needs.{needs}
 use lib.ListN.{length, take}
 use Rattle.claims.specs.Claim.{noClaim}
+use Rattle.rounds.proofs.TakeLaws.{length-mapped}
 use Rattle.wire.specs.Frame.{headSize}
 use Rattle.wire.specs.Place.{putAt}
 use Rattle.wire.specs.Run.{claim, writeRun}
-use Rattle.wire.proofs.Places.{putAt-nil, length-mapped}
+use Rattle.wire.proofs.Places.{putAt-nil}
 use Rattle.wire.proofs.Runs.{putAt-writeRun, claim-faithful}
 use Rattle.wire.proofs.frame.put_claims.Statement.{statement}
 use Rattle.wire.proofs.frame.put_claims.Tie as tie

@@ -6,9 +6,10 @@ use borrow.Author.Needs.{needs}
 use lib.ListN.{length, take}
 use Rattle.claims.specs.Claim.{noClaim}
 use Rattle.rounds.specs.Table.{tableLimit}
+use Rattle.rounds.proofs.TakeLaws.{length-mapped}
 use Rattle.wire.specs.Place.{putAt}
 use Rattle.wire.specs.Run.{claim, writeRun}
-use Rattle.wire.proofs.Places.{putAt-nil, length-mapped}
+use Rattle.wire.proofs.Places.{putAt-nil}
 use Rattle.wire.proofs.Runs.{putAt-writeRun, claim-faithful}
 use Rattle.wire.proofs.image.write_claims.Statement.{statement}
 use Rattle.wire.proofs.image.write_claims.Tie as tie

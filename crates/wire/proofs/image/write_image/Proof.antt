@@ -9,10 +9,10 @@ use lib.ListN.{length}
 use Rattle.claims.specs.Store.{limit}
 use Rattle.rounds.specs.Node.{nodeInOrder}
 use Rattle.rounds.specs.Table.{tableLimit}
+use Rattle.rounds.proofs.TakeLaws.{length-mapped}
 use Rattle.wire.specs.Claim.{keyWidth, countWidth, claimSize}
 use Rattle.wire.specs.Image.{keySection, claimSection, sectionLength, nodeBytes, Shaped}
 use Rattle.wire.proofs.Images.{ordered-counts, length-nodeBytes, writeImage-1, writeImage-15, writeImage-0}
-use Rattle.wire.proofs.Places.{length-mapped}
 use Rattle.wire.proofs.image.write_image.Statement.{statement}
 use Rattle.wire.proofs.image.write_image.Tie as tie
 
