@@ -33,7 +33,8 @@ use Rattle.wire.specs.Claim.{keyWidth, countWidth, claimSize}
 use Rattle.wire.specs.Length.{noLength}
 use Rattle.wire.specs.Image.{keySection, claimSection, sections, sectionLength, imageLimit, countOf, behind, countFits, countsFit, toldLength, imageLength, parse, nodeFrom, question14, readImageQuestions, noImage, readImage, imageBytes, sectionBytes, nodeBytes, Shaped, writeImageQuestions, writeImage, imageLent}
 use Rattle.wire.specs.Run.{key, claim, readRun, writeRun}
-use Rattle.wire.specs.Told.{partOf, toldOf, nodeAt, AsTold}
+use Rattle.wire.specs.Told.{partOf, toldOf, nodeAt, AsTold, HasRoom}
+use Rattle.wire.specs.Lent.{writeImageIn, imageInLent}
 use Rattle.wire.proofs.Places.{putAt-zero, putAt-writtenOver, writtenOver-replicate}
 use Rattle.wire.proofs.Questions.{settle-number}
 use Rattle.wire.proofs.Runs.{length-readRun, length-writeRun, key-faithful, claim-faithful}
@@ -300,14 +301,52 @@ module _ (n : Node) where
     unfolding writeImage imageLent
     writeImage-1 e = (rw e, rw e)
 
-    pub writeImage-15 : nodeInOrder n ≡ true → length out < length (nodeBytes n) → (noLength 15 ≡ writeImage n (length out)) × (out ≡ imageLent n out)
-    unfolding writeImage imageLent
-    writeImage-15 e h = (rw (e, lt-leb (length (nodeBytes n)) (length out) h), rw (e, lt-leb (length (nodeBytes n)) (length out) h))
-
     pub writeImage-0 : nodeInOrder n ≡ true → length (nodeBytes n) ≤ length out
         → (record { number = 0; length = length (nodeBytes n) } ≡ writeImage n (length out)) × (writtenOver (nodeBytes n) out ≡ imageLent n out)
     unfolding writeImage imageLent
     writeImage-0 e h = (rw (e, le-leb (length (nodeBytes n)) (length out) h), rw (e, le-leb (length (nodeBytes n)) (length out) h))
+
+    -- the counts decide, and then the room; where the node is in order, this is the call that asks 1
+    pub writeImageIn-keys : limit < n .store .count → (noLength 1 ≡ writeImageIn n (length out)) × (out ≡ imageInLent n out)
+    unfolding writeImageIn imageInLent
+    writeImageIn-keys h = (rw (lt-leb (n .store .count) limit h), rw (lt-leb (n .store .count) limit h))
+
+    module _ (few : n .store .count ≤ limit) where
+      pub writeImageIn-pending : tableLimit < n .count → (noLength 1 ≡ writeImageIn n (length out)) × (out ≡ imageInLent n out)
+      unfolding writeImageIn imageInLent
+      writeImageIn-pending h =
+          let f = le-leb (n .store .count) limit few in
+          let g = lt-leb (n .count) tableLimit h in
+          (rw (f, g), rw (f, g))
+
+      module _ (several : n .count ≤ tableLimit) where
+        pub writeImageIn-15 : length out < length (nodeBytes n) → (noLength 15 ≡ writeImageIn n (length out)) × (out ≡ imageInLent n out)
+        unfolding writeImageIn imageInLent
+        writeImageIn-15 h =
+            let f = le-leb (n .store .count) limit few in
+            let g = le-leb (n .count) tableLimit several in
+            let k = lt-leb (length (nodeBytes n)) (length out) h in
+            (rw (f, g, k), rw (f, g, k))
+
+        pub writeImageIn-0 : length (nodeBytes n) ≤ length out
+            → (record { number = 0; length = length (nodeBytes n) } ≡ writeImageIn n (length out)) × (writtenOver (nodeBytes n) out ≡ imageInLent n out)
+        unfolding writeImageIn imageInLent
+        writeImageIn-0 h =
+            let f = le-leb (n .store .count) limit few in
+            let g = le-leb (n .count) tableLimit several in
+            let k = le-leb (length (nodeBytes n)) (length out) h in
+            (rw (f, g, k), rw (f, g, k))
+
+    module _ (ordered : nodeInOrder n ≡ true) where
+      pub writeImageIn-writeImage : writeImageIn n (length out) ≡ writeImage n (length out)
+      unfolding writeImageIn writeImage
+      writeImageIn-writeImage =
+          rw (ordered, le-leb (n .store .count) limit (ordered-counts ordered .0), le-leb (n .count) tableLimit (ordered-counts ordered .1))
+
+      pub imageInLent-imageLent : imageInLent n out ≡ imageLent n out
+      unfolding imageInLent imageLent
+      imageInLent-imageLent =
+          rw (ordered, le-leb (n .store .count) limit (ordered-counts ordered .0), le-leb (n .count) tableLimit (ordered-counts ordered .1))
 
     -- an image that is written has passed 1 and 15
     pub writeImage-yes : writeImage n (length out) .number ≡ 0 → (nodeInOrder n ≡ true) × (length (nodeBytes n) ≤ length out)

@@ -17,8 +17,13 @@ impl Framed {
     // A frame has from one claim to so many.
     pub const CLAIMS: usize = 4;
 
+    // The bytes before the claims, and those of each claim.
+    pub const HEAD: usize = frame::HEAD;
+
+    pub const CLAIM: usize = claim::SIZE;
+
     // The longest frame.
-    pub const LENGTH: usize = frame::HEAD + claim::SIZE * Framed::CLAIMS;
+    pub const LENGTH: usize = Framed::HEAD + Framed::CLAIM * Framed::CLAIMS;
 }
 
 // How many bytes were written or are told; 0 where the call was refused.

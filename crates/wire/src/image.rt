@@ -19,6 +19,7 @@ ghost use Rattle.wire.specs.Run.{key as key-layout, claim as claim-layou
 ghost use Rattle.wire.specs.Place.{putAt};
 ghost use Rattle.wire.specs.Image.{keySection, claimSection, sectionLength, nodeBytes, noImage, readImage, imageLength, writeImage, imageLent};
 ghost use Rattle.wire.specs.Told.{partOf, toldOf, nodeAt, AsTold, HasRoom};
+ghost use Rattle.wire.specs.Lent.{writeImageIn, imageInLent};
 
 // A section as its count tells it: whether the count is there and not too high, and the count.
 struct Part {
@@ -248,11 +249,18 @@ fn put_image(out: &mut [u8], node: Node)
     write_claims(out, at + number::COUNT, node.pending, m);
 }
 
-// Writes the image of a node to the front of a buffer. Questions 1, and 15 for the image's own length.
-pub fn write_image(node: Node, out: &mut [u8]) -> Length
-    ensures { λ r. ⌜ (r ≡ writeImage node (length (now (out .entry)))) × (now (out .exit) ≡ imageLent node (now (out .entry))) ⌝ }
+// Writes the image of a node, for any content: question 1 is not put, but counts that no node has are refused with its number. Asks 15 for the
+// image's own length.
+pub fn write_image_in(node: Node, out: &mut [u8]) -> Length
+    ensures { λ r. ⌜ (r ≡ writeImageIn node (length (now (out .entry)))) × (now (out .exit) ≡ imageInLent node (now (out .entry))) ⌝ }
 {
-    if !ordered(node) {
+    if Store::LIMIT < node.store.count {
+        return Length {
+            number: 1,
+            length: 0,
+        };
+    }
+    if Node::TABLE < node.count {
         return Length {
             number: 1,
             length: 0,
@@ -270,4 +278,17 @@ pub fn write_image(node: Node, out: &mut [u8]) -> Length
     }
     put_image(out, node);
     Length { number: 0, length }
+}
+
+// Writes the image of a node to the front of a buffer. Questions 1, and 15 for the image's own length.
+pub fn write_image(node: Node, out: &mut [u8]) -> Length
+    ensures { λ r. ⌜ (r ≡ writeImage node (length (now (out .entry)))) × (now (out .exit) ≡ imageLent node (now (out .entry))) ⌝ }
+{
+    if !ordered(node) {
+        return Length {
+            number: 1,
+            length: 0,
+        };
+    }
+    write_image_in(node, out)
 }

@@ -13,3 +13,4 @@ pub use frame::write_frame;
 pub use image::image_length;
 pub use image::read_image;
 pub use image::write_image;
+pub use image::write_image_in;
