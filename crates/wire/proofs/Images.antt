@@ -235,7 +235,7 @@ module _ (bs : List ℕ) {t : Told} (e : t ≡ toldOf bs) where
       record { counts = y; whole = w ∙ lengths bs e y; keys = rw (e, ← toldOf-yes bs y); pending = rw (e, ← toldOf-yes bs y) }
 
 module _ (bs : List ℕ) where
-  readImage-number : readImage bs .number ≡ firstNo (readImageQuestions bs)
+  pub readImage-number : readImage bs .number ≡ firstNo (readImageQuestions bs)
   unfolding readImage
   readImage-number = settle-number (λ (r : Imaged). r .number) (firstNo (readImageQuestions bs)) _ noImage refl (λ (k : ℕ). refl)
 

@@ -1,0 +1,3 @@
+-- The definitions that the contracts of `rehearsal` cite, in the order of document 01. Read them from the top.
+--   Rehearsal  what is decided: the two images, the questions, the round
+pub mod Rehearsal

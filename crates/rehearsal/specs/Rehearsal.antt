@@ -1,0 +1,71 @@
+-- What a rehearsal decides (document 01, "Rehearsal program"), for any input and any number of lent records: the two images, the questions in
+-- their order, what is returned and what the lent words hold afterwards. Not here: what is printed (Text). Assumes nothing.
+use Prim.Native.Nat.{ℕ, _/_}
+use mathlib.Core.List.{List, _∷_, _++_}
+use lib.ListN.{length, take, drop}
+use Rattle.claims.specs.declared.store.Store.{Store}
+use Rattle.claims.specs.Question.{Question, firstNo, settle}
+use Rattle.rounds.specs.Round.{transcript}
+use Rattle.rounds.specs.Call.{roundQuestions, roundBy, deliveryWords, writtenOver}
+use Rattle.wire.specs.Image.{sections, toldLength, frontQuestion14, readImageQuestions, readImage}
+use Rattle.rehearsal.specs.declared.answer.Rehearsed.{Rehearsed}
+
+-- "reads two images end to end .. (the first as long as its counts say, the rest is the second"
+abbrev pub firstBytes : List ℕ → List ℕ
+firstBytes input = take (toldLength sections input) input
+
+abbrev pub secondBytes : List ℕ → List ℕ
+secondBytes input = drop (toldLength sections input) input
+
+-- the store of an image; "Only stores take part; pending tables don't change."
+abbrev pub storeIn : List ℕ → Store
+storeIn bs = readImage bs .node .store
+
+-- What is asked once the first image has given the left store: 14 and 1 of the second image, then the questions of a round, 9 of so many records.
+abbrev pub questionsAfter : Store → List ℕ → ℕ → List Question
+questionsAfter left rest records = readImageQuestions rest ++ roundQuestions left (storeIn rest) records
+
+-- "if the input is shorter than that, the first gets 14), judges the first by 14 and 1 before the second, runs one round"
+abbrev pub rehearseQuestions : List ℕ → ℕ → List Question
+rehearseQuestions input records =
+    frontQuestion14 input
+    ∷ (readImageQuestions (firstBytes input) ++ questionsAfter (storeIn (firstBytes input)) (secondBytes input) records)
+
+-- "A refusal returns its number, .. and zeros for any claim or count."
+abbrev pub noRehearsal : ℕ → Rehearsed
+noRehearsal number = record { number = number; left = 0; right = 0; deliveries = 0 }
+
+-- "both counts and the deliveries", after the round of two stores
+abbrev pub roundTold : Store → Store → Rehearsed
+roundTold left right = record {
+  number = 0;
+  left = length (roundBy left right .stores .left);
+  right = length (roundBy left right .stores .right);
+  deliveries = length (roundBy left right .lines);
+}
+
+-- the lent words after the round: a record a delivery, five words to a record; "output past what was written keeps its contents"
+abbrev pub roundWords : Store → Store → List ℕ → List ℕ
+roundWords left right lent = writtenOver (deliveryWords (transcript (roundBy left right))) lent
+
+-- The rehearsal of an input that lends so many records. Where they are fewer than twice the keys of the union, it is refused with 9.
+unfoldable pub rehearsed : List ℕ → ℕ → Rehearsed
+rehearsed input records =
+    settle (firstNo (rehearseQuestions input records))
+    (roundTold (storeIn (firstBytes input)) (storeIn (secondBytes input)))
+    noRehearsal
+
+-- the lent words afterwards; the records are a fifth of them
+unfoldable pub rehearsedWords : List ℕ → List ℕ → List ℕ
+rehearsedWords input lent =
+    settle (firstNo (rehearseQuestions input (length lent / 5)))
+    (roundWords (storeIn (firstBytes input)) (storeIn (secondBytes input)) lent)
+    (λ n. lent)
+
+-- the same once the first image has given the left store
+unfoldable pub afterFirst : Store → List ℕ → ℕ → Rehearsed
+afterFirst left rest records = settle (firstNo (questionsAfter left rest records)) (roundTold left (storeIn rest)) noRehearsal
+
+unfoldable pub afterFirstWords : Store → List ℕ → List ℕ → List ℕ
+afterFirstWords left rest lent =
+    settle (firstNo (questionsAfter left rest (length lent / 5))) (roundWords left (storeIn rest) lent) (λ n. lent)

@@ -1,0 +1,17 @@
+// What a rehearsal answers. The number is that of the first question of document 01 answered no, or 0.
+
+// Both counts after the round and the number of deliveries; zeros where the rehearsal was refused.
+pub struct Rehearsed {
+    pub number: u8,
+    pub left: usize,
+    pub right: usize,
+    pub deliveries: usize,
+}
+
+impl Rehearsed {
+    // The records that the program lends: a number of its own, whatever a store's limit is.
+    pub const RECORDS: usize = 2048;
+
+    // The same in words, five to a record.
+    pub const WORDS: usize = 5 * Rehearsed::RECORDS;
+}
