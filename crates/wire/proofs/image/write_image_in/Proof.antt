@@ -9,7 +9,7 @@ use Rattle.rounds.specs.Table.{tableLimit}
 use Rattle.wire.specs.Claim.{keyWidth, countWidth, claimSize}
 use Rattle.wire.specs.Image.{keySection, claimSection, sectionLength, nodeBytes, Shaped}
 use Rattle.wire.proofs.Images.{length-nodeBytes, writeImageIn-keys, writeImageIn-pending, writeImageIn-15, writeImageIn-0}
-use Rattle.wire.proofs.Places.{length-mapped}
+use Rattle.rounds.proofs.TakeLaws.{length-mapped}
 use Rattle.wire.proofs.image.write_image_in.Statement.{statement}
 use Rattle.wire.proofs.image.write_image_in.Tie as tie
 
