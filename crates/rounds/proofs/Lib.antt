@@ -14,7 +14,7 @@
 --   WordsLaws, CoreLaws, Meeting         the core of a round on flat words is the round
 --   Ordering, Placing, TakeLaws          the functions of src/order.rt and src/taking.rt
 --   Writing, Serve, ServeLaws, Beating   the functions of src/beats.rt
---   ArrayLent, Narrow, LogLaws           the functions of src/log.rt
+--   ArrayLent, LogWalk, Narrow, LogLaws  the functions of src/log.rt
 pub mod Cases
 pub mod TableLaws
 pub mod NodeLaws
@@ -40,5 +40,6 @@ mod Serve
 pub mod ServeLaws
 mod Beating
 mod ArrayLent
+mod LogWalk
 mod Narrow
 mod LogLaws

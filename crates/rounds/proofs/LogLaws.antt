@@ -1,31 +1,31 @@
--- Laws of specs/Log. In order: a record in words, one law for each way that the code goes; the first words; records stored one after the other.
--- Assumes nothing.
-use Prim.Native.Nat.{ℕ, zero, suc, _+_, _*_, _/_, _%_, _≤_, _<_, min}
+-- Laws of specs/Log. In order: a record in words, one law for each way that the code goes; the first words; records stored one after the other; a round
+-- on the first words, which no record of a round exceeds, and that storing its records is the round over records. Assumes nothing.
+use Prim.Native.Nat.{ℕ, zero, suc, _*_, _/_, _%_, _≤_, _<_, min}
 use mathlib.Core.Bool.{Bool, true, false, cond}
-use mathlib.Core.List.{List, [], _∷_, _++_, append-assoc}
+use mathlib.Core.List.{List, _∷_, _++_, append-assoc}
 use mathlib.Core.Path.{_≡_, refl, sym, ap, ap₂, _∙_, subst}
+use mathlib.Core.Logic.{⊎-elim}
 use native.Mathlib.Omega.{arith}
 use borrow.Author.Tests.{lt-ltb, le-ltb, leb-true, leb-false, le-leb, lt-leb}
 use lib.Dec.{leb}
 use lib.ListN.{length, take, drop, getD, set, length-set, length-append, length-map, take-append-drop}
 use lib.Seq.{length-take-le, take-suc, drop-cons, split-at, append-snoc, set-at, drop-append-le, take-length}
-use mathlib.Core.Logic.{⊎-elim}
 use Rattle.claims.specs.declared.claim.Claim.{Claim}
 use Rattle.claims.specs.declared.store.Store.{Store}
-use Rattle.rounds.specs.declared.delivery.Delivery.{Delivery}
-use Rattle.rounds.specs.declared.answer.Met.{Met}
 use Rattle.claims.specs.Store.{limit, inOrder, keysOf, storeOf}
 use Rattle.claims.specs.Question.{firstNo, settle}
+use Rattle.claims.proofs.Order.{inOrder-rising}
+use Rattle.claims.proofs.Tests.{eq-or-ne}
+use Rattle.rounds.specs.declared.delivery.Delivery.{Delivery}
+use Rattle.rounds.specs.declared.answer.Met.{Met}
 use Rattle.rounds.specs.Round.{union, Line, transcript}
 use Rattle.rounds.specs.Call.{writtenOver, deliveryWords, roundQuestions, roundBy, met, metLent, metWords}
 use Rattle.rounds.specs.Core.{recordsIn, claimIn}
-use Rattle.claims.proofs.Order.{inOrder-rising}
-use Rattle.claims.proofs.Tests.{eq-or-ne}
+use Rattle.rounds.specs.Log.{noDelivery, deliveryIn, copied, frontRecords, frontWords}
 use Rattle.rounds.proofs.CallLaws.{RoundYes, roundQuestions-yes, met-done, met-refused, met-bounded, roundYes-rounded, metLent-done, metLent-refused, metWords-done}
 use Rattle.rounds.proofs.Words.{length-deliveryWords}
 use Rattle.rounds.proofs.WordsLaws.{length-over, sender-at, claim-at}
 use Rattle.rounds.proofs.Narrow.{Narrow, AllNarrow, allNarrow-getD, round-narrow}
-use Rattle.rounds.specs.Log.{noDelivery, deliveryIn, copied, frontRecords, frontWords}
 
 -- ---- a record in words
 

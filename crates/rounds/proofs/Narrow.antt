@@ -10,7 +10,7 @@ use lib.ListN.{length, getD}
 use Rattle.claims.specs.Store.{limit}
 use Rattle.claims.proofs.Rising.{Rising}
 use Rattle.rounds.specs.declared.delivery.Delivery.{Delivery}
-use Rattle.rounds.specs.Round.{union, End, leftEnd, rightEnd, senderNumber, Pair, pair, Entry, delivered, answers, Line, Run, run, half, followed, roundOf, transcript}
+use Rattle.rounds.specs.Round.{union, End, leftEnd, rightEnd, senderNumber, Pair, pair, Entry, delivered, answers, Line, Run, run, half, roundOf}
 use Rattle.rounds.proofs.Pair.{Rises, rises-pair, unionOf}
 use Rattle.rounds.proofs.Half.{Fine, fine-passes, fine-step, opening, halfway-opening, half-run, half-fine, half-union, roundOf-halves}
 

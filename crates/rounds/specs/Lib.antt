@@ -7,7 +7,7 @@
 --   Core      the round's core on flat words, for any content: an interface between our own functions, and no rule of document 01
 --   Lent      calls between our own crates, and no rule of document 01
 --   Serving   a beat for any content of a node: likewise
---   Log       the lent run of transcript records
+--   Log       the lent run of transcript records; between the core's words and the records, an interface likewise
 --   Cases     worked examples, as one table
 pub mod Table
 pub mod Node

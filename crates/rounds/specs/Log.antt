@@ -1,9 +1,11 @@
--- The lent run of transcript records, and records in words (document 01, "A round"). Assumes nothing.
+-- The lent run of transcript records (document 01, "A round"): the record that stands where there is none; then what our own functions between the words
+-- of a round's core and the records do, for any content. These last are no rule of document 01: that together they are the round of Call is a law
+-- (`met-front` and `met-lent` of proofs/LogLaws). Assumes nothing.
 use Prim.Native.Nat.{ℕ, zero, suc, _*_, _%_, min}
 use mathlib.Core.Bool.{cond}
 use mathlib.Core.List.{List, _++_}
 use lib.Dec.{ltb}
-use lib.ListN.{length, take, drop, getD, set}
+use lib.ListN.{take, drop, getD, set}
 use Rattle.claims.specs.declared.store.Store.{Store}
 use Rattle.claims.specs.Claim.{noClaim}
 use Rattle.rounds.specs.declared.delivery.Delivery.{Delivery}
@@ -14,7 +16,7 @@ use Rattle.rounds.specs.Core.{recordsIn, claimIn}
 abbrev pub noDelivery : Delivery
 noDelivery = record { sender = 0; claim = noClaim }
 
--- ---- our own functions between the words and the records, for any content
+-- ---- between words and records
 
 -- the record that lies in words, and the record of zeros past the last one
 unfoldable pub deliveryIn : List ℕ → ℕ → Delivery
