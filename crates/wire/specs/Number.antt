@@ -22,6 +22,6 @@ bytes (suc w) n = n / byte ^ w % byte ∷ bytes w n
 abbrev pub numberAt : List ℕ → ℕ → ℕ → ℕ
 numberAt bs at width = number (take width (drop at bs))
 
--- every number of a list is below m: of what is read from memory, m is 256 for bytes, and 256 ^ 8 for keys
+-- every number of a list is below m, as every byte of a slice is below 256
 abbrev pub Below : ℕ → List ℕ → Type 0
 Below m l = (i : ℕ) → getD l i 0 < m

@@ -17,7 +17,7 @@ ghost use Rattle.rounds.specs.Call.{writtenOver};
 ghost use Rattle.wire.specs.Claim.{keyWidth, claimSize};
 ghost use Rattle.wire.specs.Run.{key as key-layout, claim as claim-layout, readRun, writeRun};
 ghost use Rattle.wire.specs.Place.{putAt};
-ghost use Rattle.wire.specs.Image.{keySection, claimSection, sectionLength, nodeBytes, noImage, readImage, imageLength, writeImage, imageLent};
+ghost use Rattle.wire.specs.Image.{keySection, claimSection, sectionLength, imageLimit, nodeBytes, noImage, readImage, imageLength, writeImage, imageLent};
 ghost use Rattle.wire.specs.Told.{partOf, toldOf, nodeAt, AsTold, HasRoom};
 ghost use Rattle.wire.specs.Lent.{writeImageIn, imageInLent};
 
@@ -37,7 +37,7 @@ struct Told {
 
 // The section at a place, of which there may be `most` things.
 fn part_at(bytes: &[u8], at: usize, most: usize) -> Part
-    requires { ⌜ at ≤ 65536 ⌝ }
+    requires { ⌜ at ≤ imageLimit ⌝ }
     ensures { λ r. ⌜ r ≡ partOf most (drop at (now (bytes .entry))) ⌝ }
 {
     if bytes.len() < at + number::COUNT {
@@ -136,6 +136,7 @@ fn read_claims(bytes: &[u8], at: usize, n: usize) -> [Claim; Node::TABLE]
     claims
 }
 
+// A table of zeros.
 fn no_claims() -> [Claim; Node::TABLE]
     ensures { λ r. ⌜ r ≡ blanks tableLimit ⌝ }
 {
@@ -235,7 +236,7 @@ pub fn read_image(bytes: &[u8]) -> Imaged
     contents(bytes, told.keys, told.pending)
 }
 
-// The image of a node, whose counts are n and m, at the front of a buffer.
+// The image of a node, put to the front of a buffer that has room for it.
 fn put_image(out: &mut [u8], node: Node)
     requires { ⌜ HasRoom node (length (now out)) ⌝ }
     ensures { λ _. ⌜ now (out .exit) ≡ writtenOver (nodeBytes node) (now (out .entry)) ⌝ }

@@ -3,6 +3,7 @@ ghost use mathlib.Core.Path.{_≡_};
 ghost use Prim.Native.Nat.{_+_, _≤_};
 ghost use lib.ListN.{length};
 ghost use Rattle.wire.specs.Number.{bytes, numberAt};
+ghost use Rattle.wire.specs.Claim.{keyWidth};
 ghost use Rattle.wire.specs.Place.{putAt};
 
 // The width of a key or a sum, and that of a count, in bytes.
@@ -19,7 +20,7 @@ fn wide(x: u8) -> u64
 
 // The number of `width` bytes at a place.
 pub(crate) fn read(s: &[u8], at: usize, width: usize) -> u64
-    requires { ⌜ (at + width ≤ length (now s)) × (width ≤ 8) ⌝ }
+    requires { ⌜ (at + width ≤ length (now s)) × (width ≤ keyWidth) ⌝ }
     ensures { λ r. ⌜ r ≡ numberAt (now (s .entry)) at width ⌝ }
 {
     let mut n: u64 = 0;
