@@ -1,0 +1,116 @@
+// Claims, stores and nodes in the words of a request, at the places that main.rt tells.
+use crate::raw::get;
+use crate::raw::put;
+use claims::Claim;
+use claims::Store;
+use rounds::Node;
+ghost use Prim.Native.Nat.{_≤_};
+
+// The number and count of the answer, both arguments.
+pub const NUMBER: usize = 0;
+
+pub const COUNT: usize = 1;
+
+pub const FIRST: usize = 2;
+
+pub const SECOND: usize = 3;
+
+// The claims.
+pub const CLAIMS: usize = 4;
+
+// The store, the place after it, the table's claims, and the places after the node and after both stores.
+pub const LEFT: usize = 20;
+
+pub const RIGHT: usize = LEFT + 1 + Store::LIMIT;
+
+const TABLE: usize = RIGHT + 1;
+
+pub const PAST_NODE: usize = TABLE + 4 * Node::TABLE;
+
+pub const PAST_BOTH: usize = RIGHT + 1 + Store::LIMIT;
+
+pub fn claim_at(words: &[u64], at: usize) -> Claim
+    requires { ⌜ at ≤ 1000000 ⌝ }
+{
+    Claim {
+        lo: get(words, at),
+        hi: get(words, at + 1),
+        sum: get(words, at + 2),
+        cnt: (get(words, at + 3) % 65536) as u16,
+    }
+}
+
+pub fn put_claim(words: &mut [u64], at: usize, claim: Claim)
+    requires { ⌜ at ≤ 1000000 ⌝ }
+{
+    put(words, at, claim.lo);
+    put(words, at + 1, claim.hi);
+    put(words, at + 2, claim.sum);
+    put(words, at + 3, claim.cnt as u64);
+}
+
+pub fn store_at(words: &[u64], at: usize) -> Store
+    requires { ⌜ at ≤ 1000000 ⌝ }
+{
+    let mut store = Store::empty();
+    let mut i: usize = 0;
+    while i < Store::LIMIT {
+        store.keys[i] = get(words, at + 1 + i);
+        i += 1;
+    }
+    store.count = get(words, at) as usize;
+    store
+}
+
+pub fn put_store(words: &mut [u64], at: usize, store: Store)
+    requires { ⌜ at ≤ 1000000 ⌝ }
+{
+    put(words, at, store.count as u64);
+    let mut i: usize = 0;
+    while i < Store::LIMIT {
+        put(words, at + 1 + i, store.keys[i]);
+        i += 1;
+    }
+}
+
+// The claims of a table.
+fn table_in(words: &[u64]) -> [Claim; Node::TABLE] {
+    let mut table = [Claim {
+        lo: 0,
+        hi: 0,
+        sum: 0,
+        cnt: 0,
+    }; Node::TABLE];
+    let mut i: usize = 0;
+    while i < Node::TABLE {
+        table[i] = claim_at(words, TABLE + 4 * i);
+        i += 1;
+    }
+    table
+}
+
+fn put_table(words: &mut [u64], table: [Claim; Node::TABLE]) {
+    let mut i: usize = 0;
+    while i < Node::TABLE {
+        put_claim(words, TABLE + 4 * i, table[i]);
+        i += 1;
+    }
+}
+
+pub fn node_in(words: &[u64]) -> Node {
+    let store = store_at(words, LEFT);
+    let pending = table_in(words);
+    Node {
+        store,
+        pending,
+        count: get(words, RIGHT) as usize,
+    }
+}
+
+pub fn put_node(words: &mut [u64], node: Node) {
+    let store = node.store;
+    let pending = node.pending;
+    put_store(words, LEFT, store);
+    put(words, RIGHT, node.count as u64);
+    put_table(words, pending);
+}

@@ -1,0 +1,140 @@
+// A program for tests: it makes any public call of the libraries below on what it reads, with contents of ANY kind, in order or not, and writes
+// every answer and every lent buffer whole. It reads request after request until its input ends.
+//
+// A request: three numbers of 8 bytes (which call, how many words, how many bytes), then the words (8 bytes each), then the bytes. Numbers are
+// unsigned, high byte first. A reply: the byte '=', then as many words and as many bytes as the request had, with the answer put in place. A
+// request that cannot be read (cut short, too long, a call that does not exist, fewer words than its call needs, more lent than is there) gets
+// the single byte '?', and the program ends.
+//
+// The words of every request, by place:
+//     0            the answer's number: of the first question answered no, or 0
+//     1            the answer's count: of claims (read_frame), of claims written (beat), of deliveries (round_words), of bytes (write_frame,
+//                  write_image, image_length), 1 or 0 for yes or no (ordered), or which kind of reply (0 match, 1 ask, 2 one, 3 two; 0 if refused)
+//     2            the first argument: the key (enter), the first position (make), n (write_frame)
+//     3            the second argument: the last position (make), or how many words or bytes are lent; what comes after those is not lent
+//     4 to 19      four claims, each lo, hi, sum, cnt (of cnt the low 16 bits count). The first is the argument of reply, judge and take; the
+//                  four are those of write_frame. Answered: the claim of make in the first; of reply in the second and third, zeros where there
+//                  is none; of read_frame all four
+//     20 to 1044   the store, or the node's store, or a round's left store: its count, then 1,024 places
+//     1045 ..      the node's pending count, then 64 claims, to 1301; from 1302 on the words from which a beat is lent its own
+//     1045 ..      a round's right store, to 2069; from 2070 on the words from which a round is lent its own
+//
+// The calls: 1 enter, 2 make, 3 reply, 4 judge, 5 take, 6 beat, 7 round_words, 8 read_frame, 9 write_frame, 10 read_image, 11 write_image,
+// 12 image_length, 13 ordered. Calls 8 to 12 are lent the first of the request's bytes.
+mod calls;
+mod card;
+mod raw;
+
+use libc::STDIN_FILENO;
+use libc::STDOUT_FILENO;
+
+// The bytes of a request's head.
+const HEAD: usize = 24;
+
+// Says that the request could not be read, and that the program ends.
+fn malformed() -> bool {
+    io::write_all(STDOUT_FILENO, &[b'?']);
+    false
+}
+
+// Fills the first n of some bytes from the input, and says whether there were so many.
+fn fill(bytes: &mut [u8], n: usize) -> bool {
+    if bytes.len() < n {
+        return false;
+    }
+    if n == 0 {
+        return true;
+    }
+    io::read_full(STDIN_FILENO, &mut bytes[0..n]) == n
+}
+
+// Writes the first n of some bytes.
+fn tell(bytes: &[u8], n: usize) -> bool {
+    if bytes.len() < n {
+        return false;
+    }
+    io::write_all(STDOUT_FILENO, &bytes[0..n])
+}
+
+// Reads the words of a request.
+fn read_words(space: &mut [u8], words: &mut [u64], n: usize) -> bool {
+    if raw::MOST < n {
+        return false;
+    }
+    if !fill(space, 8 * n) {
+        return false;
+    }
+    raw::decode(space, words, n);
+    true
+}
+
+// Makes the call on the words and bytes of the request, and no others.
+fn answer(call: u64, words: &mut [u64], n: usize, bytes: &mut [u8], m: usize) -> bool {
+    if words.len() < n {
+        return false;
+    }
+    if bytes.len() < m {
+        return false;
+    }
+    calls::serve(call, &mut words[0..n], &mut bytes[0..m])
+}
+
+// Writes the mark and the words of a reply.
+fn tell_words(space: &mut [u8], words: &[u64], n: usize) -> bool {
+    if raw::MOST < n {
+        return false;
+    }
+    raw::encode(words, space, n);
+    tell(space, 8 * n + 1)
+}
+
+// One request, after its head.
+fn body(
+    call: u64,
+    space: &mut [u8],
+    words: &mut [u64],
+    n: usize,
+    bytes: &mut [u8],
+    m: usize,
+) -> bool {
+    if !read_words(space, words, n) {
+        return malformed();
+    }
+    if !fill(bytes, m) {
+        return malformed();
+    }
+    if !answer(call, words, n, bytes, m) {
+        return malformed();
+    }
+    if !tell_words(space, words, n) {
+        return false;
+    }
+    tell(bytes, m)
+}
+
+// One request; false where there is none or it could not be read.
+fn turn(space: &mut [u8], words: &mut [u64], bytes: &mut [u8]) -> bool {
+    let mut head = [0u8; HEAD];
+    let got = io::read_full(STDIN_FILENO, &mut head);
+    if got == 0 {
+        return false;
+    }
+    if got < HEAD {
+        return malformed();
+    }
+    let call = raw::word_at(&head, 0);
+    let n = raw::word_at(&head, 8) as usize;
+    let m = raw::word_at(&head, 16) as usize;
+    body(call, space, words, n, bytes, m)
+}
+
+// Nothing says that the input ends, so the turns are counted down from a number that no run uses up.
+fn main() {
+    let mut space = [0u8; raw::SPACE];
+    let mut words = [0u64; raw::MOST];
+    let mut bytes = [0u8; raw::MOST];
+    let mut turns = u64::MAX;
+    while turns > 0 && turn(&mut space, &mut words, &mut bytes) {
+        turns -= 1;
+    }
+}
