@@ -1,5 +1,5 @@
 -- What a rehearsal decides: one law for each way that the code of src/run.rt goes. In order: questions behind others; from the second image on;
--- the whole input. Assumes nothing.
+-- the whole input; where no question is answered no. Assumes nothing.
 use Prim.Native.Nat.{ℕ, _-_, _/_, _≤_}
 use native.Mathlib.Omega.{arith}
 use mathlib.Core.Bool.{_&&_}
@@ -16,13 +16,13 @@ use Rattle.claims.proofs.QuestionLaws.{Numbered, firstNo-zero, firstNo-append-z
 use Rattle.claims.proofs.Tests.{and-right}
 use Rattle.rounds.specs.declared.answer.Met.{Met}
 use Rattle.rounds.specs.Call.{roundQuestions, roundBy, met, metWords}
-use Rattle.rounds.proofs.CallLaws.{met-done, met-refused, metWords-done, metWords-refused}
+use Rattle.rounds.proofs.CallLaws.{met-done, met-refused, metWords-done, metWords-refused, roundQuestions-yes, roundYes-rounded}
 use Rattle.wire.specs.declared.answer.Imaged.{Imaged}
 use Rattle.wire.specs.declared.answer.Length.{Length}
 use Rattle.wire.specs.Length.{noLength}
 use Rattle.wire.specs.Image.{sections, countsFit, toldLength, frontQuestion14, readImageQuestions, readImage, imageLength}
 use Rattle.wire.proofs.Images.{readImage-number}
-use Rattle.wire.proofs.Questions.{settle-number}
+use Rattle.wire.proofs.Questions.{settle-number, firstNo-front}
 use Rattle.rehearsal.specs.declared.answer.Rehearsed.{Rehearsed}
 use Rattle.rehearsal.specs.Rehearsal.{firstBytes, secondBytes, storeIn, questionsAfter, rehearseQuestions, noRehearsal, roundTold, roundWords, rehearsed, rehearsedWords, afterFirst, afterFirstWords}
 
@@ -37,6 +37,10 @@ module _ {A : Type 0} (a b : List Question) (done : A) (refused : ℕ → A) (n 
 
   settle-behind : Numbered a → n ≡ 0 → settle (firstNo (a ++ b)) done refused ≡ settle (firstNo b) done refused
   settle-behind h z = ap (λ (k : ℕ). settle k done refused) (firstNo-append-zero a b h (sym e ∙ z))
+
+-- where all are answered yes, so are the later ones
+firstNo-rest : (a b : List Question) → Numbered a → firstNo (a ++ b) ≡ 0 → firstNo b ≡ 0
+firstNo-rest a b n h = sym (firstNo-append-zero a b n (firstNo-front a b h)) ∙ h
 
 -- the questions of an image have numbers
 image-numbered : (bs : List ℕ) → Numbered (readImageQuestions bs)
@@ -172,3 +176,41 @@ module _ (input lent : List ℕ) (l : Length) (told : l ≡ imageLength input) w
             rw (s, rest) (sym (behind-front told noRehearsal ∙ settle-behind (readImageQuestions (firstBytes input)) after told noRehearsal (i .number) first-number (image-numbered (firstBytes input)) z)),
             rw (s, rest) (sym (behind-front words (λ n. lent) ∙ settle-behind (readImageQuestions (firstBytes input)) after words (λ n. lent) (i .number) first-number (image-numbered (firstBytes input)) z)),
           )
+
+-- ---- where no question is answered no
+
+module _ (input : List ℕ) (records : ℕ) where
+  abbrev left : Store
+  left = storeIn (firstBytes input)
+
+  abbrev right : Store
+  right = storeIn (secondBytes input)
+
+  pub rehearsed-number : rehearsed input records .number ≡ firstNo (rehearseQuestions input records)
+  unfolding rehearsed
+  rehearsed-number = settle-number (λ (r : Rehearsed). r .number) (firstNo (rehearseQuestions input records)) (roundTold left right) noRehearsal refl (λ k. refl)
+
+  module _ (none : firstNo (rehearseQuestions input records) ≡ 0) where
+    pub rehearsed-told : rehearsed input records ≡ roundTold left right
+    unfolding rehearsed
+    rehearsed-told = settle-done (firstNo (rehearseQuestions input records)) (roundTold left right) noRehearsal none
+
+    round-none : firstNo (roundQuestions left right records) ≡ 0
+    round-none =
+        let after = questionsAfter left (secondBytes input) records in
+        let a : firstNo (readImageQuestions (firstBytes input) ++ after) ≡ 0 = firstNo-zero (frontQuestion14 input) (readImageQuestions (firstBytes input) ++ after) (lit< tt) none .1 in
+        let b : firstNo after ≡ 0 = firstNo-rest (readImageQuestions (firstBytes input)) after (image-numbered (firstBytes input)) a in
+        firstNo-rest (readImageQuestions (secondBytes input)) (roundQuestions left right records) (image-numbered (secondBytes input)) b
+
+    -- the deliveries fit the records
+    pub deliveries-fit : length (roundBy left right .lines) ≤ records
+    deliveries-fit =
+        let y = roundQuestions-yes left right records round-none in
+        omega (arith, y .room, roundYes-rounded left right records y .bound)
+
+-- the lent words, where a fifth of them are the records
+pub rehearsedWords-told : (input lent : List ℕ) → firstNo (rehearseQuestions input (length lent / 5)) ≡ 0
+    → rehearsedWords input lent ≡ roundWords (storeIn (firstBytes input)) (storeIn (secondBytes input)) lent
+unfolding rehearsedWords
+rehearsedWords-told input lent none =
+    settle-done (firstNo (rehearseQuestions input (length lent / 5))) (roundWords (storeIn (firstBytes input)) (storeIn (secondBytes input)) lent) (λ n. lent) none

@@ -1,5 +1,7 @@
 // What a rehearsal answers. The number is that of the first question of document 01 answered no, or 0.
 
+use crate::page;
+
 // Both counts after the round and the number of deliveries; zeros where the rehearsal was refused.
 pub struct Rehearsed {
     pub number: u8,
@@ -14,4 +16,7 @@ impl Rehearsed {
 
     // The same in words, five to a record.
     pub const WORDS: usize = 5 * Rehearsed::RECORDS;
+
+    // The longest text: a line for each record, each number of it 20 digits, and the last line.
+    pub const TEXT: usize = page::LINE * Rehearsed::RECORDS + page::LAST;
 }

@@ -1,0 +1,128 @@
+-- Laws of numbers as text: one digit, one digit more, how many digits there are, that the text is the number's, and the text at a place of a buffer.
+-- Assumes nothing.
+use Prim.Native.Nat.{ℕ, zero, suc, _+_, _-_, _*_, _/_, _%_, _^_, _≤_, _<_}
+use native.Mathlib.Nat.{pow-succ', mul-left-comm}
+use native.Mathlib.Numerals.{add-one}
+use native.Mathlib.Omega.{arith}
+use mathlib.Core.Bool.{Bool, true, false}
+use mathlib.Core.List.{List, [], _∷_, _++_}
+use mathlib.Core.Logic.{⊎-elim}
+use mathlib.Core.Path.{_≡_, refl, ap, sym, _∙_}
+use borrow.Author.Tests.{lt-ltb, le-ltb}
+use lib.Dec.{ltb, lit<, lit≤}
+use lib.ListN.{length, set, length-append}
+use Rattle.claims.proofs.Tests.{lt-or-le}
+use Rattle.wire.specs.Place.{putAt}
+use Rattle.wire.proofs.Places.{putAt-snoc}
+use Rattle.rehearsal.specs.Decimal.{digit, decimalIn, decimal, digitLimit, value}
+use Rattle.rehearsal.proofs.WrittenLaws.{putAt-one}
+
+-- ---- how often over makes no difference
+
+decimalIn-small : (f n : ℕ) → n < 10 → decimalIn f n ≡ digit n ∷ []
+unfolding decimalIn
+decimalIn-small zero n h = refl
+decimalIn-small (suc f) n h = rw (lt-ltb n 10 h)
+
+decimalIn-large : (f n : ℕ) → 10 ≤ n → decimalIn (suc f) n ≡ decimalIn f (n / 10) ++ (digit (n % 10) ∷ [])
+unfolding decimalIn
+decimalIn-large f n h = rw (le-ltb n 10 h)
+
+decimalIn-turns : (f g n : ℕ) → n ≤ f → n ≤ g → decimalIn f n ≡ decimalIn g n
+decimalIn-turns zero g n p q = decimalIn-small zero n (omega arith) ∙ sym (decimalIn-small g n (omega arith))
+decimalIn-turns (suc f) zero n p q = decimalIn-small (suc f) n (omega arith) ∙ sym (decimalIn-small zero n (omega arith))
+decimalIn-turns (suc f) (suc g) n p q =
+    ⊎-elim
+    {C = decimalIn (suc f) n ≡ decimalIn (suc g) n}
+    (λ (h : n < 10). decimalIn-small (suc f) n h ∙ sym (decimalIn-small (suc g) n h))
+    (λ (h : 10 ≤ n).
+    decimalIn-large f n h
+    ∙ (ap (λ (l : List ℕ). l ++ (digit (n % 10) ∷ [])) (decimalIn-turns f g (n / 10) (omega arith) (omega arith)) ∙ sym (decimalIn-large g n h)))
+    (lt-or-le n 10)
+
+-- ---- one digit, and one more
+
+pub decimal-digit : (n : ℕ) → n < 10 → decimal n ≡ digit n ∷ []
+unfolding decimal
+decimal-digit n h = decimalIn-small n n h
+
+pub decimal-step : (n : ℕ) → 10 ≤ n → decimal n ≡ decimal (n / 10) ++ (digit (n % 10) ∷ [])
+unfolding decimal
+decimal-step zero h = absurd (let z : ⊥ = omega arith in z)
+decimal-step (suc m) h =
+    decimalIn-large m (suc m) h
+    ∙ ap (λ (l : List ℕ). l ++ (digit (suc m % 10) ∷ [])) (decimalIn-turns m (suc m / 10) (suc m / 10) (omega arith) (omega arith))
+
+-- ---- how many digits
+
+pub length-decimal-digit : (n : ℕ) → n < 10 → length (decimal n) ≡ 1
+length-decimal-digit n h = rw (decimal-digit n h)
+
+pub length-decimal-step : (n : ℕ) → 10 ≤ n → length (decimal n) ≡ length (decimal (n / 10)) + 1
+length-decimal-step n h = rw (decimal-step n h, length-append)
+
+pub length-decimal-some : (n : ℕ) → 1 ≤ length (decimal n)
+length-decimal-some n =
+    ⊎-elim
+    {C = 1 ≤ length (decimal n)}
+    (λ (h : n < 10). omega (arith, length-decimal-digit n h))
+    (λ (h : 10 ≤ n). omega (arith, length-decimal-step n h))
+    (lt-or-le n 10)
+
+length-decimal-below : (k n : ℕ) → n < 10 ^ suc k → length (decimal n) ≤ suc k
+length-decimal-below zero n h = omega (arith, length-decimal-digit n h)
+length-decimal-below (suc k) n h =
+    ⊎-elim
+    {C = length (decimal n) ≤ suc (suc k)}
+    (λ (p : n < 10). omega (arith, length-decimal-digit n p))
+    (λ (p : 10 ≤ n).
+    let m : n < 10 * 10 ^ suc k = rw pow-succ' at h in
+    let r : length (decimal (n / 10)) ≤ suc k = length-decimal-below k (n / 10) (omega arith) in
+    omega (arith, length-decimal-step n p))
+    (lt-or-le n 10)
+
+-- a 64-bit number has at most 20
+pub length-decimal-most : (n : ℕ) → n < 2 ^ 64 → length (decimal n) ≤ digitLimit
+length-decimal-most n h = length-decimal-below 19 n (omega arith)
+
+-- ---- the text is the number's
+
+value-snoc : (ds : List ℕ) (d : ℕ) → value (ds ++ (d ∷ [])) ≡ value ds * 10 + (d - 48)
+unfolding value
+value-snoc [] d = omega arith
+value-snoc (a ∷ ds) d =
+    let e : (a - 48) * 10 ^ length (ds ++ (d ∷ [])) ≡ 10 * ((a - 48) * 10 ^ length ds) = rw (length-append, add-one, pow-succ', mul-left-comm (a - 48) 10) in
+    let r : value (ds ++ (d ∷ [])) ≡ value ds * 10 + (d - 48) = value-snoc ds d in
+    omega arith
+
+value-digit : (n : ℕ) → value (digit n ∷ []) ≡ n
+unfolding value
+value-digit n = omega arith
+
+value-decimalIn : (f n : ℕ) → n ≤ f → value (decimalIn f n) ≡ n
+value-decimalIn zero n p = rw (decimalIn-small zero n (omega arith)) (value-digit n)
+value-decimalIn (suc f) n p =
+    ⊎-elim
+    {C = value (decimalIn (suc f) n) ≡ n}
+    (λ (h : n < 10). rw (decimalIn-small (suc f) n h) (value-digit n))
+    (λ (h : 10 ≤ n).
+    let r : value (decimalIn f (n / 10)) ≡ n / 10 = value-decimalIn f (n / 10) (omega arith) in
+    rw (decimalIn-large f n h, value-snoc, r) (omega arith))
+    (lt-or-le n 10)
+
+-- so two numbers with one text are one number
+pub value-decimal : (n : ℕ) → value (decimal n) ≡ n
+unfolding decimal
+value-decimal n = value-decimalIn n n (omega arith)
+
+-- ---- at a place of a buffer
+
+-- the last digit may be written first, and then the text of the tenth
+pub putAt-decimal : (s : List ℕ) (at n i : ℕ) → 10 ≤ n → i ≡ length (decimal n) → at + i ≤ length s
+    → putAt (set s (at + (i - 1)) (digit (n % 10))) at (decimal (n / 10)) ≡ putAt s at (decimal n)
+putAt-decimal s at n i h e p =
+    let w : length (decimal (n / 10)) ≡ i - 1 = omega (arith, length-decimal-step n h) in
+    putAt-snoc s at (decimal (n / 10)) (digit (n % 10)) (i - 1) w (omega (arith, length-decimal-some (n / 10))) ∙ sym (ap (putAt s at) (decimal-step n h))
+
+pub putAt-digit : (s : List ℕ) (at n : ℕ) → n < 10 → at < length s → set s at (digit n) ≡ putAt s at (decimal n)
+putAt-digit s at n h p = putAt-one s at (digit n) p ∙ sym (ap (putAt s at) (decimal-digit n h))

@@ -1,0 +1,58 @@
+-- `rehearsal::page::put_last` meets its contract: one piece after another. Assumes nothing.
+use native.Mathlib.Omega.{arith}
+use mathlib.Core.Path.{_∙_}
+use borrow.Author.Needs.{needs}
+use denote.Ref.{now}
+use Rattle.rehearsal.proofs.WrittenLaws.{written-then}
+use Rattle.rehearsal.proofs.page.put_last.Statement.{statement}
+use Rattle.rehearsal.proofs.page.put_last.Tie as tie
+
+slice-aggregate-put-labelled : tie.Need-slice-aggregate-put-labelled
+slice-aggregate-put-labelled c = search needs
+
+put-labelled-requires : tie.Need-put-labelled-requires
+put-labelled-requires c κs = search needs
+
+slice-aggregate-put-labelled-2 : tie.Need-slice-aggregate-put-labelled-2
+slice-aggregate-put-labelled-2 c = search needs
+
+put-labelled-requires-2 : tie.Need-put-labelled-requires-2
+put-labelled-requires-2 c κs = search needs
+
+slice-aggregate-put-labelled-3 : tie.Need-slice-aggregate-put-labelled-3
+slice-aggregate-put-labelled-3 c = search needs
+
+put-labelled-requires-3 : tie.Need-put-labelled-requires-3
+put-labelled-requires-3 c κs = search needs
+
+slice-aggregate-put-bytes : tie.Need-slice-aggregate-put-bytes
+slice-aggregate-put-bytes c = search needs
+
+put-bytes-requires : tie.Need-put-bytes-requires
+put-bytes-requires c κs = search needs
+
+same-length : tie.Need-same-length
+same-length c = search needs
+
+returns : tie.Need-returns
+returns c =
+    let p = c .before .before .before .before .before .before .before .before .before .before .before .before .before .before .before .before .before .put-labelled .ensures in
+    let q = c .before .before .before .before .before .before .before .before .before .before .before .before .put-labelled2 .ensures in
+    let r = c .before .before .before .before .before .before .before .put-labelled3 .ensures in
+    let s = c .before .before .put-bytes .ensures in
+    (written-then (omega arith) (p .0) (written-then (omega arith) (q .0) (written-then (omega arith) (r .0) s)), omega (arith, s .end-is))
+
+pub put-last-spec : {M : Type 1} → statement M
+put-last-spec =
+    tie.close
+    (tie.spec
+    slice-aggregate-put-labelled
+    put-labelled-requires
+    slice-aggregate-put-labelled-2
+    put-labelled-requires-2
+    slice-aggregate-put-labelled-3
+    put-labelled-requires-3
+    slice-aggregate-put-bytes
+    put-bytes-requires
+    same-length
+    returns)

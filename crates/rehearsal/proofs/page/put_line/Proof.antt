@@ -1,0 +1,68 @@
+-- `rehearsal::page::put_line` meets its contract: the letter, four fields, the line feed. Assumes nothing.
+use Prim.Native.Nat.{_<_}
+use native.Mathlib.Omega.{arith}
+use mathlib.Core.Path.{_≡_, _∙_}
+use borrow.Author.Needs.{needs}
+use denote.Ref.{now}
+use lib.ListN.{length, length-set}
+use Rattle.rehearsal.proofs.TextLaws.{row-written}
+use Rattle.rehearsal.proofs.page.put_line.Statement.{statement}
+use Rattle.rehearsal.proofs.page.put_line.Tie as tie
+
+mul-letter-of : tie.Need-mul-letter-of
+mul-letter-of c = search needs
+
+shared-slice-read-letter-of : tie.Need-shared-slice-read-letter-of
+shared-slice-read-letter-of c = search needs
+
+letter-of-requires : tie.Need-letter-of-requires
+letter-of-requires c κs = search needs
+
+slice-write-out : tie.Need-slice-write-out
+slice-write-out c = search needs
+
+add-put-four : tie.Need-add-put-four
+add-put-four c = search needs
+
+add-put-four-2 : tie.Need-add-put-four-2
+add-put-four-2 c = search needs
+
+put-four-requires : tie.Need-put-four-requires
+put-four-requires c κs = simp length-set (omega arith)
+
+-- the buffer is as long as it was
+kept : (c : tie.After-slice-known2) → length (c .before .before .put-four .last .0) ≡ length (now (c .before .before .before .before .before .before .before .before .args .out))
+kept c = c .before .before .put-four .kept .0 ∙ simp length-set
+
+slice-write-out-2 : tie.Need-slice-write-out-2
+slice-write-out-2 c = omega (arith, kept c)
+
+add-result : tie.Need-add-result
+add-result c = search needs
+
+same-length : tie.Need-same-length
+same-length c = simp length-set (kept c)
+
+returns : tie.Need-returns
+returns c =
+    let a = c .before .before .before .before .before .before .before .before .args in
+    let l = c .before .before .before .before .letter-of in
+    let p = c .before .before .put-four in
+    let same = kept c in
+    (row-written (now (a .words)) (a .from) (l .result) (a .at) (p .result) (now (a .out)) (p .last .0) (l .ensures) (omega arith) (omega arith) same (p .ensures .0), omega arith)
+
+pub put-line-spec : {M : Type 1} → statement M
+put-line-spec =
+    tie.close
+    (tie.spec
+    mul-letter-of
+    shared-slice-read-letter-of
+    letter-of-requires
+    slice-write-out
+    add-put-four
+    add-put-four-2
+    put-four-requires
+    slice-write-out-2
+    add-result
+    same-length
+    returns)

@@ -1,0 +1,134 @@
+// What the program prints, put into a buffer piece by piece. Each piece is put where the one before it ended.
+use crate::answer::Rehearsed;
+use crate::digits::put_decimal;
+use crate::run::rehearse;
+ghost use mathlib.Core.Path.{_≡_};
+ghost use Prim.Native.Nat.{_+_, _*_, _≤_};
+ghost use lib.ListN.{length};
+ghost use Rattle.rounds.specs.Call.{writtenOver};
+ghost use Rattle.rehearsal.specs.Text.{field, labelled, letter, fourAt, rowAt, rows, lastLine, refusedLine, lentRecords, printed, fieldLimit, lineLimit, lastLimit};
+ghost use Rattle.rehearsal.specs.Written.{Written};
+
+// How long a number and the space before it, a line and the last line are at most.
+const FIELD: usize = 1 + 20;
+
+pub(crate) const LINE: usize = 1 + 4 * FIELD + 1;
+
+pub(crate) const LAST: usize = 4 + FIELD + (6 + FIELD) + (7 + FIELD) + 1;
+
+// A run of bytes.
+fn put_bytes(out: &mut [u8], at: usize, bytes: &[u8]) -> usize
+    requires { ⌜ at + length (now bytes) ≤ length (now out) ⌝ }
+    ensures { λ r. ⌜ Written (now (out .entry)) at (now (bytes .entry)) r (now (out .exit)) ⌝ }
+{
+    let mut i: usize = 0;
+    while i < bytes.len() {
+        out[at + i] = bytes[i];
+        i += 1;
+    }
+    at + i
+}
+
+// A number, and the space before it.
+fn put_field(out: &mut [u8], at: usize, n: u64) -> usize
+    requires { ⌜ at + fieldLimit ≤ length (now out) ⌝ }
+    ensures { λ r. ⌜ Written (now (out .entry)) at (field n) r (now (out .exit)) × (r ≤ at + fieldLimit) ⌝ }
+{
+    out[at] = b' ';
+    put_decimal(out, at + 1, n)
+}
+
+// A word, and a number after it.
+fn put_labelled(out: &mut [u8], at: usize, word: &[u8], n: u64) -> usize
+    requires { ⌜ at + length (now word) + fieldLimit ≤ length (now out) ⌝ }
+    ensures { λ r. ⌜ Written (now (out .entry)) at (labelled (now (word .entry)) n) r (now (out .exit)) × (r ≤ at + length (now (word .entry)) + fieldLimit) ⌝ }
+{
+    let end = put_bytes(out, at, word);
+    put_field(out, end, n)
+}
+
+// "L or R for the sender"
+fn letter_of(sender: u64) -> u8
+    ensures { λ r. ⌜ r ≡ letter sender ⌝ }
+{
+    if sender == 0 {
+        return b'L';
+    }
+    b'R'
+}
+
+// Four numbers, from a place of some words on.
+fn put_four(out: &mut [u8], at: usize, words: &[u64], from: usize) -> usize
+    requires { ⌜ (at + 4 * fieldLimit ≤ length (now out)) × (from + 4 ≤ length (now words)) ⌝ }
+    ensures { λ r. ⌜ Written (now (out .entry)) at (fourAt (now (words .entry)) from) r (now (out .exit)) × (r ≤ at + 4 * fieldLimit) ⌝ }
+{
+    let first = put_field(out, at, words[from]);
+    let second = put_field(out, first, words[from + 1]);
+    let third = put_field(out, second, words[from + 2]);
+    put_field(out, third, words[from + 3])
+}
+
+// One line: the record at a place of some words.
+fn put_line(out: &mut [u8], at: usize, words: &[u64], from: usize) -> usize
+    requires { ⌜ (at + lineLimit ≤ length (now out)) × (from + 5 ≤ length (now words)) ⌝ }
+    ensures { λ r. ⌜ Written (now (out .entry)) at (rowAt (now (words .entry)) from) r (now (out .exit)) × (r ≤ at + lineLimit) ⌝ }
+{
+    out[at] = letter_of(words[from]);
+    let end = put_four(out, at + 1, words, from + 1);
+    out[end] = b'\n';
+    end + 1
+}
+
+// One line a delivery: the first n records of some words.
+fn put_lines(out: &mut [u8], words: &[u64], n: usize) -> usize
+    requires { ⌜ (lineLimit * n ≤ length (now out)) × (n * 5 ≤ length (now words)) ⌝ }
+    ensures { λ r. ⌜ Written (now (out .entry)) 0 (rows n (now (words .entry))) r (now (out .exit)) × (r ≤ lineLimit * n) ⌝ }
+{
+    let mut at: usize = 0;
+    let mut i: usize = 0;
+    while i < n {
+        at = put_line(out, at, words, i * 5);
+        i += 1;
+    }
+    at
+}
+
+// The last line: both counts and the deliveries.
+fn put_last(out: &mut [u8], at: usize, told: Rehearsed) -> usize
+    requires { ⌜ at + lastLimit ≤ length (now out) ⌝ }
+    ensures { λ r. ⌜ Written (now (out .entry)) at (lastLine (told .left) (told .right) (told .deliveries)) r (now (out .exit)) × (r ≤ at + lastLimit) ⌝ }
+{
+    let left = put_labelled(out, at, b"left", told.left as u64);
+    let right = put_labelled(out, left, b" right", told.right as u64);
+    let claims = put_labelled(out, right, b" claims", told.deliveries as u64);
+    put_bytes(out, claims, b"\n")
+}
+
+// Only `refused`, a space and the number.
+fn put_refused(out: &mut [u8], number: u8) -> usize
+    requires { ⌜ lastLimit ≤ length (now out) ⌝ }
+    ensures { λ r. ⌜ Written (now (out .entry)) 0 (refusedLine number) r (now (out .exit)) × (r ≤ lastLimit) ⌝ }
+{
+    let end = put_labelled(out, 0, b"refused", number as u64);
+    put_bytes(out, end, b"\n")
+}
+
+// The words of the records that the program lends.
+fn lent_words() -> [u64; Rehearsed::WORDS]
+    ensures { λ r. ⌜ length r ≡ 5 * lentRecords ⌝ }
+{
+    [0; Rehearsed::WORDS]
+}
+
+// What the program prints for an input, put at the front of a buffer, and how long it is.
+pub fn rehearse_text(input: &[u8], out: &mut [u8; Rehearsed::TEXT]) -> usize
+    ensures { λ r. ⌜ (r ≡ length (printed (now (input .entry)))) × (now (out .exit) ≡ writtenOver (printed (now (input .entry))) (now (out .entry))) ⌝ }
+{
+    let mut words = lent_words();
+    let told = rehearse(input, &mut words);
+    if told.number != 0 {
+        return put_refused(out, told.number);
+    }
+    let end = put_lines(out, &words, told.deliveries);
+    put_last(out, end, told)
+}
