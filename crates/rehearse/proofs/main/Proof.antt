@@ -1,0 +1,66 @@
+-- `rehearse::main` meets its contract: what is written lies within the text. Assumes nothing.
+use native.Mathlib.Omega.{arith}
+use mathlib.Core.Path.{ap}
+use borrow.Author.Needs.{needs}
+use lib.ListN.{length, length-append}
+use Rattle.rehearse.proofs.main.Statement.{statement}
+use Rattle.rehearse.proofs.main.Tie as tie
+
+room-for-input-requires : tie.Need-room-for-input-requires
+room-for-input-requires c κs = search needs
+
+slice-aggregate-read-full : tie.Need-slice-aggregate-read-full
+slice-aggregate-read-full c = search needs
+
+read-full-requires : tie.Need-read-full-requires
+read-full-requires c κs = search needs
+
+room-for-text-requires : tie.Need-room-for-text-requires
+room-for-text-requires c κs = search needs
+
+sub-rehearse-text : tie.Need-sub-rehearse-text
+sub-rehearse-text c = search needs
+
+part-rehearse-text-start : tie.Need-part-rehearse-text-start
+part-rehearse-text-start c = search needs
+
+part-rehearse-text-end : tie.Need-part-rehearse-text-end
+part-rehearse-text-end c = search needs
+
+rehearse-text-requires : tie.Need-rehearse-text-requires
+rehearse-text-requires c κs = search needs
+
+sub-write-all : tie.Need-sub-write-all
+sub-write-all c = search needs
+
+part-write-all-start : tie.Need-part-write-all-start
+part-write-all-start c = search needs
+
+part-write-all-end : tie.Need-part-write-all-end
+part-write-all-end c =
+    let p = c .before .rehearse-text .ensures in
+    omega (arith, p .0, simp length-append at (ap length (p .1)))
+
+write-all-requires : tie.Need-write-all-requires
+write-all-requires c κs = search needs
+
+returns : tie.Need-returns
+returns c = search needs
+
+pub main-spec : {M : Type 1} → statement M
+main-spec =
+    tie.close
+    (tie.spec
+    room-for-input-requires
+    slice-aggregate-read-full
+    read-full-requires
+    room-for-text-requires
+    sub-rehearse-text
+    part-rehearse-text-start
+    part-rehearse-text-end
+    rehearse-text-requires
+    sub-write-all
+    part-write-all-start
+    part-write-all-end
+    write-all-requires
+    returns)
