@@ -1,0 +1,166 @@
+-- What the host calls return, one law for each way that the code goes. In order: what reading tells; the longest image has room for any; taking a frame.
+-- Assumes nothing.
+use Prim.Native.Nat.{ℕ, _+_, _*_, _≤_, _<_}
+use native.Mathlib.Omega.{arith}
+use mathlib.Core.Bool.{true, false}
+use mathlib.Core.List.{List, [], _∷_, _++_}
+use mathlib.Core.Path.{_≡_, refl, ap, sym, _∙_, subst}
+use borrow.Author.Tests.{le-leb, lt-leb}
+use lib.Dec.{lit<}
+use lib.IntN.{pos}
+use lib.ListN.{length, take, drop}
+use Rattle.claims.specs.declared.claim.Claim.{Claim}
+use Rattle.claims.specs.Store.{limit}
+use Rattle.claims.specs.Question.{Question, firstNo, settle}
+use Rattle.claims.proofs.QuestionLaws.{Numbered, firstNo-yes, firstNo-no, firstNo-append-zero, firstNo-append-no, settle-done, settle-refused}
+use Rattle.rounds.specs.declared.node.Node.{Node}
+use Rattle.rounds.specs.declared.answer.Taken.{Taken}
+use Rattle.rounds.specs.Node.{nodeInOrder, nodeKeys}
+use Rattle.rounds.specs.Question.{question15}
+use Rattle.rounds.specs.Table.{tableLimit}
+use Rattle.rounds.specs.Call.{writtenOver}
+use Rattle.rounds.proofs.NodeLaws.{nodeInOrder-ordered, ordered-nodeInOrder}
+use Rattle.wire.specs.declared.answer.Framed.{Framed}
+use Rattle.wire.specs.declared.answer.Imaged.{Imaged}
+use Rattle.wire.specs.Run.{claim}
+use Rattle.wire.specs.Frame.{frameLimit, headSize, frameCount, frameClaims, allPass, readFrameQuestions, readFrame}
+use Rattle.wire.specs.Image.{imageLimit, keySection, claimSection, sectionLength, nodeBytes, Shaped, readImageQuestions, readImage}
+use Rattle.wire.specs.Lent.{writeImageIn, imageInLent}
+use Rattle.wire.proofs.Frames.{head-yes, sized-yes, take-fourOf, readFrame-number, readFrame-yes, readFrame-0}
+use Rattle.wire.proofs.Images.{readImage-number, readImage-yes, readImage-0, ordered-counts, length-nodeBytes, writeImageIn-0}
+use Rattle.wire.proofs.Runs.{length-readRun}
+use Rattle.host.specs.Taking.{questions6, takenInTurn, takenUntil}
+use Rattle.host.specs.Call.{minus, nodeIn, takingQuestions, takeFrameQuestions, nodeAfter, frameTaken, frameTakenOut, TakenFrom}
+use Rattle.host.proofs.Turns.{questions6-numbered, takenUntil-number, takenUntil-node, ordered-takenInTurn}
+
+-- ---- what reading tells
+
+-- an image that is accepted holds a node in order
+pub readImage-ordered : (image : List ℕ) → readImage image .number ≡ 0 → nodeInOrder (nodeIn image) ≡ true
+readImage-ordered image h = let (told, o) = readImage-yes image h in subst (λ (r : Imaged). nodeInOrder (r .node) ≡ true) (readImage-0 told o) o
+
+-- a frame that is accepted: its claims are those below the count, at most 4, and pass 13
+pub record Accepted (frame : List ℕ) (f : Framed) : Type 0 where
+  pub few : f .count ≤ frameLimit
+  pub claims : take (f .count) (f .claims) ≡ frameClaims frame
+  pub pass : allPass (frameClaims frame) ≡ true
+
+pub readFrame-accepted : (frame : List ℕ) {f : Framed} → f ≡ readFrame frame → f .number ≡ 0 → Accepted frame f
+readFrame-accepted frame e h =
+    let (head, pass) = readFrame-yes frame (sym (readFrame-number frame) ∙ (sym (ap (λ (f : Framed). f .number) e) ∙ h)) in
+    let (m, v, s) = head-yes frame head in
+    subst (Accepted frame) (readFrame-0 frame head pass ∙ sym e)
+    (record {
+      few = sized-yes frame s .1;
+      claims = take-fourOf (frameClaims frame) (frameCount frame) (length-readRun claim (frameCount frame) (drop headSize frame));
+      pass = pass;
+    })
+
+-- ---- the longest image has room for any
+
+module _ (n : Node) (shaped : Shaped n) (ordered : nodeInOrder n ≡ true) where
+  pub length-image : length (nodeBytes n) ≤ imageLimit
+  length-image =
+      let (few, several) = ordered-counts n ordered in
+      rw (length-nodeBytes n shaped few several) (omega arith)
+
+  pub writeImageIn-room : (out : List ℕ) → imageLimit ≤ length out
+      → (record { number = 0; length = length (nodeBytes n) } ≡ writeImageIn n (length out)) × (writtenOver (nodeBytes n) out ≡ imageInLent n out)
+  writeImageIn-room out h =
+      let (few, several) = ordered-counts n ordered in
+      let l = length-image in
+      writeImageIn-0 n out few several (omega arith)
+
+-- ---- taking a frame: the questions before 15
+
+numbered-append : (a b : List Question) → Numbered a → Numbered b → Numbered (a ++ b)
+numbered-append [] b m n = n
+numbered-append (q ∷ qs) b m n = (m .0, numbered-append qs b (m .1) n)
+
+-- 6 for each claim of the frame
+abbrev six : List ℕ → List ℕ → List Question
+six image frame = questions6 (frameClaims frame) (nodeKeys (nodeIn image))
+
+module _ (image frame : List ℕ) where
+  image-numbered : Numbered (readImageQuestions image)
+  image-numbered = (lit< tt, (lit< tt, tt))
+
+  frame-numbered : Numbered (readFrameQuestions frame)
+  frame-numbered = (lit< tt, (lit< tt, (lit< tt, (lit< tt, tt))))
+
+  taking-numbered : Numbered (takingQuestions image frame)
+  taking-numbered =
+      numbered-append (readImageQuestions image) (readFrameQuestions frame ++ six image frame) image-numbered
+      (numbered-append (readFrameQuestions frame) (six image frame) frame-numbered
+      (questions6-numbered (frameClaims frame) (nodeKeys (nodeIn image))))
+
+  pub takenFrom-image : {r : Taken} → r .number ≡ readImage image .number → (r .number ≡ 0 → ⊥) → TakenFrom image frame r
+  takenFrom-image e f =
+      let q : readImage image .number ≡ firstNo (readImageQuestions image) = readImage-number image in
+      record {
+        number =
+            e ∙ (q ∙ sym (firstNo-append-no (readImageQuestions image) (readFrameQuestions frame ++ six image frame) (λ z. f (e ∙ (q ∙ z)))));
+        node = λ z. absurd (f z);
+        ordered = λ z. absurd (f z);
+      }
+
+  module _ (read : readImage image .number ≡ 0) where
+    past-image : firstNo (takingQuestions image frame) ≡ firstNo (readFrameQuestions frame ++ six image frame)
+    past-image = firstNo-append-zero (readImageQuestions image) (readFrameQuestions frame ++ six image frame) image-numbered (sym (readImage-number image) ∙ read)
+
+    pub takenFrom-frame : {r : Taken} → r .number ≡ readFrame frame .number → (r .number ≡ 0 → ⊥) → TakenFrom image frame r
+    takenFrom-frame e f =
+        let q : readFrame frame .number ≡ firstNo (readFrameQuestions frame) = readFrame-number frame in
+        record {
+          number =
+              e ∙ (q ∙ (sym (firstNo-append-no (readFrameQuestions frame) (six image frame) (λ z. f (e ∙ (q ∙ z)))) ∙ sym past-image));
+          node = λ z. absurd (f z);
+          ordered = λ z. absurd (f z);
+        }
+
+    pub takenFrom-turns : readFrame frame .number ≡ 0 → {r : Taken} → r ≡ takenUntil (nodeIn image) (frameClaims frame) → TakenFrom image frame r
+    takenFrom-turns framed e =
+        let o = nodeInOrder-ordered (nodeIn image) (readImage-ordered image read) in
+        let pass = readFrame-yes frame (sym (readFrame-number frame) ∙ framed) .1 in
+        let past : firstNo (takingQuestions image frame) ≡ firstNo (six image frame) =
+        past-image ∙ firstNo-append-zero (readFrameQuestions frame) (six image frame) frame-numbered (sym (readFrame-number frame) ∙ framed) in
+        let number = takenUntil-number (nodeIn image) (frameClaims frame) o pass in
+        let node = takenUntil-node (nodeIn image) (frameClaims frame) in
+        subst (TakenFrom image frame) (sym e)
+        (record {
+          number = number ∙ sym past;
+          node = node;
+          ordered = λ z. rw (node z) (ordered-nodeInOrder (nodeAfter image frame) (ordered-takenInTurn (nodeIn image) (frameClaims frame) o pass (sym number ∙ z)));
+        })
+
+-- ---- taking a frame: the call
+
+module _ (image frame out : List ℕ) {r : Taken} (from : TakenFrom image frame r) where
+  pub frameTaken-before : (r .number ≡ 0 → ⊥) → (minus (r .number) ≡ frameTaken image frame (length out)) × (out ≡ frameTakenOut image frame out)
+  unfolding frameTaken frameTakenOut
+  frameTaken-before f =
+      let q : firstNo (takeFrameQuestions image frame (length out)) ≡ r .number =
+      firstNo-append-no (takingQuestions image frame) (question15 (length out) imageLimit ∷ []) (λ z. f (from .number ∙ z)) ∙ sym (from .number) in
+      let g : firstNo (takeFrameQuestions image frame (length out)) ≡ 0 → ⊥ = λ z. f (sym q ∙ z) in (
+        sym (settle-refused (firstNo (takeFrameQuestions image frame (length out))) _ minus g ∙ ap minus q),
+        sym (settle-refused (firstNo (takeFrameQuestions image frame (length out))) _ (λ (k : ℕ). out) g),
+      )
+
+  module _ (taken : r .number ≡ 0) where
+    past-taking : firstNo (takeFrameQuestions image frame (length out)) ≡ firstNo (question15 (length out) imageLimit ∷ [])
+    past-taking = firstNo-append-zero (takingQuestions image frame) (question15 (length out) imageLimit ∷ []) (taking-numbered image frame) (sym (from .number) ∙ taken)
+
+    pub frameTaken-15 : length out < imageLimit → (minus 15 ≡ frameTaken image frame (length out)) × (out ≡ frameTakenOut image frame out)
+    unfolding frameTaken frameTakenOut
+    frameTaken-15 h =
+        let q : firstNo (takeFrameQuestions image frame (length out)) ≡ 15 =
+        past-taking ∙ firstNo-no (question15 (length out) imageLimit) [] (lt-leb imageLimit (length out) h) in
+        (rw q, rw q)
+
+    pub frameTaken-0 : imageLimit ≤ length out
+        → (pos (length (nodeBytes (r .node))) ≡ frameTaken image frame (length out)) × (writtenOver (nodeBytes (r .node)) out ≡ frameTakenOut image frame out)
+    unfolding frameTaken frameTakenOut
+    frameTaken-0 h =
+        let q : firstNo (takeFrameQuestions image frame (length out)) ≡ 0 =
+        past-taking ∙ firstNo-yes (question15 (length out) imageLimit) [] (le-leb imageLimit (length out) h) in
+        (rw (q, from .node taken), rw (q, from .node taken))

@@ -1,0 +1,135 @@
+-- The claims of a frame taken in turn, by a node in order: one turn of the code; then its number is that of the first question 6 answered no, and its
+-- node the one that took all; that one is in order. Assumes nothing.
+use Prim.Native.Nat.{ℕ, zero, suc, _+_, _≤_, _<_}
+use native.Mathlib.Omega.{arith}
+use native.Mathlib.Numerals.{add-one}
+use mathlib.Core.Bool.{Bool, true, false, cond, _&&_}
+use mathlib.Core.List.{List, [], _∷_, _++_}
+use mathlib.Core.Path.{_≡_, refl, ap, sym, _∙_, subst}
+use borrow.Author.Tests.{eqb-true, eqb-false, eq-eqb, ne-eqb}
+use lib.Dec.{eqb}
+use lib.ListN.{length, drop, getD, drop-of-length-le}
+use lib.Seq.{drop-cons}
+use Rattle.claims.specs.declared.claim.Claim.{Claim}
+use Rattle.claims.specs.Claim.{noClaim}
+use Rattle.claims.specs.Call.{judged}
+use Rattle.claims.specs.Question.{firstNo, question6, claimQuestions}
+use Rattle.claims.specs.Reply.{ends, hear}
+use Rattle.claims.proofs.Tests.{and-left, and-right}
+use Rattle.claims.proofs.QuestionLaws.{Numbered, firstNo-yes, firstNo-no, firstNo-append-zero, claimQuestions-numbered, judged-firstNo}
+use Rattle.rounds.specs.declared.node.Node.{Node}
+use Rattle.rounds.specs.declared.answer.Taken.{Taken}
+use Rattle.rounds.specs.Node.{nodeInOrder, nodeKeys, pendingOf}
+use Rattle.rounds.specs.Table.{tableWith}
+use Rattle.rounds.specs.Question.{nodeQuestion1}
+use Rattle.rounds.specs.Call.{takeQuestions, taken}
+use Rattle.rounds.specs.Lent.{takenNext}
+use Rattle.rounds.proofs.NodeLaws.{Ordered, nodeInOrder-ordered, ordered-nodeInOrder, nodeKeys-nodeOf}
+use Rattle.rounds.proofs.CallLaws.{takeQuestions-yes, taken-done, taken-refused, ordered-taken}
+use Rattle.rounds.proofs.TakeLaws.{takenNext-taken, ordered-takenNext}
+use Rattle.wire.specs.Frame.{allPass}
+use Rattle.wire.specs.Image.{Shaped}
+use Rattle.host.specs.Taking.{questions6, takenInTurn, takenUntil}
+
+pub allPass-getD : (cs : List Claim) (i : ℕ) → allPass cs ≡ true → i < length cs → judged (getD cs i noClaim) ≡ 0
+allPass-getD [] i p h = absurd (omega arith)
+allPass-getD (c ∷ cs) zero p h = eqb-true (judged c) 0 (and-left (eqb (judged c) 0) (allPass cs) p)
+allPass-getD (c ∷ cs) (suc i) p h = allPass-getD cs i (and-right (eqb (judged c) 0) (allPass cs) p) (omega arith)
+
+-- ---- one turn: r is what taking the claim at place i gave
+
+module _ (n : Node) (cs : List Claim) (i : ℕ) {r : Taken} (below : i < length cs) (shaped : Shaped n) (ordered : nodeInOrder n ≡ true) (pass : allPass cs ≡ true)
+    (next : r ≡ takenNext n (getD cs i noClaim)) where
+  turn-taken : r ≡ taken n (getD cs i noClaim)
+  turn-taken = next ∙ takenNext-taken n (shaped .pending) (nodeInOrder-ordered n ordered) (getD cs i noClaim) (shaped .keys) (allPass-getD cs i pass below)
+
+  pub turn-refused : (r .number ≡ 0 → ⊥) → takenUntil n (drop i cs) ≡ r
+  turn-refused f = rw (drop-cons cs i noClaim below, ← turn-taken, ne-eqb (r .number) 0 f)
+
+  pub turn-done : r .number ≡ 0 → takenUntil n (drop i cs) ≡ takenUntil (r .node) (drop (i + 1) cs)
+  turn-done e = rw (add-one, drop-cons cs i noClaim below, ← turn-taken, eq-eqb (r .number) 0 e)
+
+  pub turn-ordered : nodeInOrder (r .node) ≡ true
+  turn-ordered =
+      subst (λ (t : Taken). nodeInOrder (t .node) ≡ true) (sym next)
+      (ordered-nodeInOrder (takenNext n (getD cs i noClaim) .node)
+      (ordered-takenNext n (shaped .pending) (nodeInOrder-ordered n ordered) (getD cs i noClaim) (shaped .keys) (allPass-getD cs i pass below)))
+
+-- none is left
+pub takenUntil-end : (r : Taken) (cs : List Claim) (i : ℕ) → length cs ≤ i → r .number ≡ 0 → takenUntil (r .node) (drop i cs) ≡ r
+takenUntil-end r cs i h e = rw (drop-of-length-le cs h) (λ j. record { number = sym e j; node = r .node })
+
+-- ---- all of them
+
+-- what is left to ask of a claim that passes 2 to 5 is 6
+module _ (n : Node) (c : Claim) (o : Ordered n) (pass : judged c ≡ 0) where
+  only-6 : firstNo (takeQuestions n c) ≡ firstNo (question6 (ends c) (nodeKeys n) ∷ [])
+  only-6 =
+      firstNo-yes (nodeQuestion1 n) (claimQuestions c ++ (question6 (ends c) (nodeKeys n) ∷ [])) (ordered-nodeInOrder n o)
+      ∙ firstNo-append-zero (claimQuestions c) (question6 (ends c) (nodeKeys n) ∷ []) (claimQuestions-numbered c) (sym (judged-firstNo c) ∙ pass)
+
+  module _ (yes : question6 (ends c) (nodeKeys n) .yes ≡ true) where
+    asked : firstNo (takeQuestions n c) ≡ 0
+    asked = only-6 ∙ firstNo-yes (question6 (ends c) (nodeKeys n)) [] yes
+
+    pub taken-number : taken n c .number ≡ 0
+    taken-number = ap (λ (t : Taken). t .number) (taken-done n c asked)
+
+    pub taken-keys : nodeKeys (taken n c .node) ≡ hear c (nodeKeys n)
+    taken-keys = ap (λ (t : Taken). nodeKeys (t .node)) (taken-done n c asked) ∙ nodeKeys-nodeOf (hear c (nodeKeys n)) (tableWith c (pendingOf n))
+
+    pub taken-ordered : Ordered (taken n c .node)
+    taken-ordered = subst (λ (t : Taken). Ordered (t .node)) (sym (taken-done n c asked)) (ordered-taken n c (takeQuestions-yes n c asked))
+
+  pub taken-6 : question6 (ends c) (nodeKeys n) .yes ≡ false → taken n c .number ≡ 6
+  taken-6 f =
+      let e : firstNo (takeQuestions n c) ≡ 6 = only-6 ∙ firstNo-no (question6 (ends c) (nodeKeys n)) [] f in
+      ap (λ (t : Taken). t .number) (taken-refused n c (λ (z : firstNo (takeQuestions n c) ≡ 0). omega arith)) ∙ e
+
+pub questions6-numbered : (cs : List Claim) (l : List ℕ) → Numbered (questions6 cs l)
+questions6-numbered [] l = tt
+questions6-numbered (c ∷ cs) l = (omega arith, questions6-numbered cs (hear c l))
+
+module _ (n : Node) (c : Claim) (cs : List Claim) (p : allPass (c ∷ cs) ≡ true) where
+  first-passes : judged c ≡ 0
+  first-passes = eqb-true (judged c) 0 (and-left (eqb (judged c) 0) (allPass cs) p)
+
+  rest-pass : allPass cs ≡ true
+  rest-pass = and-right (eqb (judged c) 0) (allPass cs) p
+
+pub takenUntil-number : (n : Node) (cs : List Claim) → Ordered n → allPass cs ≡ true → takenUntil n cs .number ≡ firstNo (questions6 cs (nodeKeys n))
+takenUntil-number n [] o p = refl
+takenUntil-number n (c ∷ cs) o p = go (question6 (ends c) (nodeKeys n) .yes) refl (λ m. takenUntil-number (taken n c .node) cs m (rest-pass n c cs p))
+  where
+    good : judged c ≡ 0
+    good = first-passes n c cs p
+
+    go : (t : Bool) → question6 (ends c) (nodeKeys n) .yes ≡ t
+        → (Ordered (taken n c .node) → takenUntil (taken n c .node) cs .number ≡ firstNo (questions6 cs (nodeKeys (taken n c .node))))
+        → takenUntil n (c ∷ cs) .number ≡ firstNo (questions6 (c ∷ cs) (nodeKeys n))
+    go true e rest =
+        rw (e, eq-eqb (taken n c .number) 0 (taken-number n c o good e), ← taken-keys n c o good e) (rest (taken-ordered n c o good e))
+    go false e rest = let z = taken-6 n c o good e in rw (e, ne-eqb (taken n c .number) 0 (λ (y : taken n c .number ≡ 0). omega arith)) z
+
+pub takenUntil-node : (n : Node) (cs : List Claim) → takenUntil n cs .number ≡ 0 → takenUntil n cs .node ≡ takenInTurn n cs
+takenUntil-node n [] h = refl
+takenUntil-node n (c ∷ cs) h = go (eqb (taken n c .number) 0) refl h (takenUntil-node (taken n c .node) cs)
+  where
+    go : (t : Bool) → eqb (taken n c .number) 0 ≡ t → cond t (takenUntil (taken n c .node) cs) (taken n c) .number ≡ 0
+        → (takenUntil (taken n c .node) cs .number ≡ 0 → takenUntil (taken n c .node) cs .node ≡ takenInTurn (taken n c .node) cs)
+        → cond t (takenUntil (taken n c .node) cs) (taken n c) .node ≡ takenInTurn n (c ∷ cs)
+    go true e z rest = rest z
+    go false e z rest = absurd (eqb-false (taken n c .number) 0 e z)
+
+pub ordered-takenInTurn : (n : Node) (cs : List Claim) → Ordered n → allPass cs ≡ true → firstNo (questions6 cs (nodeKeys n)) ≡ 0 → Ordered (takenInTurn n cs)
+ordered-takenInTurn n [] o p h = o
+ordered-takenInTurn n (c ∷ cs) o p h = go (question6 (ends c) (nodeKeys n) .yes) refl h (λ m. ordered-takenInTurn (taken n c .node) cs m (rest-pass n c cs p))
+  where
+    good : judged c ≡ 0
+    good = first-passes n c cs p
+
+    go : (t : Bool) → question6 (ends c) (nodeKeys n) .yes ≡ t → cond t (firstNo (questions6 cs (hear c (nodeKeys n)))) 6 ≡ 0
+        → (Ordered (taken n c .node) → firstNo (questions6 cs (nodeKeys (taken n c .node))) ≡ 0 → Ordered (takenInTurn (taken n c .node) cs))
+        → Ordered (takenInTurn n (c ∷ cs))
+    go true e z rest = rest (taken-ordered n c o good e) (rw (taken-keys n c o good e) z)
+    go false e z rest = absurd (omega arith)

@@ -1,0 +1,22 @@
+-- `reply::refusal` meets its contract: a byte taken from zero. Assumes nothing.
+use native.Mathlib.Omega.{arith}
+use Prim.Native.Nat.{_<_}
+use borrow.Author.Needs.{needs}
+use Rattle.host.proofs.Signs.{minus-fits, minus-value}
+use Rattle.host.proofs.reply.refusal.Statement.{statement}
+use Rattle.host.proofs.reply.refusal.Tie as tie
+
+few : (c : tie.Start) → c .args .number < 256
+few c = search needs
+
+cast-result : tie.Need-cast-result
+cast-result c = search needs
+
+sub-result : tie.Need-sub-result
+sub-result c = minus-fits (c .args .number) (few c)
+
+returns : tie.Need-returns
+returns c = minus-value (c .args .number) (few c)
+
+pub refusal-spec : {M : Type 1} → statement M
+refusal-spec = tie.close (tie.spec cast-result sub-result returns)

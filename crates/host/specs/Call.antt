@@ -1,0 +1,59 @@
+-- What each host call returns, for any bytes, and what its lent buffers hold afterwards (document 01, "Host calls" and "Questions"): the first question
+-- answered no decides, "save that images come first: 14, 1, then 10 to 13, 6, 15". A frame is taken whole or refused whole. Assumes nothing.
+use Prim.Native.Nat.{ℕ}
+use mathlib.Core.Bool.{true}
+use mathlib.Core.List.{List, [], _∷_, _++_}
+use mathlib.Core.Path.{_≡_}
+use lib.IntN.{ℤ, pos, negℤ}
+use lib.ListN.{length}
+use Rattle.claims.specs.Question.{Question, firstNo, settle}
+use Rattle.rounds.specs.declared.node.Node.{Node}
+use Rattle.rounds.specs.declared.answer.Taken.{Taken}
+use Rattle.rounds.specs.Node.{nodeKeys, nodeInOrder}
+use Rattle.rounds.specs.Question.{question15}
+use Rattle.rounds.specs.Call.{writtenOver}
+use Rattle.wire.specs.Frame.{frameClaims, readFrameQuestions}
+use Rattle.wire.specs.Image.{imageLimit, nodeBytes, readImageQuestions, readImage}
+use Rattle.host.specs.Taking.{questions6, takenInTurn}
+
+-- "Both return minus the number on a refusal."
+abbrev pub minus : ℕ → ℤ
+minus number = negℤ (pos number)
+
+-- the node that an image is of
+abbrev pub nodeIn : List ℕ → Node
+nodeIn image = readImage image .node
+
+-- ---- a frame: "One takes an image and a frame, takes each claim in turn, writes the new image and returns its length."
+
+-- the questions before 15: of the image, of the frame, and 6 claim by claim
+abbrev pub takingQuestions : List ℕ → List ℕ → List Question
+takingQuestions image frame =
+    readImageQuestions image ++ (readFrameQuestions frame ++ questions6 (frameClaims frame) (nodeKeys (nodeIn image)))
+
+-- "the frame host call needs 9,860"
+abbrev pub takeFrameQuestions : List ℕ → List ℕ → ℕ → List Question
+takeFrameQuestions image frame room = takingQuestions image frame ++ (question15 room imageLimit ∷ [])
+
+-- the node once the frame is taken
+abbrev pub nodeAfter : List ℕ → List ℕ → Node
+nodeAfter image frame = takenInTurn (nodeIn image) (frameClaims frame)
+
+unfoldable pub frameTaken : List ℕ → List ℕ → ℕ → ℤ
+frameTaken image frame room =
+    settle (firstNo (takeFrameQuestions image frame room))
+    (pos (length (nodeBytes (nodeAfter image frame))))
+    minus
+
+unfoldable pub frameTakenOut : List ℕ → List ℕ → List ℕ → List ℕ
+frameTakenOut image frame out =
+    settle (firstNo (takeFrameQuestions image frame (length out)))
+    (writtenOver (nodeBytes (nodeAfter image frame)) out)
+    (λ k. out)
+
+-- What the code knows of the node that it takes a frame into: `r` has the number of the first question before 15 that was answered no, and where there is
+-- none, the node, which is in order.
+pub record TakenFrom (image frame : List ℕ) (r : Taken) : Type 0 where
+  pub number : r .number ≡ firstNo (takingQuestions image frame)
+  pub node : r .number ≡ 0 → r .node ≡ nodeAfter image frame
+  pub ordered : r .number ≡ 0 → nodeInOrder (r .node) ≡ true

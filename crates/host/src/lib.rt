@@ -1,0 +1,55 @@
+// What the kiosk daemon links: two calls on images and frames (document 01, "Host calls").
+mod reply;
+mod turn;
+
+use crate::reply::refusal;
+use crate::reply::size;
+use crate::turn::take_in_turn;
+use rounds::Taken;
+use wire::Imaged;
+use wire::read_frame;
+use wire::read_image;
+use wire::write_image_in;
+ghost use mathlib.Core.Path.{_≡_};
+ghost use lib.ListN.{length};
+ghost use Rattle.host.specs.Call.{frameTaken, frameTakenOut, TakenFrom};
+
+// The node of an image with the claims of a frame taken, in turn. Asks 14, 1, 10 to 13, and 6 claim by claim.
+fn taken_from(image: &[u8], frame: &[u8]) -> Taken
+    ensures { λ r. ⌜ TakenFrom (now (image .entry)) (now (frame .entry)) r ⌝ }
+{
+    let read = read_image(image);
+    let node = read.node;
+    if read.number != 0 {
+        return Taken {
+            number: read.number,
+            node,
+        };
+    }
+    let framed = read_frame(frame);
+    if framed.number != 0 {
+        return Taken {
+            number: framed.number,
+            node,
+        };
+    }
+    let claims = framed.claims;
+    take_in_turn(node, claims, framed.count)
+}
+
+// Takes an image and a frame, takes each claim in turn, writes the new image to the front of `out` and returns its length; or minus the number of the
+// first question answered no, and then nothing is written. Asks 14, 1, 10 to 13, 6 claim by claim, and 15.
+#[no_mangle]
+pub extern "C" fn minutefrost_take_frame(image: &[u8], frame: &[u8], out: &mut [u8]) -> i64
+    ensures { λ r. ⌜ (r ≡ frameTaken (now (image .entry)) (now (frame .entry)) (length (now (out .entry)))) × (now (out .exit) ≡ frameTakenOut (now (image .entry)) (now (frame .entry)) (now (out .entry))) ⌝ }
+{
+    let taken = taken_from(image, frame);
+    if taken.number != 0 {
+        return refusal(taken.number);
+    }
+    if out.len() < Imaged::LENGTH {
+        return refusal(15);
+    }
+    let written = write_image_in(taken.node, out);
+    size(written.length)
+}

@@ -1,0 +1,21 @@
+// What a host call returns: a length, or minus the number of a question.
+ghost use mathlib.Core.Path.{_≡_};
+ghost use Prim.Native.Nat.{_≤_};
+ghost use lib.IntN.{pos};
+ghost use Rattle.wire.specs.Image.{imageLimit};
+ghost use Rattle.host.specs.Call.{minus};
+
+// Minus the number of a question answered no.
+pub(crate) fn refusal(number: u8) -> i64
+    ensures { λ r. ⌜ r ≡ minus number ⌝ }
+{
+    -(number as i64)
+}
+
+// A length; none is greater than an image's.
+pub(crate) fn size(length: usize) -> i64
+    requires { ⌜ length ≤ imageLimit ⌝ }
+    ensures { λ r. ⌜ r ≡ pos length ⌝ }
+{
+    length as i64
+}
