@@ -1,0 +1,372 @@
+//! The places of a request's words (crates/drill/src/main.rt tells them), and
+//! for each call a request beside the reply that the second program expects:
+//! the answer in its places, and every other word and byte as it was given.
+
+use second::*;
+
+use crate::drill::{Call, Card};
+
+const NUMBER: usize = 0;
+const COUNT: usize = 1;
+const FIRST: usize = 2;
+const SECOND: usize = 3;
+const CLAIMS: usize = 4;
+const LEFT: usize = 20;
+const RIGHT: usize = LEFT + 1_025;
+const TABLE: usize = RIGHT + 1;
+pub const PAST_NODE: usize = TABLE + 4 * 64;
+pub const PAST_BOTH: usize = RIGHT + 1_025;
+
+/// A request, the reply expected, and what it shows.
+pub struct Case {
+    pub call: Call,
+    pub given: Card,
+    pub expected: Card,
+    /// The first question answered no, 0 if there is none.
+    pub number: u8,
+    /// Ways of the rule that this case goes, to be counted.
+    pub ways: Vec<&'static str>,
+}
+
+impl Case {
+    /// Remembers that the case goes some way.
+    pub fn on(mut self, way: &'static str, goes: bool) -> Case {
+        if goes {
+            self.ways.push(way);
+        }
+        self
+    }
+}
+
+fn words_of(claim: &Claim) -> [u64; 4] {
+    [claim.lo, claim.hi, claim.sum, u64::from(claim.cnt)]
+}
+
+fn claim_of(words: &[u64]) -> Claim {
+    Claim::new(words[0], words[1], words[2], words[3] as u16)
+}
+
+impl Card {
+    /// So many words and bytes that mean nothing: all that a call doesn't
+    /// write must come back so.
+    pub fn noise(words: usize, bytes: usize, mut noise: impl FnMut() -> u64) -> Card {
+        Card {
+            words: (0..words).map(|_| noise()).collect(),
+            bytes: (0..bytes).map(|_| noise() as u8).collect(),
+        }
+    }
+
+    pub fn put_claim(&mut self, at: usize, claim: &Claim) {
+        self.words[at..at + 4].copy_from_slice(&words_of(claim));
+    }
+
+    fn put_store(&mut self, at: usize, store: &RawStore) {
+        self.words[at] = store.count as u64;
+        self.words[at + 1..at + 1_025].copy_from_slice(&store.keys[..]);
+    }
+
+    fn store(&self, at: usize) -> RawStore {
+        let keys = self.words[at + 1..at + 1_025].to_vec();
+        RawStore {
+            keys: keys.try_into().expect("1,024 places"),
+            count: self.words[at] as usize,
+        }
+    }
+
+    fn put_node(&mut self, node: &RawNode) {
+        self.put_store(LEFT, &node.store);
+        self.words[RIGHT] = node.pending_count as u64;
+        for (at, claim) in node.pending.iter().enumerate() {
+            self.put_claim(TABLE + 4 * at, claim);
+        }
+    }
+
+    /// The node of a reply.
+    pub fn node(&self) -> RawNode {
+        let places = self.words[TABLE..PAST_NODE].chunks_exact(4);
+        let pending: Vec<Claim> = places.map(claim_of).collect();
+        RawNode {
+            store: self.store(LEFT),
+            pending: pending.try_into().expect("64 places"),
+            pending_count: self.words[RIGHT] as usize,
+        }
+    }
+
+    /// The store, or a round's left one, of a reply.
+    pub fn left(&self) -> RawStore {
+        self.store(LEFT)
+    }
+
+    /// A round's right store of a reply.
+    pub fn right(&self) -> RawStore {
+        self.store(RIGHT)
+    }
+
+    pub fn number(&self) -> u8 {
+        self.words[NUMBER] as u8
+    }
+
+    pub fn count(&self) -> usize {
+        self.words[COUNT] as usize
+    }
+
+    /// The claim at one of the four places.
+    pub fn claim(&self, at: usize) -> Claim {
+        claim_of(&self.words[CLAIMS + 4 * at..])
+    }
+
+    /// The claims that a beat wrote.
+    pub fn beat_claims(&self) -> Vec<Claim> {
+        let places = self.words[PAST_NODE..].chunks_exact(4);
+        places.take(self.count()).map(claim_of).collect()
+    }
+
+    /// The deliveries that a round wrote.
+    pub fn deliveries(&self) -> Vec<Delivery> {
+        let records = self.words[PAST_BOTH..].chunks_exact(5);
+        let delivery = |record: &[u64]| Delivery {
+            sender: record[0] as u8,
+            claim: claim_of(&record[1..]),
+        };
+        records.take(self.count()).map(delivery).collect()
+    }
+
+    fn answer(&mut self, number: u8, count: usize) {
+        self.words[NUMBER] = u64::from(number);
+        self.words[COUNT] = count as u64;
+    }
+}
+
+/// A case whose arguments stand in the given card, and whose expected one is
+/// written by `answer`, which returns the number.
+fn case(call: Call, given: Card, answer: impl FnOnce(&mut Card) -> u8) -> Case {
+    let mut expected = given.clone();
+    let number = answer(&mut expected);
+    Case {
+        call,
+        given,
+        expected,
+        number,
+        ways: Vec::new(),
+    }
+}
+
+type Noise<'a> = &'a mut dyn FnMut() -> u64;
+
+pub fn enter_case(store: RawStore, key: u64, noise: Noise) -> Case {
+    let mut given = Card::noise(RIGHT, 0, noise);
+    given.words[FIRST] = key;
+    given.put_store(LEFT, &store);
+    case(Call::Enter, given, |card| {
+        let entered = enter(store, key);
+        card.answer(entered.number, 0);
+        card.put_store(LEFT, &entered.store);
+        entered.number
+    })
+}
+
+pub fn make_case(store: &RawStore, first: usize, last: usize, noise: Noise) -> Case {
+    let mut given = Card::noise(RIGHT, 0, noise);
+    given.words[FIRST] = first as u64;
+    given.words[SECOND] = last as u64;
+    given.put_store(LEFT, store);
+    case(Call::Make, given, |card| {
+        let made = make(store, first, last);
+        card.answer(made.number, 0);
+        card.put_claim(CLAIMS, &made.claim);
+        made.number
+    })
+}
+
+pub fn reply_case(store: RawStore, claim: Claim, noise: Noise) -> Case {
+    let mut given = Card::noise(RIGHT, 0, noise);
+    given.put_claim(CLAIMS, &claim);
+    given.put_store(LEFT, &store);
+    let mut kind = None;
+    case(Call::Reply, given, |card| {
+        let replied = reply(store, claim);
+        let (_, [one, two]) = replied.claims();
+        kind = replied.reply;
+        card.answer(
+            replied.number,
+            match replied.reply {
+                None | Some(Reply::Match) => 0,
+                Some(Reply::Ask(_)) => 1,
+                Some(Reply::One(_)) => 2,
+                Some(Reply::Two(..)) => 3,
+            },
+        );
+        card.put_claim(CLAIMS + 4, &one);
+        card.put_claim(CLAIMS + 8, &two);
+        card.put_store(LEFT, &replied.store);
+        replied.number
+    })
+    .on("match", kind == Some(Reply::Match))
+    .on("ask", matches!(kind, Some(Reply::Ask(_))))
+    .on("one", matches!(kind, Some(Reply::One(_))))
+    .on("two", matches!(kind, Some(Reply::Two(..))))
+}
+
+pub fn judge_case(claim: Claim, noise: Noise) -> Case {
+    let mut given = Card::noise(LEFT, 0, noise);
+    given.put_claim(CLAIMS, &claim);
+    case(Call::Judge, given, |card| {
+        let number = questions::of_claim(&claim).err().unwrap_or(0);
+        card.answer(number, 0);
+        number
+    })
+}
+
+pub fn take_case(node: RawNode, claim: Claim, noise: Noise) -> Case {
+    let mut given = Card::noise(PAST_NODE, 0, noise);
+    given.put_claim(CLAIMS, &claim);
+    given.put_node(&node);
+    let equal = node.table().contains(&claim);
+    let full = node.pending_count == PENDING;
+    let mut kept = false;
+    let case = case(Call::Take, given, |card| {
+        let taken = take(node, claim);
+        kept = taken.node.table().contains(&claim);
+        card.answer(taken.number, 0);
+        card.put_node(&taken.node);
+        taken.number
+    });
+    let taken = case.number == 0;
+    case.on("an equal one is pending", taken && equal)
+        .on("65, another dropped", taken && full && !equal && kept)
+        .on("65, itself dropped", taken && full && !kept)
+}
+
+/// `lent` words are lent, and some that are not come after them.
+pub fn beat_case(node: RawNode, lent: usize, noise: Noise) -> Case {
+    let mut given = Card::noise(PAST_NODE + lent + 9, 0, noise);
+    given.words[SECOND] = lent as u64;
+    given.put_node(&node);
+    let pending = node.pending_count;
+    let mut rest = (0, 0);
+    let case = case(Call::Beat, given, |card| {
+        let end = PAST_NODE + lent;
+        let beaten = beat(node, &mut card.words[PAST_NODE..end]);
+        rest = (beaten.written, beaten.node.pending_count);
+        card.answer(beaten.number, beaten.written);
+        card.put_node(&beaten.node);
+        beaten.number
+    });
+    let (written, left) = rest;
+    let beaten = case.number == 0;
+    case.on("nothing written", beaten && written == 0)
+        .on("more than half of 129 written", beaten && written > 64)
+        .on("some asked, some not", beaten && 0 < left && left < pending)
+        .on("a full table", beaten && pending == PENDING)
+}
+
+/// As a round on deliveries writes them to flat words, five to a record.
+pub fn round_case(left: RawStore, right: RawStore, lent: usize, noise: Noise) -> Case {
+    let mut given = Card::noise(PAST_BOTH + lent + 11, 0, noise);
+    given.words[SECOND] = lent as u64;
+    given.put_store(LEFT, &left);
+    given.put_store(RIGHT, &right);
+    let mut told = (0, 0, false);
+    let case = case(Call::Round, given, |card| {
+        let mut records = vec![Delivery::default(); lent / 5];
+        let (met, false_matches) = round_watched(left, right, &mut records);
+        let words = card.words[PAST_BOTH..PAST_BOTH + lent].chunks_exact_mut(5);
+        for (record, delivery) in words.zip(&records[..met.deliveries]) {
+            record[0] = u64::from(delivery.sender);
+            record[1..].copy_from_slice(&words_of(&delivery.claim));
+        }
+        told = (met.deliveries, false_matches.len(), met.left == met.right);
+        card.answer(met.number, met.deliveries);
+        card.put_store(LEFT, &met.left);
+        card.put_store(RIGHT, &met.right);
+        met.number
+    });
+    let (deliveries, false_matches, met) = told;
+    let run = case.number == 0;
+    case.on("no delivery", run && deliveries == 0)
+        .on("over 100 deliveries", run && deliveries > 100)
+        .on("a false match", run && false_matches > 0)
+        .on("met", run && met)
+        .on("not met yet", run && !met)
+}
+
+/// The first `lent` of some bytes as a frame.
+pub fn read_frame_case(bytes: Vec<u8>, lent: usize, noise: Noise) -> Case {
+    let mut given = Card::noise(LEFT, 0, noise);
+    given.words[SECOND] = lent as u64;
+    given.bytes = bytes;
+    case(Call::ReadFrame, given, |card| {
+        let read = read_frame(&card.bytes[..lent]);
+        card.answer(read.number, read.count);
+        for (at, claim) in read.claims.iter().enumerate() {
+            card.put_claim(CLAIMS + 4 * at, claim);
+        }
+        read.number
+    })
+}
+
+/// The first n of four claims to the first `lent` of a buffer.
+pub fn write_frame_case(four: [Claim; 4], n: u64, lent: usize, noise: Noise) -> Case {
+    let mut given = Card::noise(LEFT, lent + 13, noise);
+    given.words[FIRST] = n;
+    given.words[SECOND] = lent as u64;
+    for (at, claim) in four.iter().enumerate() {
+        given.put_claim(CLAIMS + 4 * at, claim);
+    }
+    // Of more than four claims no other is asked but question 12.
+    let mut claims = four.to_vec();
+    claims.resize(n.min(5) as usize, Claim::ZERO);
+    case(Call::WriteFrame, given, |card| {
+        let written = write_frame(&claims, &mut card.bytes[..lent]);
+        card.answer(written.number, written.length);
+        written.number
+    })
+}
+
+/// The first `lent` of some bytes as an image.
+pub fn read_image_case(bytes: Vec<u8>, lent: usize, noise: Noise) -> Case {
+    let mut given = Card::noise(PAST_NODE, 0, noise);
+    given.words[SECOND] = lent as u64;
+    given.bytes = bytes;
+    case(Call::ReadImage, given, |card| {
+        let read = read_image(&card.bytes[..lent]);
+        card.answer(read.number, 0);
+        card.put_node(&read.node);
+        read.number
+    })
+}
+
+pub fn write_image_case(node: &RawNode, lent: usize, noise: Noise) -> Case {
+    let mut given = Card::noise(PAST_NODE, lent + 17, noise);
+    given.words[SECOND] = lent as u64;
+    given.put_node(node);
+    case(Call::WriteImage, given, |card| {
+        let written = write_image(node, &mut card.bytes[..lent]);
+        card.answer(written.number, written.length);
+        written.number
+    })
+}
+
+pub fn image_length_case(bytes: Vec<u8>, lent: usize, noise: Noise) -> Case {
+    let mut given = Card::noise(LEFT, 0, noise);
+    given.words[SECOND] = lent as u64;
+    given.bytes = bytes;
+    case(Call::ImageLength, given, |card| {
+        let told = image_length(&card.bytes[..lent]);
+        card.answer(told.number, told.length);
+        told.number
+    })
+}
+
+pub fn ordered_case(node: &RawNode, noise: Noise) -> Case {
+    let mut given = Card::noise(PAST_NODE, 0, noise);
+    given.put_node(node);
+    let mut yes = false;
+    case(Call::Ordered, given, |card| {
+        yes = questions::q1_node_in_order(node);
+        card.answer(0, usize::from(yes));
+        0
+    })
+    .on("in order", yes)
+    .on("out of order", !yes)
+}

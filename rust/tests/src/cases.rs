@@ -1,0 +1,114 @@
+//! Runs of many cases, each from a seed of its own, and what was seen in them.
+
+use std::collections::BTreeMap;
+use std::fmt::Write;
+
+use crate::card::Case;
+use crate::draw::Rng;
+use crate::drill::{Card, Drill};
+
+/// How often each number was answered and each way was gone.
+#[derive(Default)]
+pub struct Seen {
+    numbers: BTreeMap<u8, usize>,
+    ways: BTreeMap<&'static str, usize>,
+}
+
+impl Seen {
+    pub fn number(&mut self, number: u8) {
+        *self.numbers.entry(number).or_default() += 1;
+    }
+
+    pub fn way(&mut self, way: &'static str) {
+        *self.ways.entry(way).or_default() += 1;
+    }
+
+    /// Fails unless each of these numbers and ways was seen often enough, and
+    /// no other number at all.
+    pub fn expect(&self, numbers: &[u8], ways: &[&str], often: usize) {
+        println!("    numbers {:?}, ways {:?}", self.numbers, self.ways);
+        for number in numbers {
+            let seen = self.numbers.get(number).copied().unwrap_or(0);
+            assert!(seen >= often, "number {number} was seen only {seen} times");
+        }
+        for number in self.numbers.keys() {
+            assert!(numbers.contains(number), "number {number} isn't asked here");
+        }
+        for way in ways {
+            let seen = self.ways.get(way).copied().unwrap_or(0);
+            assert!(seen >= often, "'{way}' was seen only {seen} times");
+        }
+    }
+}
+
+/// The seeds of a run: `MINUTEFROST_SEED` in the environment runs one alone.
+pub fn seeds(cases: u64) -> std::ops::Range<u64> {
+    match std::env::var("MINUTEFROST_SEED") {
+        Ok(seed) => {
+            let seed = seed.parse().expect("MINUTEFROST_SEED is a number");
+            seed..seed + 1
+        }
+        Err(_) => 0..cases,
+    }
+}
+
+/// Whether one seed alone is run, where nothing can be expected to be seen.
+pub fn one_seed() -> bool {
+    std::env::var_os("MINUTEFROST_SEED").is_some()
+}
+
+/// How many requests are on their way at a time.
+const BATCH: u64 = 64;
+
+/// Draws so many cases, each from its seed, and compares what the drill
+/// replies with what the second program expects, word by word and byte by
+/// byte. A failure names the seed.
+pub fn compare(cases: u64, draw: impl Fn(&mut Rng) -> Case) -> Seen {
+    let mut drill = Drill::start();
+    let mut seen = Seen::default();
+    let seeds = seeds(cases);
+    let mut next = seeds.start;
+    while next < seeds.end {
+        let batch = next..seeds.end.min(next + BATCH);
+        next = batch.end;
+        let drawn: Vec<(u64, Case)> = batch.map(|seed| (seed, draw(&mut Rng(seed)))).collect();
+        let cards: Vec<_> = drawn
+            .iter()
+            .map(|(_, case)| (case.call, &case.given))
+            .collect();
+        let replies = drill.ask_all(&cards);
+        for ((seed, case), reply) in drawn.iter().zip(replies) {
+            seen.number(case.number);
+            case.ways.iter().for_each(|way| seen.way(way));
+            if reply != case.expected {
+                let told = difference(&case.given, &reply, &case.expected);
+                panic!("MINUTEFROST_SEED={seed}: {:?} differs\n{told}", case.call);
+            }
+        }
+    }
+    seen
+}
+
+/// The first places where a reply is not what was expected.
+fn difference(given: &Card, reply: &Card, expected: &Card) -> String {
+    let mut told = String::new();
+    let words = reply.words.iter().zip(&expected.words).enumerate();
+    for (at, (found, wanted)) in words.filter(|(_, (a, b))| a != b).take(8) {
+        let before = given.words[at];
+        writeln!(
+            told,
+            "word {at}: drill {found}, second {wanted}, given {before}"
+        )
+        .unwrap();
+    }
+    let bytes = reply.bytes.iter().zip(&expected.bytes).enumerate();
+    for (at, (found, wanted)) in bytes.filter(|(_, (a, b))| a != b).take(8) {
+        let before = given.bytes[at];
+        writeln!(
+            told,
+            "byte {at}: drill {found}, second {wanted}, given {before}"
+        )
+        .unwrap();
+    }
+    told
+}

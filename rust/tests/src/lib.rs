@@ -1,0 +1,10 @@
+//! What the comparisons share: the proved program behind a pipe ([`drill`]),
+//! the words and bytes of its requests ([`card`]), cases drawn from a seed
+//! ([`draw`]), and runs of many cases with what was seen in them ([`cases`]).
+
+#![forbid(unsafe_code)]
+
+pub mod card;
+pub mod cases;
+pub mod draw;
+pub mod drill;

@@ -1,0 +1,477 @@
+//! Lists of events at random (document 01, "Lists of events"): several
+//! kiosks, and a radio that loses, repeats, delays and reorders. Each event
+//! runs through `drill` and through the second program, and leaves the same
+//! state. On each list the clauses of demand 3 are checked in plain sets:
+//! stores rise and nodes are in order; a key is in some store exactly when it
+//! was entered; a round has at most twice as many deliveries as the union has
+//! keys; and as many further rounds of two kiosks as there are keys that just
+//! one of them holds, none refused and no match false, leave both with the
+//! union.
+
+use std::collections::{BTreeMap, BTreeSet};
+
+use second::*;
+use tests::card::*;
+use tests::cases::{one_seed, seeds};
+use tests::draw::{Density, Rng};
+use tests::drill::{Card, Drill};
+
+/// The kiosks, what was entered, and what is in the air.
+struct World {
+    kiosks: Vec<RawNode>,
+    entered: BTreeSet<u64>,
+    /// Claims made and not lost, in no order: each may be heard often.
+    air: Vec<Claim>,
+    density: Density,
+}
+
+/// What happened in all lists of a run.
+#[derive(Default)]
+struct Told {
+    events: BTreeMap<(&'static str, u8), usize>,
+    /// Rounds that meeting took, by how many keys differed.
+    met: BTreeMap<(usize, usize), usize>,
+    with_false_match: usize,
+    refused: usize,
+}
+
+/// Makes the call of a case by the drill, and demands the expected reply.
+fn ask(drill: &mut Drill, case: &Case) -> Card {
+    let reply = drill.ask(case.call, &case.given);
+    assert!(reply == case.expected, "{:?} differs", case.call);
+    reply
+}
+
+impl World {
+    fn new(rng: &mut Rng) -> World {
+        World {
+            kiosks: vec![RawNode::empty(); 2 + rng.below(4)],
+            entered: BTreeSet::new(),
+            air: Vec::new(),
+            density: rng.density(),
+        }
+    }
+
+    /// Sends a claim that was made; the radio loses one in four.
+    fn send(&mut self, rng: &mut Rng, claim: Claim) {
+        if !rng.one_in(4) {
+            self.air.push(claim);
+        }
+        if self.air.len() > 300 {
+            let lost = rng.below(200);
+            self.air.swap_remove(lost);
+        }
+    }
+
+    /// A claim from the air, mostly a late one; half the time it stays there.
+    fn hear(&mut self, rng: &mut Rng) -> Option<Claim> {
+        let recent = if rng.one_in(2) { 16 } else { 300 };
+        let recent = recent.min(self.air.len());
+        if recent == 0 {
+            return None;
+        }
+        let at = self.air.len() - 1 - rng.below(recent);
+        Some(if rng.one_in(2) {
+            self.air[at]
+        } else {
+            self.air.remove(at)
+        })
+    }
+
+    fn enter(&mut self, rng: &mut Rng, drill: &mut Drill, told: &mut Told) {
+        let at = rng.below(self.kiosks.len());
+        let key = rng.key(self.density);
+        let store = self.kiosks[at].store.clone();
+        let case = enter_case(store, key, &mut || 0);
+        let reply = ask(drill, &case);
+        if reply.number() == 0 {
+            self.entered.insert(key);
+        } else {
+            assert!(self.entered.len() >= 1_024, "refused with space to spare");
+        }
+        self.kiosks[at].store = reply.left();
+        told.event("enter", reply.number());
+    }
+
+    fn make(&mut self, rng: &mut Rng, drill: &mut Drill, told: &mut Told) {
+        let at = rng.below(self.kiosks.len());
+        let store = &self.kiosks[at].store;
+        let (one, other) = (rng.below(store.count + 1), rng.below(store.count + 1));
+        let case = make_case(store, one.min(other), one.max(other), &mut || 0);
+        let reply = ask(drill, &case);
+        if reply.number() == 0 {
+            self.send(rng, reply.claim(0));
+        }
+        told.event("make", reply.number());
+    }
+
+    /// Delivers a claim of the air, or one that the call refuses.
+    fn deliver(&mut self, rng: &mut Rng, drill: &mut Drill, told: &mut Told) {
+        let at = rng.below(self.kiosks.len());
+        let Some(mut claim) = self.hear(rng) else {
+            return;
+        };
+        let mut made = true;
+        if rng.one_in(8) {
+            let bent = rng.refused(claim);
+            if questions::of_reply(&self.kiosks[at].store, &bent).is_err() {
+                (claim, made) = (bent, false);
+            }
+        }
+        if rng.one_in(2) {
+            let store = self.kiosks[at].store.clone();
+            let reply = ask(drill, &reply_case(store, claim, &mut || 0));
+            self.kiosks[at].store = reply.left();
+            // Match, ask, one and two.
+            for place in 1..=[0, 1, 1, 2][reply.count()] {
+                self.send(rng, reply.claim(place));
+            }
+            self.delivered("reply", made, reply.number(), told);
+        } else {
+            let node = self.kiosks[at].clone();
+            let reply = ask(drill, &take_case(node, claim, &mut || 0));
+            self.kiosks[at] = reply.node();
+            self.delivered("take", made, reply.number(), told);
+        }
+    }
+
+    /// A claim made is refused only for want of space, when there is none.
+    fn delivered(&self, call: &'static str, made: bool, number: u8, told: &mut Told) {
+        if made && number != 0 {
+            assert!(
+                number == 6 && self.entered.len() > 1_024,
+                "{call} refused {number}"
+            );
+        }
+        told.event(call, number);
+    }
+
+    fn beat(&mut self, rng: &mut Rng, drill: &mut Drill, told: &mut Told) {
+        let at = rng.below(self.kiosks.len());
+        let lent = if rng.one_in(12) { 515 } else { 516 };
+        let keys = self.kiosks[at].store.clone();
+        let reply = ask(drill, &beat_case(self.kiosks[at].clone(), lent, &mut || 0));
+        self.kiosks[at] = reply.node();
+        assert_eq!(self.kiosks[at].store, keys, "a beat adds no key");
+        for claim in reply.beat_claims() {
+            self.send(rng, claim);
+        }
+        told.event("beat", reply.number());
+    }
+
+    /// A round of two kiosks; its number, and whether a match was false.
+    fn round(
+        &mut self,
+        left: usize,
+        right: usize,
+        records: Option<usize>,
+        drill: &mut Drill,
+        told: &mut Told,
+    ) -> (Card, bool) {
+        let stores = [left, right].map(|at| self.kiosks[at].store.clone());
+        let union = keys_of(&stores[0]).union(&keys_of(&stores[1])).count();
+        // As many as it needs, where a request has room for them.
+        let records = records.unwrap_or((2 * union).min(2_048));
+        let [one, other] = stores;
+        let case = round_case(one, other, 5 * records, &mut || 0);
+        let reply = ask(drill, &case);
+        assert!(reply.count() <= 2 * union, "too many deliveries");
+        self.kiosks[left].store = reply.left();
+        self.kiosks[right].store = reply.right();
+        told.event("round", reply.number());
+        if reply.number() == 8 {
+            assert!(self.entered.len() > 1_024, "refused with space to spare");
+        }
+        let false_match = case.ways.contains(&"a false match");
+        (reply, false_match)
+    }
+
+    fn two(&self, rng: &mut Rng) -> (usize, usize) {
+        let left = rng.below(self.kiosks.len());
+        let right = rng.below(self.kiosks.len() - 1);
+        (left, right + usize::from(right >= left))
+    }
+
+    /// The first two clauses of demand 3.
+    fn check(&self) {
+        let mut held = BTreeSet::new();
+        for kiosk in &self.kiosks {
+            let keys = &kiosk.store.keys[..kiosk.store.count];
+            assert!(keys.windows(2).all(|two| two[0] < two[1]), "a store rises");
+            assert!(questions::q1_node_in_order(kiosk), "a node is in order");
+            held.extend(keys.iter().copied());
+        }
+        assert_eq!(held, self.entered, "held exactly when entered");
+    }
+
+    /// Further rounds of each two kiosks, the left one drawn each time.
+    fn meet(&self, rng: &mut Rng, drill: &mut Drill, told: &mut Told) {
+        for one in 0..self.kiosks.len() {
+            for other in one + 1..self.kiosks.len() {
+                // Each pair begins with the kiosks as the list left them.
+                let mut world = World {
+                    kiosks: self.kiosks.clone(),
+                    entered: self.entered.clone(),
+                    air: Vec::new(),
+                    density: self.density,
+                };
+                meet(&mut world, one, other, rng, drill, told);
+            }
+        }
+    }
+}
+
+/// The last clause of demand 3.
+fn meet(
+    world: &mut World,
+    one: usize,
+    other: usize,
+    rng: &mut Rng,
+    drill: &mut Drill,
+    told: &mut Told,
+) {
+    let held = [one, other].map(|at| keys_of(&world.kiosks[at].store));
+    let differ = held[0].symmetric_difference(&held[1]).count();
+    let union: BTreeSet<u64> = held[0].union(&held[1]).copied().collect();
+    let mut rounds = 0;
+    while world.kiosks[one].store != world.kiosks[other].store {
+        let (left, right) = if rng.one_in(2) {
+            (one, other)
+        } else {
+            (other, one)
+        };
+        let (reply, false_match) = world.round(left, right, None, drill, told);
+        rounds += 1;
+        if reply.number() != 0 {
+            told.refused += 1;
+            return;
+        }
+        if false_match {
+            told.with_false_match += 1;
+            return;
+        }
+        assert!(
+            rounds <= differ,
+            "{differ} keys differed, and {rounds} rounds were too few"
+        );
+    }
+    for at in [one, other] {
+        assert_eq!(
+            keys_of(&world.kiosks[at].store),
+            union,
+            "both hold the union"
+        );
+    }
+    // Meeting lasts: as many rounds as differed leave them so.
+    if rounds < differ {
+        let (reply, _) = world.round(other, one, None, drill, told);
+        assert_eq!(reply.number(), 0);
+        assert_eq!(keys_of(&world.kiosks[one].store), union, "both still do");
+        assert_eq!(world.kiosks[one].store, world.kiosks[other].store);
+    }
+    *told.met.entry((differ_class(differ), rounds)).or_default() += 1;
+}
+
+fn keys_of(store: &RawStore) -> BTreeSet<u64> {
+    store.held().iter().copied().collect()
+}
+
+/// The largest number of a class of differences.
+const CLASSES: [usize; 7] = [0, 1, 4, 24, 100, 400, 2_048];
+
+fn differ_class(differ: usize) -> usize {
+    CLASSES
+        .into_iter()
+        .find(|&most| differ <= most)
+        .expect("at most 2,048 keys")
+}
+
+impl Told {
+    fn event(&mut self, event: &'static str, number: u8) {
+        *self.events.entry((event, number)).or_default() += 1;
+    }
+
+    fn print(&self, title: &str) {
+        println!("{title}");
+        println!("    events by call and number: {:?}", self.events);
+        let pairs: usize = self.met.values().sum();
+        println!("    pairs that met, no match being false: {pairs}; rounds that it took:");
+        let most = self
+            .met
+            .keys()
+            .map(|(_, rounds)| *rounds)
+            .max()
+            .unwrap_or(0);
+        print!("    {:>22}", "keys that differed");
+        (0..=most).for_each(|rounds| print!("{rounds:>7}"));
+        println!();
+        let mut least = 0;
+        for class in CLASSES {
+            print!("    {:>22}", format!("{least} to {class}"));
+            for rounds in 0..=most {
+                print!("{:>7}", self.met.get(&(class, rounds)).unwrap_or(&0));
+            }
+            println!();
+            least = class + 1;
+        }
+        println!(
+            "    pairs with a false match: {}, refused: {}",
+            self.with_false_match, self.refused
+        );
+    }
+
+    fn expect(&self, events: &[(&'static str, u8)], often: usize) {
+        for event in events {
+            let seen = self.events.get(event).copied().unwrap_or(0);
+            assert!(seen >= often, "{event:?} was seen only {seen} times");
+        }
+    }
+}
+
+/// Runs something for each seed; a failure prints the one it happened with.
+fn for_seeds(cases: u64, mut each: impl FnMut(&mut Rng)) {
+    struct Seed(u64);
+    impl Drop for Seed {
+        fn drop(&mut self) {
+            if std::thread::panicking() {
+                eprintln!("failed with MINUTEFROST_SEED={}", self.0);
+            }
+        }
+    }
+    for seed in seeds(cases) {
+        let _seed = Seed(seed);
+        each(&mut Rng(seed));
+    }
+}
+
+/// One list; `enters` of a hundred events enter a key.
+fn list(rng: &mut Rng, events: usize, enters: usize, drill: &mut Drill, told: &mut Told) {
+    let mut world = World::new(rng);
+    for event in 0..events {
+        match rng.below(100) {
+            draw if draw < enters => world.enter(rng, drill, told),
+            _ => match rng.below(20) {
+                0..3 => world.make(rng, drill, told),
+                3..13 => world.deliver(rng, drill, told),
+                13..18 => world.beat(rng, drill, told),
+                _ => {
+                    let (left, right) = world.two(rng);
+                    let records = if rng.one_in(6) {
+                        Some(rng.below(40))
+                    } else {
+                        None
+                    };
+                    let (reply, _) = world.round(left, right, records, drill, told);
+                    for delivery in reply.deliveries() {
+                        world.send(rng, delivery.claim);
+                    }
+                }
+            },
+        }
+        if event % 16 == 0 {
+            world.check();
+        }
+    }
+    world.check();
+    world.meet(rng, drill, told);
+}
+
+#[test]
+fn lists_of_events() {
+    let mut drill = Drill::start();
+    let mut told = Told::default();
+    for_seeds(240, |rng| {
+        let enters = rng.pick(&[10, 25, 40]);
+        list(rng, 160, enters, &mut drill, &mut told);
+    });
+    told.print("lists of 160 events, 2 to 5 kiosks");
+    if !one_seed() {
+        let events = [
+            ("enter", 0),
+            ("make", 0),
+            ("make", 7),
+            ("reply", 0),
+            ("reply", 2),
+            ("reply", 3),
+            ("reply", 4),
+            ("reply", 5),
+            ("take", 0),
+            ("take", 2),
+            ("take", 3),
+            ("take", 4),
+            ("take", 5),
+            ("beat", 0),
+            ("beat", 15),
+            ("round", 0),
+            ("round", 9),
+        ];
+        told.expect(&events, 40);
+    }
+}
+
+/// Long lists with more keys than the kiosks can hold: 6 and 8 come, and
+/// never before 1,024 different keys are entered.
+#[test]
+fn lists_past_the_limit() {
+    let mut drill = Drill::start();
+    let mut told = Told::default();
+    for_seeds(6, |rng| {
+        let mut world = World::new(rng);
+        world.kiosks.truncate(3);
+        world.density = Density::WIDE;
+        for event in 0..3_600 {
+            match rng.below(16) {
+                0..9 => world.enter(rng, &mut drill, &mut told),
+                9..11 => world.make(rng, &mut drill, &mut told),
+                11..14 => world.deliver(rng, &mut drill, &mut told),
+                14 => world.beat(rng, &mut drill, &mut told),
+                _ => {
+                    let (left, right) = world.two(rng);
+                    let (reply, _) = world.round(left, right, None, &mut drill, &mut told);
+                    for delivery in reply.deliveries() {
+                        world.send(rng, delivery.claim);
+                    }
+                }
+            }
+            if event % 64 == 0 {
+                world.check();
+            }
+        }
+        world.check();
+        world.meet(rng, &mut drill, &mut told);
+    });
+    told.print("lists past the limit");
+    if !one_seed() {
+        let events = [
+            ("enter", 6),
+            ("reply", 6),
+            ("take", 6),
+            ("round", 8),
+            ("round", 0),
+        ];
+        told.expect(&events, 20);
+    }
+}
+
+/// Two kiosks with any stores in order, as lists of events can leave them.
+#[test]
+fn pairs_meet() {
+    let mut drill = Drill::start();
+    let mut told = Told::default();
+    for_seeds(2_500, |rng| {
+        let (left, right) = rng.pair();
+        let mut world = World {
+            kiosks: [left, right]
+                .map(|keys| RawNode::of(RawStore::of(&keys), &[]))
+                .to_vec(),
+            entered: (0..1_025).collect(),
+            air: Vec::new(),
+            density: Density::WIDE,
+        };
+        meet(&mut world, 0, 1, rng, &mut drill, &mut told);
+    });
+    told.print("pairs of stores");
+    if !one_seed() {
+        told.expect(&[("round", 0), ("round", 8)], 40);
+    }
+}
