@@ -52,6 +52,22 @@ pub fn seeds(cases: u64) -> std::ops::Range<u64> {
     }
 }
 
+/// Runs something for each seed; a failure prints the one it happened with.
+pub fn for_seeds(cases: u64, mut each: impl FnMut(u64, &mut Rng)) {
+    struct Seed(u64);
+    impl Drop for Seed {
+        fn drop(&mut self) {
+            if std::thread::panicking() {
+                eprintln!("failed with MINUTEFROST_SEED={}", self.0);
+            }
+        }
+    }
+    for seed in seeds(cases) {
+        let _seed = Seed(seed);
+        each(seed, &mut Rng(seed));
+    }
+}
+
 /// Whether one seed alone is run, where nothing can be expected to be seen.
 pub fn one_seed() -> bool {
     std::env::var_os("MINUTEFROST_SEED").is_some()

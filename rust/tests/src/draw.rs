@@ -171,7 +171,8 @@ impl Rng {
         claim
     }
 
-    fn true_claim(&mut self, keys: &[u64], density: Density) -> Claim {
+    /// A claim that passes 2 to 5: true of some of these keys, or of others.
+    pub fn true_claim(&mut self, keys: &[u64], density: Density) -> Claim {
         if keys.is_empty() || self.one_in(4) {
             let count = 1 + self.below(12);
             return claim_of(&self.keys_of(count, density));

@@ -12,7 +12,7 @@ use std::collections::{BTreeMap, BTreeSet};
 
 use second::*;
 use tests::card::*;
-use tests::cases::{one_seed, seeds};
+use tests::cases::{for_seeds, one_seed};
 use tests::draw::{Density, Rng};
 use tests::drill::{Card, Drill};
 
@@ -328,22 +328,6 @@ impl Told {
     }
 }
 
-/// Runs something for each seed; a failure prints the one it happened with.
-fn for_seeds(cases: u64, mut each: impl FnMut(&mut Rng)) {
-    struct Seed(u64);
-    impl Drop for Seed {
-        fn drop(&mut self) {
-            if std::thread::panicking() {
-                eprintln!("failed with MINUTEFROST_SEED={}", self.0);
-            }
-        }
-    }
-    for seed in seeds(cases) {
-        let _seed = Seed(seed);
-        each(&mut Rng(seed));
-    }
-}
-
 /// One list; `enters` of a hundred events enter a key.
 fn list(rng: &mut Rng, events: usize, enters: usize, drill: &mut Drill, told: &mut Told) {
     let mut world = World::new(rng);
@@ -380,7 +364,7 @@ fn list(rng: &mut Rng, events: usize, enters: usize, drill: &mut Drill, told: &m
 fn lists_of_events() {
     let mut drill = Drill::start();
     let mut told = Told::default();
-    for_seeds(240, |rng| {
+    for_seeds(240, |_, rng| {
         let enters = rng.pick(&[10, 25, 40]);
         list(rng, 160, enters, &mut drill, &mut told);
     });
@@ -415,7 +399,7 @@ fn lists_of_events() {
 fn lists_past_the_limit() {
     let mut drill = Drill::start();
     let mut told = Told::default();
-    for_seeds(6, |rng| {
+    for_seeds(6, |_, rng| {
         let mut world = World::new(rng);
         world.kiosks.truncate(3);
         world.density = Density::WIDE;
@@ -458,7 +442,7 @@ fn lists_past_the_limit() {
 fn pairs_meet() {
     let mut drill = Drill::start();
     let mut told = Told::default();
-    for_seeds(2_500, |rng| {
+    for_seeds(2_500, |_, rng| {
         let (left, right) = rng.pair();
         let mut world = World {
             kiosks: [left, right]
