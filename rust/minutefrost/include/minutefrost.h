@@ -1,0 +1,69 @@
+/*
+ * The host calls of Minutefrost, in the static archive libhost.a.
+ *
+ * An image is what a kiosk keeps on its card: key count (2 bytes), keys (8
+ * each, rising), pending count (2 bytes), pending claims (26 each, rising by
+ * cnt, then lo, hi, sum). A frame is what kiosks send: hex 4C 43, version 1,
+ * n from 1 to 4, n claims of 26 bytes (lo 8, hi 8, sum 8, cnt 2). Numbers are
+ * unsigned, high byte first.
+ *
+ * Each buffer is a pointer and then a length. The pointers are not null, even
+ * if the length is 0, and what is written overlaps nothing else. The calls
+ * read and write nothing but these bytes, keep no state, allocate nothing and
+ * may run on several threads at once, on stacks of at least 128 KB each.
+ *
+ * A refused call returns minus the number of the first question that was
+ * answered no, and writes nothing:
+ *
+ *    1  the image's contents are out of order
+ *    6  the keys to add don't fit: the store would have more than 1,024
+ *   10  the frame has fewer than 4 bytes or doesn't begin with hex 4C 43
+ *   11  the frame's version is not 1
+ *   12  the frame's n is not from 1 to 4, or its length is not 4 + 26n
+ *   13  a claim in the frame contradicts itself
+ *   14  the image's counts exceed 1,024 or 64, or its length is not theirs
+ *   15  a lent output is too short
+ *
+ * On success the bytes past what was written keep their contents.
+ */
+#ifndef MINUTEFROST_H
+#define MINUTEFROST_H
+
+#include <stddef.h>
+#include <stdint.h>
+
+/* The bytes of the longest image: what `out` needs. */
+#define MINUTEFROST_IMAGE_MOST 9860
+
+/* The bytes of the most that a beat sends: what `frames` needs. */
+#define MINUTEFROST_BEAT_FRAMES 3486
+
+/* The bytes of the longest frame. */
+#define MINUTEFROST_FRAME_MOST 108
+
+#ifdef __cplusplus
+extern "C" {
+#endif
+
+/*
+ * Takes a frame into an image, writes the new image to the front of `out` and
+ * returns its length. Asks 14, 1, 10 to 13, 6 of each claim in turn, 15.
+ */
+int64_t minutefrost_take_frame(const uint8_t *image, size_t image_len,
+                               const uint8_t *frame, size_t frame_len,
+                               uint8_t *out, size_t out_len);
+
+/*
+ * Beats an image, writes the new image to the front of `out` and the frames to
+ * send, end to end, to the front of `frames`, and returns the frames' length.
+ * The image's length follows from its counts. Asks 14, 1, 15.
+ */
+int64_t minutefrost_beat(const uint8_t *image, size_t image_len,
+                         uint8_t *out, size_t out_len,
+                         uint8_t *frames, size_t frames_len);
+
+#ifdef __cplusplus
+}
+#endif
+
+#endif

@@ -1,0 +1,59 @@
+//! The archive's two calls, and the only unsafe code of this crate.
+//!
+//! A slice passes as a pointer and then a length. The calls are proved to read
+//! and write within the slices they are given, to keep nothing of them, and to
+//! end.
+
+mod c {
+    unsafe extern "C" {
+        pub fn minutefrost_take_frame(
+            image: *const u8,
+            image_len: usize,
+            frame: *const u8,
+            frame_len: usize,
+            out: *mut u8,
+            out_len: usize,
+        ) -> i64;
+
+        pub fn minutefrost_beat(
+            image: *const u8,
+            image_len: usize,
+            out: *mut u8,
+            out_len: usize,
+            frames: *mut u8,
+            frames_len: usize,
+        ) -> i64;
+    }
+}
+
+/// The new image's length, or minus the number of the refusal.
+pub fn take_frame(image: &[u8], frame: &[u8], out: &mut [u8]) -> i64 {
+    // SAFETY: each pointer comes with the length of its slice, and the slice
+    // that is written overlaps none that is read.
+    unsafe {
+        c::minutefrost_take_frame(
+            image.as_ptr(),
+            image.len(),
+            frame.as_ptr(),
+            frame.len(),
+            out.as_mut_ptr(),
+            out.len(),
+        )
+    }
+}
+
+/// The frames' length, or minus the number of the refusal.
+pub fn beat(image: &[u8], out: &mut [u8], frames: &mut [u8]) -> i64 {
+    // SAFETY: each pointer comes with the length of its slice, and neither of
+    // the slices that are written overlaps another.
+    unsafe {
+        c::minutefrost_beat(
+            image.as_ptr(),
+            image.len(),
+            out.as_mut_ptr(),
+            out.len(),
+            frames.as_mut_ptr(),
+            frames.len(),
+        )
+    }
+}

@@ -1,0 +1,189 @@
+//! The proved host calls of Minutefrost, for the daemon of a kiosk.
+//!
+//! All that a kiosk knows is its *image*, a run of at most [`IMAGE_MOST`]
+//! bytes that lies on its card: the slip keys it holds and the claims that
+//! wait for an answer. A new kiosk has [`EMPTY_IMAGE`]. What kiosks send each
+//! other are *frames* of at most [`FRAME_MOST`] bytes, one to four claims in
+//! each. A daemon does two things, at any time and in any order:
+//!
+//! - A frame came: [`take_frame`] gives the image with the frame taken in.
+//! - Every now and then: [`beat`] gives the image after a beat, and the
+//!   [`frames`] to send.
+//!
+//! Frames may be lost, repeated, delayed and reordered. Two kiosks that hear
+//! each other come to hold the same keys.
+//!
+//! Both calls take bytes of any content, and neither panics. One that can't do
+//! its work returns a [`Refusal`] and has written nothing. On success the bytes
+//! of a buffer past what was written keep their contents. The calls themselves
+//! are the archive `libhost.a`, every function of which is proved; it has no
+//! state, allocates nothing, and runs on a stack of 128 KB.
+//!
+//! ```
+//! use minutefrost::{BEAT_FRAMES, EMPTY_IMAGE, IMAGE_MOST, beat, take_frame};
+//!
+//! let (mut out, mut sent) = ([0; IMAGE_MOST], [0; BEAT_FRAMES]);
+//!
+//! // A frame of one claim: someone holds the key 7 and no other.
+//! let mut frame = vec![0x4C, 0x43, 1, 1];
+//! frame.extend([0, 0, 0, 0, 0, 0, 0, 7].repeat(3)); // lo, hi, sum
+//! frame.extend([0, 1]); // cnt
+//!
+//! // The kiosk takes the key and keeps the claim until it beats.
+//! let length = take_frame(&EMPTY_IMAGE, &frame, &mut out)?;
+//! let image = out[..length].to_vec();
+//! assert_eq!(image[..12], [0, 1, 0, 0, 0, 0, 0, 0, 0, 7, 0, 1]);
+//!
+//! // The claim is a match, so it leaves the table, and what is sent is the
+//! // kiosk's own claim: the same one.
+//! let beaten = beat(&image, &mut out, &mut sent)?;
+//! assert_eq!(out[..beaten.image], [0, 1, 0, 0, 0, 0, 0, 0, 0, 7, 0, 0]);
+//! assert_eq!(sent[..beaten.frames], frame);
+//! # Ok::<(), minutefrost::Refusal>(())
+//! ```
+
+#![deny(unsafe_code)]
+#![warn(missing_docs)]
+
+#[allow(unsafe_code)]
+mod archive;
+mod frames;
+mod refusal;
+
+pub use frames::{Frames, frames};
+pub use refusal::Refusal;
+
+/// The bytes of the longest image, of 1,024 keys and 64 pending claims: what
+/// the buffer for an image needs, however short that image will be.
+pub const IMAGE_MOST: usize = 9_860;
+
+/// The bytes of the most that a beat sends, 129 claims in 33 frames: what the
+/// buffer for its frames needs, whatever is pending.
+pub const BEAT_FRAMES: usize = 3_486;
+
+/// The bytes of the longest frame, of four claims.
+pub const FRAME_MOST: usize = 108;
+
+/// The image of a kiosk that holds no key, with nothing pending.
+///
+/// ```
+/// # use minutefrost::{BEAT_FRAMES, EMPTY_IMAGE, IMAGE_MOST, beat};
+/// // It has nothing to say.
+/// let beaten = beat(&EMPTY_IMAGE, &mut [0; IMAGE_MOST], &mut [0; BEAT_FRAMES])?;
+/// assert_eq!(beaten.frames, 0);
+/// # Ok::<(), minutefrost::Refusal>(())
+/// ```
+pub const EMPTY_IMAGE: [u8; 4] = [0; 4];
+
+/// How much a [`beat`] wrote.
+#[derive(Clone, Copy, Debug, PartialEq, Eq, Hash)]
+pub struct Beat {
+    /// The length of the new image, at the front of its buffer.
+    pub image: usize,
+    /// The length of the frames, end to end at the front of theirs.
+    pub frames: usize,
+}
+
+/// Takes a frame into an image: writes the new image to the front of `out` and
+/// returns its length.
+///
+/// The keys that the frame's claims name are added where they are missing, and
+/// the claims are kept until a beat replies to them. `out` has at least
+/// [`IMAGE_MOST`] bytes.
+///
+/// # Errors
+///
+/// Refused by 14 and 1 of the image, 10 to 13 of the frame, 6 of each of its
+/// claims in turn, and 15 of the buffer; the first one answered no counts. A
+/// frame is taken whole or not at all.
+///
+/// ```
+/// # use minutefrost::{EMPTY_IMAGE, IMAGE_MOST, take_frame};
+/// let frame = [&[0x4C, 0x43, 1, 1][..], &[0; 25], &[1]].concat();
+/// let mut out = [0; IMAGE_MOST];
+///
+/// // The key 0, alone, and the claim that told of it.
+/// assert_eq!(take_frame(&EMPTY_IMAGE, &frame, &mut out), Ok(2 + 8 + 2 + 26));
+///
+/// let short = take_frame(&EMPTY_IMAGE, &frame, &mut out[1..]);
+/// assert_eq!(short.unwrap_err().number(), 15);
+/// ```
+pub fn take_frame(image: &[u8], frame: &[u8], out: &mut [u8]) -> Result<usize, Refusal> {
+    length_of(archive::take_frame(image, frame, out))
+}
+
+/// Beats an image: writes the new image to the front of `out` and the frames
+/// to send to the front of `frames`, and returns both lengths.
+///
+/// The frames carry the claim of the whole store and the replies to the claims
+/// that were pending. Those replied to for good leave the image; no key is
+/// added. `out` has at least [`IMAGE_MOST`] bytes and `frames` at least
+/// [`BEAT_FRAMES`].
+///
+/// # Errors
+///
+/// Refused by 14 and 1 of the image and 15 of the buffers; the first one
+/// answered no counts.
+///
+/// ```
+/// # use minutefrost::{BEAT_FRAMES, Beat, IMAGE_MOST, beat};
+/// let image = [0, 1, 0, 0, 0, 0, 0, 0, 0, 7, 0, 0];
+/// let (mut out, mut frames) = ([0; IMAGE_MOST], [0; BEAT_FRAMES]);
+/// assert_eq!(beat(&image, &mut out, &mut frames), Ok(Beat { image: 12, frames: 30 }));
+///
+/// let cut = beat(&image[..11], &mut out, &mut frames);
+/// assert_eq!(cut.unwrap_err().number(), 14);
+/// ```
+pub fn beat(image: &[u8], out: &mut [u8], frames: &mut [u8]) -> Result<Beat, Refusal> {
+    let frames = length_of(archive::beat(image, out, frames))?;
+    Ok(Beat {
+        image: length_by_counts(out),
+        frames,
+    })
+}
+
+/// The length that a call's answer is, or its refusal.
+fn length_of(answer: i64) -> Result<usize, Refusal> {
+    // Below 0 is a refusal; a length is at most 9,860.
+    usize::try_from(answer).map_err(|_| Refusal::of_answer(answer))
+}
+
+/// "The image's length follows from its counts": two bytes and 8 a key, two
+/// bytes and 26 a pending claim. A count that isn't there counts as 0.
+fn length_by_counts(image: &[u8]) -> usize {
+    let count_at = |at| {
+        let bytes = image.get(at..).and_then(<[u8]>::first_chunk);
+        bytes.map_or(0, |&count| usize::from(u16::from_be_bytes(count)))
+    };
+    let pending_at = 2 + 8 * count_at(0);
+    pending_at + 2 + 26 * count_at(pending_at)
+}
+
+/// The README's code runs too.
+#[cfg(doctest)]
+#[doc = include_str!("../README.md")]
+struct Readme;
+
+#[cfg(test)]
+mod tests {
+    use super::*;
+
+    #[test]
+    fn lengths_follow_from_counts() {
+        assert_eq!(length_by_counts(&EMPTY_IMAGE), EMPTY_IMAGE.len());
+        let mut full = [0; IMAGE_MOST];
+        full[..2].copy_from_slice(&1_024_u16.to_be_bytes());
+        full[2 + 8 * 1_024 + 1] = 64;
+        assert_eq!(length_by_counts(&full), IMAGE_MOST);
+        // Bytes that no call leaves behind are counted without a panic.
+        assert_eq!(length_by_counts(&[]), 4);
+        assert_eq!(length_by_counts(&[0xFF; 3]), 4 + 8 * 0xFFFF);
+    }
+
+    #[test]
+    fn answers_below_0_are_refusals() {
+        assert_eq!(length_of(0), Ok(0));
+        assert_eq!(length_of(9_860), Ok(IMAGE_MOST));
+        assert_eq!(length_of(-14).unwrap_err().number(), 14);
+    }
+}

@@ -1,0 +1,106 @@
+//! What a refused call says.
+
+use std::error::Error;
+use std::fmt;
+
+/// A call refused: the number of the first question that was answered no.
+///
+/// A refused call has written nothing, neither to an image nor to frames.
+///
+/// ```
+/// use minutefrost::{EMPTY_IMAGE, IMAGE_MOST, take_frame};
+///
+/// let mut out = [0; IMAGE_MOST];
+/// let refusal = take_frame(&EMPTY_IMAGE, b"no frame", &mut out).unwrap_err();
+/// assert_eq!(refusal.number(), 10);
+/// assert_eq!(
+///     refusal.to_string(),
+///     "refused 10: the frame has fewer than 4 bytes or doesn't begin with hex 4C 43",
+/// );
+/// ```
+#[derive(Clone, Copy, Debug, PartialEq, Eq, Hash)]
+pub struct Refusal {
+    number: u8,
+}
+
+impl Refusal {
+    /// The refusal that a call's answer below 0 stands for.
+    pub(crate) fn of_answer(answer: i64) -> Refusal {
+        Refusal {
+            // The calls answer with no number above 15.
+            number: u8::try_from(answer.unsigned_abs()).unwrap_or(u8::MAX),
+        }
+    }
+
+    /// The number of the question.
+    ///
+    /// [`take_frame`](crate::take_frame) gives 14 and 1 (the image), 10 to 13
+    /// (the frame), 6 (no room for a key) and 15 (a short buffer);
+    /// [`beat`](crate::beat) gives 14, 1 and 15.
+    pub const fn number(self) -> u8 {
+        self.number
+    }
+
+    /// What the answer no means, in words.
+    pub const fn meaning(self) -> &'static str {
+        match self.number {
+            1 => "a store or node is out of order",
+            2 => "a claim's lo is greater than its hi",
+            3 => "a claim's cnt is not from 1 to 1,024",
+            4 => "a claim's cnt is not 1 though lo = hi, or else not from 2 to hi − lo + 1",
+            5 => "a claim's sum is not lo though cnt is 1, or not lo XOR hi though cnt is 2",
+            6 => "the keys to add don't fit: the store would have more than 1,024",
+            7 => "the first position is after the last, or the last is not below the count",
+            8 => "the union of both stores has more than 1,024 keys",
+            9 => "the transcript has fewer than two records for each key of the union",
+            10 => "the frame has fewer than 4 bytes or doesn't begin with hex 4C 43",
+            11 => "the frame's version is not 1",
+            12 => "the frame's n is not from 1 to 4, or its length is not 4 + 26n",
+            13 => "a claim in the frame doesn't pass questions 2 to 5",
+            14 => "the image's counts exceed 1,024 or 64, or its length is not theirs",
+            15 => "a lent output is too short",
+            _ => "a question that this version doesn't know",
+        }
+    }
+}
+
+/// The number and the words.
+impl fmt::Display for Refusal {
+    fn fmt(&self, out: &mut fmt::Formatter<'_>) -> fmt::Result {
+        write!(out, "refused {}: {}", self.number, self.meaning())
+    }
+}
+
+impl Error for Refusal {}
+
+#[cfg(test)]
+mod tests {
+    use super::*;
+
+    /// Every number has words of its own, and the README's table has them.
+    #[test]
+    fn every_number_has_its_words_in_the_readme() {
+        let readme = include_str!("../README.md");
+        for number in 1..=15 {
+            let refusal = Refusal::of_answer(-i64::from(number));
+            assert_eq!(refusal.number(), number);
+            let row = format!("\n| {number} | {} |", refusal.meaning());
+            assert!(readme.contains(&row), "the README lacks the row {row:?}");
+        }
+    }
+
+    #[test]
+    fn the_readme_quotes_the_example() {
+        let readme = include_str!("../README.md");
+        let example = include_str!("../examples/two_kiosks.rs");
+        assert!(readme.contains(example));
+    }
+
+    /// No answer makes the words panic.
+    #[test]
+    fn unknown_numbers_have_words() {
+        let unknown = Refusal { number: 16 }.meaning();
+        assert_eq!(Refusal::of_answer(i64::MIN).meaning(), unknown);
+        assert_eq!(Refusal::of_answer(0).meaning(), unknown);
+    }
+}

@@ -1,0 +1,280 @@
+//! Both calls against the second program, seeded, byte for byte: the answer,
+//! every buffer whole with guard bytes around it, and the inputs afterwards.
+
+#[path = "../../second/tests/common/mod.rs"]
+mod common;
+
+use std::cell::RefCell;
+use std::collections::BTreeMap;
+
+use common::{Rng, for_seeds, frame_of, image_of};
+use minutefrost::*;
+use second::{Claim, RawNode};
+
+/// How often each number was seen; 0 is success.
+#[derive(Default)]
+struct Seen(RefCell<BTreeMap<u8, usize>>);
+
+impl Seen {
+    fn note(&self, number: u8) {
+        *self.0.borrow_mut().entry(number).or_default() += 1;
+    }
+
+    /// These numbers were seen often and no others.
+    fn check(&self, numbers: &[u8], often: usize) {
+        // A lone seed can't see them all.
+        if std::env::var_os("SECOND_SEED").is_some() {
+            return;
+        }
+        let seen = self.0.borrow();
+        println!("numbers seen: {seen:?}");
+        assert!(seen.keys().eq(numbers), "{seen:?}");
+        assert!(seen.values().all(|&times| times >= often), "{seen:?}");
+    }
+}
+
+/// A buffer with bytes before and after it that no call may touch.
+#[derive(Clone, PartialEq)]
+struct Guarded {
+    bytes: Vec<u8>,
+    at: usize,
+    length: usize,
+}
+
+impl Guarded {
+    /// So long, at any alignment and of any content.
+    fn of(rng: &mut Rng, length: usize) -> Guarded {
+        let at = 16 + rng.below(8);
+        let bytes = (0..at + length + 64).map(|_| rng.next() as u8).collect();
+        Guarded { bytes, at, length }
+    }
+
+    /// As long as it must be, seldom longer or too short.
+    fn draw(rng: &mut Rng, need: usize) -> Guarded {
+        let length = match rng.below(24) {
+            0 => need - 1,
+            1 => rng.below(need),
+            2 => need + 1 + rng.below(40),
+            _ => need,
+        };
+        Guarded::of(rng, length)
+    }
+
+    fn lent(&mut self) -> &mut [u8] {
+        &mut self.bytes[self.at..][..self.length]
+    }
+}
+
+/// The answer in the archive's own form.
+fn as_number(answer: Result<usize, Refusal>) -> i64 {
+    answer.map_or_else(
+        |refusal| -i64::from(refusal.number()),
+        |length| length as i64,
+    )
+}
+
+fn number_of(answer: i64) -> u8 {
+    if answer < 0 { -answer as u8 } else { 0 }
+}
+
+/// Takes a frame by both programs; the number, 0 if the new image stands in
+/// the buffer.
+fn take_both(image: &[u8], frame: &[u8], out: &mut Guarded, seen: &Seen) -> u8 {
+    let given = (image.to_vec(), frame.to_vec());
+    let mut other = out.clone();
+    let answer = as_number(take_frame(image, frame, out.lent()));
+    let expected = second::host::take_frame(image, frame, other.lent());
+    assert_eq!(answer, expected);
+    assert!(*out == other, "the images differ");
+    assert!((image, frame) == (&given.0, &given.1), "an input changed");
+    seen.note(number_of(answer));
+    number_of(answer)
+}
+
+/// Beats by both programs; the new image and the frames, if there are any.
+fn beat_both(
+    image: &[u8],
+    out: &mut Guarded,
+    sent: &mut Guarded,
+    seen: &Seen,
+) -> Option<(Vec<u8>, Vec<u8>)> {
+    let given = image.to_vec();
+    let (mut other_out, mut other_sent) = (out.clone(), sent.clone());
+    let answer = beat(image, out.lent(), sent.lent());
+    let expected = second::host::beat(image, other_out.lent(), other_sent.lent());
+    assert_eq!(as_number(answer.map(|beaten| beaten.frames)), expected);
+    assert!(*out == other_out, "the images differ");
+    assert!(*sent == other_sent, "the frames differ");
+    assert!(image == given, "the input changed");
+    seen.note(number_of(expected));
+    answer.ok().map(|beaten| {
+        let image = out.lent()[..beaten.image].to_vec();
+        let told = second::image_length(out.lent());
+        assert_eq!((told.number, told.length), (0, beaten.image));
+        (image, sent.lent()[..beaten.frames].to_vec())
+    })
+}
+
+fn bytes_of(node: &RawNode) -> Vec<u8> {
+    image_of(node.store.held(), node.table())
+}
+
+/// An image: in order, out of order in its contents, or damaged.
+fn draw_image(rng: &mut Rng) -> (Vec<u64>, Vec<u8>) {
+    let mut node = rng.node();
+    if rng.one_in(3) {
+        // Nearly or quite full, so that 6 is asked in earnest.
+        let room = rng.below(4);
+        let mut keys: Vec<u64> = (0..1_024).map(|_| rng.next()).collect();
+        keys.sort();
+        keys.dedup();
+        keys.truncate(1_024 - room);
+        node = RawNode::of(second::RawStore::of(&keys), &[]);
+        for _ in 0..rng.below(6) {
+            let claim = rng.claim(&keys, 0);
+            if keys.binary_search(&claim.lo).is_ok() && keys.binary_search(&claim.hi).is_ok() {
+                node = second::take(node, claim).node;
+            }
+        }
+    }
+    let keys = node.store.held().to_vec();
+    let mut image = bytes_of(&node);
+    match rng.below(12) {
+        0 => rng.damage(&mut image),
+        1 if keys.len() > 1 => {
+            let mut bent = keys.clone();
+            let at = rng.below(bent.len() - 1);
+            bent[at + 1] = bent[at].wrapping_sub(rng.next() % 2);
+            image = image_of(&bent, node.table());
+        }
+        _ => {}
+    }
+    (keys, image)
+}
+
+/// A frame of claims about these keys and others, seldom damaged.
+fn draw_frame(rng: &mut Rng, keys: &[u64]) -> Vec<u8> {
+    let density = rng.density();
+    let bent = rng.one_in(4);
+    let claims: Vec<Claim> = (0..1 + rng.below(4))
+        .map(|_| {
+            loop {
+                let claim = rng.claim(keys, density);
+                if bent || second::questions::of_claim(&claim).is_ok() {
+                    break claim;
+                }
+            }
+        })
+        .collect();
+    let mut frame = frame_of(&claims);
+    if rng.one_in(5) {
+        rng.damage(&mut frame);
+    }
+    frame
+}
+
+/// Which claim of a frame, from 1 on, is the first with no room for its keys.
+fn claim_without_room(image: &[u8], frame: &[u8]) -> u8 {
+    let refused = |n: &u8| {
+        let mut shorter = frame[..4 + 26 * usize::from(*n)].to_vec();
+        shorter[3] = *n;
+        second::host::take_frame(image, &shorter, &mut [0; IMAGE_MOST]) == -6
+    };
+    (1..=frame[3])
+        .find(refused)
+        .expect("the whole frame is refused")
+}
+
+#[test]
+fn take_frame_agrees() {
+    let (seen, without_room) = (Seen::default(), Seen::default());
+    for_seeds(6_000, |rng| {
+        let (keys, image) = draw_image(rng);
+        for _ in 0..3 {
+            let frame = draw_frame(rng, &keys);
+            let mut out = Guarded::draw(rng, IMAGE_MOST);
+            if take_both(&image, &frame, &mut out, &seen) == 6 {
+                without_room.note(claim_without_room(&image, &frame));
+            }
+        }
+    });
+    seen.check(&[0, 1, 6, 10, 11, 12, 13, 14, 15], 50);
+    without_room.check(&[1, 2, 3, 4], 50);
+}
+
+#[test]
+fn beat_agrees() {
+    let seen = Seen::default();
+    for_seeds(6_000, |rng| {
+        let (_, image) = draw_image(rng);
+        let mut out = Guarded::draw(rng, IMAGE_MOST);
+        let mut sent = Guarded::draw(rng, BEAT_FRAMES);
+        beat_both(&image, &mut out, &mut sent, &seen);
+    });
+    seen.check(&[0, 1, 14, 15], 50);
+}
+
+/// Bytes of no sense at all, of any length.
+#[test]
+fn noise_agrees() {
+    let (frames, beats) = (Seen::default(), Seen::default());
+    for_seeds(3_000, |rng| {
+        let mut noise = |most| -> Vec<u8> {
+            let length = rng.below(most);
+            let mask = *rng.pick(&[0xFF, 0x03, 0x00]);
+            (0..length).map(|_| rng.next() as u8 & mask).collect()
+        };
+        let (image, frame) = (noise(400), noise(120));
+        let mut out = Guarded::draw(rng, IMAGE_MOST);
+        let mut sent = Guarded::draw(rng, BEAT_FRAMES);
+        take_both(&image, &frame, &mut out.clone(), &frames);
+        beat_both(&image, &mut out, &mut sent, &beats);
+    });
+}
+
+/// Three kiosks over a radio that loses, repeats, delays and reorders: the
+/// same images after every call, and in the end the same keys.
+#[test]
+fn kiosks_agree_call_by_call() {
+    let seen = Seen::default();
+    for_seeds(12, |rng| {
+        let union: Vec<u64> = {
+            let mut keys: Vec<u64> = (0..40 + rng.below(400)).map(|_| rng.next()).collect();
+            keys.sort();
+            keys
+        };
+        let mut images: Vec<Vec<u8>> = (0..3)
+            .map(|_| {
+                let keys = union.iter().copied().filter(|_| !rng.one_in(9));
+                image_of(&keys.collect::<Vec<_>>(), &[])
+            })
+            .collect();
+        let mut out = Guarded::of(rng, IMAGE_MOST);
+        let mut sent = Guarded::of(rng, BEAT_FRAMES);
+        let mut air: Vec<Vec<u8>> = Vec::new();
+        let mut calls = 0;
+        let keys = |image: &Vec<u8>| second::read_image(image).node.store;
+        while images.iter().any(|image| keys(image) != keys(&images[0])) {
+            calls += 1;
+            assert!(calls < 200_000, "they never agree");
+            let kiosk = rng.below(3);
+            if air.is_empty() || rng.one_in(8) {
+                let (image, sent) = beat_both(&images[kiosk], &mut out, &mut sent, &seen).unwrap();
+                images[kiosk] = image;
+                air.extend(frames(&sent).map(<[u8]>::to_vec));
+                assert_eq!(frames(&sent).map(<[u8]>::len).sum::<usize>(), sent.len());
+            } else {
+                let at = rng.below(air.len());
+                if rng.one_in(3) {
+                    assert_eq!(take_both(&images[kiosk], &air[at], &mut out, &seen), 0);
+                    let length = second::image_length(out.lent()).length;
+                    images[kiosk] = out.lent()[..length].to_vec();
+                }
+                if !rng.one_in(6) {
+                    air.swap_remove(at);
+                }
+            }
+        }
+    });
+    seen.check(&[0], 1_000);
+}

@@ -1,0 +1,34 @@
+/* Both calls from C, by the header: the key 7 told to an empty kiosk. */
+#include "minutefrost.h"
+
+#include <string.h>
+
+int main(void)
+{
+    static const uint8_t empty[4] = {0};
+    static const uint8_t frame[30] = {
+        0x4C, 0x43, 1, 1, /* one claim */
+        0, 0, 0, 0, 0, 0, 0, 7, /* lo */
+        0, 0, 0, 0, 0, 0, 0, 7, /* hi */
+        0, 0, 0, 0, 0, 0, 0, 7, /* sum */
+        0, 1 /* cnt */
+    };
+    static const uint8_t after[12] = {0, 1, 0, 0, 0, 0, 0, 0, 0, 7, 0, 0};
+    static uint8_t taken[MINUTEFROST_IMAGE_MOST];
+    static uint8_t beaten[MINUTEFROST_IMAGE_MOST];
+    static uint8_t frames[MINUTEFROST_BEAT_FRAMES];
+
+    if (minutefrost_take_frame(empty, 4, frame, 30, taken, sizeof taken) != 38)
+        return 1;
+    if (minutefrost_beat(taken, 38, beaten, sizeof beaten, frames, sizeof frames) != 30)
+        return 2;
+    if (memcmp(beaten, after, sizeof after) != 0 || memcmp(frames, frame, sizeof frame) != 0)
+        return 3;
+    if (minutefrost_take_frame(empty, 4, frame, 30, taken, MINUTEFROST_IMAGE_MOST - 1) != -15)
+        return 4;
+    if (minutefrost_beat(empty, 3, beaten, sizeof beaten, frames, sizeof frames) != -14)
+        return 5;
+    if (MINUTEFROST_FRAME_MOST != 4 + 26 * 4)
+        return 6;
+    return 0;
+}
