@@ -1,0 +1,213 @@
+//! How long the proved calls take, as ratios to the second program's, which
+//! is plain Rust of the same calls: `cargo run --release -p bench`.
+//!
+//! What is printed is docs/BENCHMARK.md. A measurement and no test: nothing
+//! fails by being slow, but both programs must give the same bytes.
+
+mod cases;
+mod machine;
+mod round;
+mod timing;
+
+use std::hint::black_box;
+
+use cases::{Buffers, Case, Pair};
+use minutefrost::Refusal;
+use second::{Claim, RawNode};
+use timing::{Compared, compare};
+
+/// The keys of a union.
+const UNIONS: [usize; 3] = [16, 128, 1_024];
+
+/// How many of them differ, where the union has as many; then all.
+const DIFFERING: [usize; 3] = [0, 1, 24];
+
+const TABLE: usize = 64;
+
+const CELLS: &str = "Rattle, ns | second, ns | ratio | spread";
+const RULE: &str = "---:|---:|---:|---:";
+
+fn main() {
+    machine::print_head();
+    print_full();
+    print_calls();
+    print_growth();
+    round::print_round();
+}
+
+/// Takes the frames by both programs, in turns.
+fn take_frame(cases: &[Case]) -> Compared {
+    let mut one = Buffers::new();
+    let mut other = one.clone();
+    for case in cases {
+        let answer = minutefrost::take_frame(&case.image, &case.frame, &mut one.image);
+        let expected = second::host::take_frame(&case.image, &case.frame, &mut other.image);
+        assert!(
+            as_number(answer) == expected && one == other,
+            "the programs differ"
+        );
+    }
+    let (mut next, mut other_next) = (cases.iter().cycle(), cases.iter().cycle());
+    compare(
+        || {
+            let case = next.next().expect("a cycle");
+            let answer = minutefrost::take_frame(&case.image, &case.frame, &mut one.image);
+            black_box((answer.is_ok(), &one));
+        },
+        || {
+            let case = other_next.next().expect("a cycle");
+            let answer = second::host::take_frame(&case.image, &case.frame, &mut other.image);
+            black_box((answer, &other));
+        },
+    )
+}
+
+/// Beats by both programs, in turns.
+fn beat(cases: &[Case]) -> Compared {
+    let mut one = Buffers::new();
+    let mut other = one.clone();
+    for Case { image, .. } in cases {
+        let answer = minutefrost::beat(image, &mut one.image, &mut one.frames);
+        let expected = second::host::beat(image, &mut other.image, &mut other.frames);
+        let answer = as_number(answer.map(|beaten| beaten.frames));
+        assert!(answer == expected && one == other, "the programs differ");
+    }
+    let (mut next, mut other_next) = (cases.iter().cycle(), cases.iter().cycle());
+    compare(
+        || {
+            let case = next.next().expect("a cycle");
+            let answer = minutefrost::beat(&case.image, &mut one.image, &mut one.frames);
+            black_box((answer.is_ok(), &one));
+        },
+        || {
+            let case = other_next.next().expect("a cycle");
+            let answer = second::host::beat(&case.image, &mut other.image, &mut other.frames);
+            black_box((answer, &other));
+        },
+    )
+}
+
+/// The answer in the archive's own form.
+fn as_number(answer: Result<usize, Refusal>) -> i64 {
+    answer.map_or_else(|no| -i64::from(no.number()), |length| length as i64)
+}
+
+/// The largest image: what the targets are about.
+fn print_full() {
+    println!("## A full image: 1,024 keys, 64 pending claims\n");
+    println!("| Call | What it does | {CELLS} |");
+    println!("|---|---|{RULE}|");
+    let row = |call: &str, what: &str, times: Compared| println!("| {call} | {what} | {times} |");
+    let heard = cases::heard(1_024, 0, TABLE);
+    row(
+        "take_frame",
+        "4 claims, their ends held",
+        take_frame(&heard),
+    );
+    row(
+        "take_frame",
+        "1 claim, pending already: image read and written",
+        take_frame(&cases::all(known)),
+    );
+    row(
+        "take_frame",
+        "refused by 10: image read, nothing written",
+        take_frame(&cases::all(refused)),
+    );
+    row(
+        "take_frame",
+        "1,016 keys, none pending: 4 claims with 8 new keys",
+        take_frame(&cases::all(eight_new)),
+    );
+    row("beat", "64 matched, 1 claim sent", beat(&heard));
+    let full = |cnt| cases::all(|variant| beaten(cases::full(cnt, variant)));
+    row("beat", "64 helped, 129 claims sent", beat(&full(2)));
+    row("beat", "64 asked about, 65 claims sent", beat(&full(1_000)));
+    println!();
+}
+
+/// A full image, and a frame of one claim that is pending in it.
+fn known(variant: u64) -> Case {
+    let node = Pair::new(1_024, 0, variant).node(TABLE);
+    Case {
+        frame: cases::frame(&node.table()[..1]),
+        ..beaten(node)
+    }
+}
+
+/// A full image, and a frame of no bytes.
+fn refused(variant: u64) -> Case {
+    beaten(Pair::new(1_024, 0, variant).node(TABLE))
+}
+
+/// A store with room for eight, and the claims of four pairs that it lacks.
+fn eight_new(variant: u64) -> Case {
+    let node = Pair::new(1_024, 16, variant).node(0);
+    let keys = node.store.held();
+    let claims: Vec<Claim> = (0..4)
+        .map(|at| {
+            let (lo, hi) = (keys[100 + at] + 1, keys[900 + at] + 1);
+            Claim::new(lo, hi, lo ^ hi, 2)
+        })
+        .collect();
+    Case {
+        frame: cases::frame(&claims),
+        ..beaten(node)
+    }
+}
+
+/// A node to beat.
+fn beaten(node: RawNode) -> Case {
+    Case {
+        image: cases::image(&node),
+        frame: Vec::new(),
+        pending: node.pending_count,
+    }
+}
+
+/// Each size with each difference that there is at that size.
+fn differences() -> impl Iterator<Item = (usize, usize)> {
+    UNIONS.into_iter().flat_map(|union| {
+        let some = DIFFERING
+            .into_iter()
+            .filter(move |differing| *differing < union);
+        some.chain([union]).map(move |differing| (union, differing))
+    })
+}
+
+/// Both calls at each size and difference.
+fn print_calls() {
+    println!("## By size and difference\n");
+    println!("| Union | Differing | Pending | Call | {CELLS} |");
+    println!("|---:|---:|---:|---|{RULE}|");
+    for (union, differing) in differences() {
+        for pending in [0, TABLE] {
+            let cases = cases::heard(union, differing, pending);
+            let start = format!("| {union} | {differing} | {} |", cases[0].pending);
+            println!("{start} take_frame | {} |", take_frame(&cases));
+            println!("{start} beat | {} |", beat(&cases));
+        }
+    }
+    println!();
+}
+
+/// How the time of a call grows with the keys held.
+fn print_growth() {
+    println!("## How the time grows with n keys\n");
+    println!("| n | Pending | Call | {CELLS} | Rattle, ns a key | second, ns a key |");
+    println!("|---:|---:|---|{RULE}|---:|---:|");
+    for pending in [0, TABLE] {
+        for call in ["take_frame", "beat"] {
+            for n in [16, 32, 64, 128, 256, 512, 1_024] {
+                let cases = cases::heard(n, 0, pending);
+                let times = match call {
+                    "beat" => beat(&cases),
+                    _ => take_frame(&cases),
+                };
+                let [rattle, second] = [times.rattle, times.second].map(|time| time / n as f64);
+                println!("| {n} | {pending} | {call} | {times} | {rattle:.2} | {second:.2} |");
+            }
+        }
+    }
+    println!();
+}
