@@ -5,12 +5,16 @@ use native.Mathlib.Nat.{zero-add, add-zero, add-assoc, sub-zero, zero-sub, suc-s
 use native.Mathlib.Omega.{arith}
 use mathlib.Core.Path.{_≡_, ap}
 use mathlib.Core.List.{List, [], _∷_, _++_, append-assoc}
-use lib.ListN.{length, take, drop, getD, set, replicate, length-append, length-take, length-set, take-append-drop}
+use lib.ListN.{length, take, drop, getD, set, replicate, length-append, length-take, length-drop, length-set, take-append-drop}
 use lib.Seq.{take-set-le, drop-set-lt, getD-set-same, drop-drop, drop-cons, set-at, take-at, drop-append-add}
 use Rattle.rounds.specs.Call.{writtenOver}
 use Rattle.wire.specs.Place.{putAt}
 
 module _ {A : Type 0} where
+  pub length-putAt : (s : List A) (at : ℕ) (bs : List A) → at + length bs ≤ length s → length (putAt s at bs) ≡ length s
+  unfolding putAt
+  length-putAt s at bs h = rw (length-append, length-append, length-take, length-drop) (omega arith)
+
   pub putAt-nil : (s : List A) (at : ℕ) → putAt s at [] ≡ s
   unfolding putAt
   putAt-nil s at = rw add-zero (take-append-drop at s)

@@ -10,7 +10,7 @@ use lib.ListN.{length}
 use Rattle.rounds.specs.Node.{nodeInOrder}
 use Rattle.wire.specs.declared.answer.Length.{Length}
 use Rattle.wire.specs.Image.{imageLimit, nodeBytes, Shaped}
-use Rattle.wire.proofs.Places.{length-mapped}
+use Rattle.rounds.proofs.TakeLaws.{length-mapped}
 use Rattle.host.proofs.Signs.{returned, fits-minus, fits-pos}
 use Rattle.host.proofs.Answers.{length-image, writeImageIn-room, frameTaken-before, frameTaken-15, frameTaken-0}
 use Rattle.host.proofs.minutefrost_take_frame.Statement.{statement}

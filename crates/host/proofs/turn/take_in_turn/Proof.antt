@@ -12,7 +12,7 @@ use Rattle.claims.specs.Claim.{noClaim}
 use Rattle.rounds.specs.Node.{nodeInOrder}
 use Rattle.rounds.specs.Lent.{takenNext}
 use Rattle.wire.specs.Image.{Shaped}
-use Rattle.wire.proofs.Places.{length-mapped}
+use Rattle.rounds.proofs.TakeLaws.{length-mapped}
 use Rattle.host.specs.Taking.{takenUntil}
 use Rattle.host.proofs.Turns.{turn-refused, turn-done, turn-ordered, takenUntil-end}
 use Rattle.host.proofs.turn.take_in_turn.Statement.{statement}
