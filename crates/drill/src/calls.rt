@@ -16,6 +16,9 @@ pub fn serve(call: u64, words: &mut [u64], bytes: &mut [u8]) -> bool {
     if call == 13 {
         return ordered(words);
     }
+    if call == 14 {
+        return empty(words);
+    }
     false
 }
 
@@ -238,5 +241,15 @@ fn ordered(words: &mut [u64]) -> bool {
     } else {
         put_answer(words, 0, 0);
     }
+    true
+}
+
+fn empty(words: &mut [u64]) -> bool {
+    if words.len() < card::RIGHT {
+        return false;
+    }
+    let store = claims::Store::empty();
+    put_answer(words, 0, 0);
+    card::put_store(words, card::LEFT, store);
     true
 }

@@ -20,7 +20,7 @@
 //     1045 ..      a round's right store, to 2069; from 2070 on the words from which a round is lent its own
 //
 // The calls: 1 enter, 2 make, 3 reply, 4 judge, 5 take, 6 beat, 7 round_words, 8 read_frame, 9 write_frame, 10 read_image, 11 write_image,
-// 12 image_length, 13 ordered. Calls 8 to 12 are lent the first of the request's bytes.
+// 12 image_length, 13 ordered, 14 Store::empty. Calls 8 to 12 are lent the first of the request's bytes.
 mod calls;
 mod card;
 mod raw;

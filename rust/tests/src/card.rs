@@ -370,3 +370,12 @@ pub fn ordered_case(node: &RawNode, noise: Noise) -> Case {
     .on("in order", yes)
     .on("out of order", !yes)
 }
+
+pub fn empty_case(noise: Noise) -> Case {
+    let given = Card::noise(RIGHT, 0, noise);
+    case(Call::Empty, given, |card| {
+        card.answer(0, 0);
+        card.put_store(LEFT, &RawStore::empty());
+        0
+    })
+}

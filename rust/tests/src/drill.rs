@@ -23,6 +23,7 @@ pub enum Call {
     WriteImage,
     ImageLength,
     Ordered,
+    Empty,
 }
 
 /// The words and bytes of a request, or of the reply to it.

@@ -384,6 +384,11 @@ fn tells_order() {
     });
 }
 
+#[test]
+fn gives_the_empty_store() {
+    run(100, &[0], &[], |rng| empty_case(&mut noise(rng)));
+}
+
 /// Requests that can't be read get the byte '?', and nothing after it.
 #[test]
 fn refuses_requests_that_it_cannot_read() {
@@ -409,7 +414,7 @@ fn refuses_requests_that_it_cannot_read() {
         cut(&judge, 24),
         cut(&judge, judge.len() - 1),
         with(0, 20, 0),
-        with(14, 1_302, 0),
+        with(15, 1_302, 0),
         with(u64::MAX, 1_302, 0),
         // Too few words.
         with(1, 1_044, 0),
@@ -418,6 +423,7 @@ fn refuses_requests_that_it_cannot_read() {
         with(4, 19, 0),
         with(5, 1_301, 0),
         with(13, 1_301, 0),
+        with(14, 1_044, 0),
         // More lent than is there.
         with(6, 1_302, 0),
         with(7, 2_070, 0),

@@ -31,7 +31,9 @@ struct Told {
     events: BTreeMap<(&'static str, u8), usize>,
     /// Rounds that meeting took, by how many keys differed.
     met: BTreeMap<(usize, usize), usize>,
-    with_false_match: usize,
+    /// Pairs with a false match that met all the same, and that did not.
+    fooled_met: usize,
+    fooled_apart: usize,
     refused: usize,
 }
 
@@ -234,26 +236,32 @@ fn meet(
     let differ = held[0].symmetric_difference(&held[1]).count();
     let union: BTreeSet<u64> = held[0].union(&held[1]).copied().collect();
     let mut rounds = 0;
+    let mut fooled = false;
+    let mut idle = 0;
     while world.kiosks[one].store != world.kiosks[other].store {
         let (left, right) = if rng.one_in(2) {
             (one, other)
         } else {
             (other, one)
         };
+        let before = world.kiosks.clone();
         let (reply, false_match) = world.round(left, right, None, drill, told);
         rounds += 1;
         if reply.number() != 0 {
             told.refused += 1;
             return;
         }
-        if false_match {
-            told.with_false_match += 1;
-            return;
-        }
+        fooled |= false_match;
         assert!(
-            rounds <= differ,
+            fooled || rounds <= differ,
             "{differ} keys differed, and {rounds} rounds were too few"
         );
+        // With a match that is false two kiosks can stay apart for ever.
+        idle += usize::from(world.kiosks == before);
+        if idle == 6 {
+            told.fooled_apart += 1;
+            return;
+        }
     }
     for at in [one, other] {
         assert_eq!(
@@ -268,6 +276,10 @@ fn meet(
         assert_eq!(reply.number(), 0);
         assert_eq!(keys_of(&world.kiosks[one].store), union, "both still do");
         assert_eq!(world.kiosks[one].store, world.kiosks[other].store);
+    }
+    if fooled {
+        told.fooled_met += 1;
+        return;
     }
     *told.met.entry((differ_class(differ), rounds)).or_default() += 1;
 }
@@ -315,8 +327,8 @@ impl Told {
             least = class + 1;
         }
         println!(
-            "    pairs with a false match: {}, refused: {}",
-            self.with_false_match, self.refused
+            "    pairs with a false match: {} met all the same, {} did not; refused: {}",
+            self.fooled_met, self.fooled_apart, self.refused
         );
     }
 
