@@ -13,13 +13,13 @@ use Rattle.claims.specs.declared.claim.Claim.{Claim}
 use Rattle.claims.specs.Store.{limit}
 use Rattle.claims.specs.Question.{Question, firstNo, settle}
 use Rattle.claims.proofs.QuestionLaws.{Numbered, firstNo-yes, firstNo-no, firstNo-append-zero, firstNo-append-no, settle-done, settle-refused}
-use Rattle.rounds.specs.declared.node.Node.{Node}
-use Rattle.rounds.specs.declared.answer.Taken.{Taken}
-use Rattle.rounds.specs.Node.{nodeInOrder, nodeKeys}
-use Rattle.rounds.specs.Question.{question15}
-use Rattle.rounds.specs.Table.{tableLimit}
-use Rattle.rounds.specs.Call.{writtenOver}
-use Rattle.rounds.proofs.NodeLaws.{nodeInOrder-ordered, ordered-nodeInOrder}
+use Rattle.rule.specs.declared.node.Node.{Node}
+use Rattle.rule.specs.declared.answer.Taken.{Taken}
+use Rattle.rule.specs.Node.{nodeInOrder, nodeKeys}
+use Rattle.rule.specs.Question.{question15}
+use Rattle.rule.specs.Table.{tableLimit}
+use Rattle.rule.specs.Call.{writtenOver}
+use Rattle.rule.proofs.NodeLaws.{nodeInOrder-ordered, ordered-nodeInOrder}
 use Rattle.wire.specs.declared.answer.Framed.{Framed}
 use Rattle.wire.specs.declared.answer.Imaged.{Imaged}
 use Rattle.wire.specs.Run.{claim}

@@ -17,16 +17,16 @@ use Rattle.claims.specs.Question.{firstNo, question6, claimQuestions}
 use Rattle.claims.specs.Reply.{ends, hear}
 use Rattle.claims.proofs.Tests.{and-left, and-right}
 use Rattle.claims.proofs.QuestionLaws.{Numbered, firstNo-yes, firstNo-no, firstNo-append-zero, claimQuestions-numbered, judged-firstNo}
-use Rattle.rounds.specs.declared.node.Node.{Node}
-use Rattle.rounds.specs.declared.answer.Taken.{Taken}
-use Rattle.rounds.specs.Node.{nodeInOrder, nodeKeys, pendingOf}
-use Rattle.rounds.specs.Table.{tableWith}
-use Rattle.rounds.specs.Question.{nodeQuestion1}
-use Rattle.rounds.specs.Call.{takeQuestions, taken}
-use Rattle.rounds.specs.Lent.{takenNext}
-use Rattle.rounds.proofs.NodeLaws.{Ordered, nodeInOrder-ordered, ordered-nodeInOrder, nodeKeys-nodeOf}
-use Rattle.rounds.proofs.CallLaws.{takeQuestions-yes, taken-done, taken-refused, ordered-taken}
-use Rattle.rounds.proofs.TakeLaws.{takenNext-taken, ordered-takenNext}
+use Rattle.rule.specs.declared.node.Node.{Node}
+use Rattle.rule.specs.declared.answer.Taken.{Taken}
+use Rattle.rule.specs.Node.{nodeInOrder, nodeKeys, pendingOf}
+use Rattle.rule.specs.Table.{tableWith}
+use Rattle.rule.specs.Question.{nodeQuestion1}
+use Rattle.rule.specs.Call.{takeQuestions, taken}
+use Rattle.nodes.specs.Lent.{takenNext}
+use Rattle.rule.proofs.NodeLaws.{Ordered, nodeInOrder-ordered, ordered-nodeInOrder, nodeKeys-nodeOf}
+use Rattle.rule.proofs.CallLaws.{takeQuestions-yes, taken-done, taken-refused, ordered-taken}
+use Rattle.nodes.proofs.TakeLaws.{takenNext-taken, ordered-takenNext}
 use Rattle.wire.specs.Frame.{allPass}
 use Rattle.wire.specs.Image.{Shaped}
 use Rattle.host.specs.Taking.{questions6, takenInTurn, takenUntil}

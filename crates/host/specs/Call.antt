@@ -7,11 +7,11 @@ use mathlib.Core.Path.{_≡_}
 use lib.IntN.{ℤ, pos, negℤ}
 use lib.ListN.{length}
 use Rattle.claims.specs.Question.{Question, firstNo, settle}
-use Rattle.rounds.specs.declared.node.Node.{Node}
-use Rattle.rounds.specs.declared.answer.Taken.{Taken}
-use Rattle.rounds.specs.Node.{nodeKeys, nodeInOrder}
-use Rattle.rounds.specs.Question.{question15}
-use Rattle.rounds.specs.Call.{writtenOver}
+use Rattle.rule.specs.declared.node.Node.{Node}
+use Rattle.rule.specs.declared.answer.Taken.{Taken}
+use Rattle.rule.specs.Node.{nodeKeys, nodeInOrder}
+use Rattle.rule.specs.Question.{question15}
+use Rattle.rule.specs.Call.{writtenOver}
 use Rattle.wire.specs.Frame.{frameClaims, readFrameQuestions}
 use Rattle.wire.specs.Image.{imageLimit, nodeBytes, readImageQuestions, readImage}
 use Rattle.host.specs.Taking.{questions6, takenInTurn}

@@ -7,9 +7,9 @@ use lib.Dec.{eqb}
 use Rattle.claims.specs.declared.claim.Claim.{Claim}
 use Rattle.claims.specs.Question.{Question, question6}
 use Rattle.claims.specs.Reply.{ends, hear}
-use Rattle.rounds.specs.declared.node.Node.{Node}
-use Rattle.rounds.specs.declared.answer.Taken.{Taken}
-use Rattle.rounds.specs.Call.{taken}
+use Rattle.rule.specs.declared.node.Node.{Node}
+use Rattle.rule.specs.declared.answer.Taken.{Taken}
+use Rattle.rule.specs.Call.{taken}
 
 -- "In a frame, 6 is put claim by claim": each time of a store that has heard the claims before.
 abbrev pub questions6 : List Claim → List ℕ → List Question

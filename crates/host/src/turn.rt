@@ -8,7 +8,7 @@ ghost use mathlib.Core.Path.{_≡_};
 ghost use mathlib.Core.Bool.{true};
 ghost use Prim.Native.Nat.{_≤_};
 ghost use lib.ListN.{take};
-ghost use Rattle.rounds.specs.Node.{nodeInOrder};
+ghost use Rattle.rule.specs.Node.{nodeInOrder};
 ghost use Rattle.wire.specs.Frame.{frameLimit, allPass};
 ghost use Rattle.host.specs.Taking.{takenUntil};
 

@@ -11,10 +11,10 @@ use Rattle.claims.specs.Store.{limit, holds, insert}
 use Rattle.claims.proofs.Tests.{lt-or-le}
 use Rattle.claims.proofs.Rising.{Above, Rising, rising-same, mem-holds, holds-mem, holds-absent, absent-holds}
 use Rattle.claims.proofs.Insert.{mem-insert-old, insert-mem, insert-rising, insert-held, length-insert-missing}
-use Rattle.rounds.specs.Round.{union, leftEnd, rightEnd, pair, anyFalse, roundOf}
-use Rattle.rounds.proofs.Union.{union-self, union-comm, union-rising, union-left, union-right, length-left-union, length-right-union}
-use Rattle.rounds.proofs.Pair.{size, rises-pair}
-use Rattle.rounds.proofs.Half.{Rounded, rounded}
+use Rattle.rule.specs.Round.{union, leftEnd, rightEnd, pair, anyFalse, roundOf}
+use Rattle.rule.proofs.Union.{union-self, union-comm, union-rising, union-left, union-right, length-left-union, length-right-union}
+use Rattle.rule.proofs.Pair.{size, rises-pair}
+use Rattle.rule.proofs.Half.{Rounded, rounded}
 use Rattle.meeting.specs.Statement.{without, apart}
 use Rattle.meeting.proofs.Progress.{grown-size, progress}
 

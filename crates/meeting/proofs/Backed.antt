@@ -17,14 +17,14 @@ use Rattle.claims.proofs.Span.{first, last, mem-first, mem-last, length-span, s
 use Rattle.claims.proofs.QuestionLaws.{Passes, passes, judged-firstNo}
 use Rattle.claims.proofs.ClaimLaws.{spanClaim, spanClaim-passes, claimOf-span, wholeClaim-span}
 use Rattle.claims.proofs.ReplyLaws.{adding-mem, hear-rising, hear-held, Spanned, reply-spanned}
-use Rattle.rounds.specs.Table.{serve, sending}
-use Rattle.rounds.specs.Round.{union, End, leftEnd, rightEnd, Pair, pair, Entry, delivered, answers, Line, Run, run, half, roundOf}
-use Rattle.rounds.proofs.TableLaws.{sent-mem}
-use Rattle.rounds.proofs.NodeLaws.{Fits}
-use Rattle.rounds.proofs.Pair.{Rises, rises-pair, unionOf}
-use Rattle.rounds.proofs.Entry.{Sound}
-use Rattle.rounds.proofs.Deliver.{sound-within}
-use Rattle.rounds.proofs.Half.{Fine, fine-step, opening, halfway-opening, half-run, half-fine, half-union}
+use Rattle.rule.specs.Table.{serve, sending}
+use Rattle.rule.specs.Round.{union, End, leftEnd, rightEnd, Pair, pair, Entry, delivered, answers, Line, Run, run, half, roundOf}
+use Rattle.rule.proofs.TableLaws.{sent-mem}
+use Rattle.rule.proofs.NodeLaws.{Fits}
+use Rattle.rule.proofs.Pair.{Rises, rises-pair, unionOf}
+use Rattle.rule.proofs.Entry.{Sound}
+use Rattle.rule.proofs.Deliver.{sound-within}
+use Rattle.rule.proofs.Half.{Fine, fine-step, opening, halfway-opening, half-run, half-fine, half-union}
 
 pub record Backed (u : List ℕ) (c : Claim) : Type 0 where
   pub keys : List ℕ

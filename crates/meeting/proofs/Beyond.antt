@@ -21,15 +21,15 @@ use Rattle.claims.proofs.Rising.{Rising, Sub, sub-refl, sub-trans, rising-lengt
 use Rattle.claims.proofs.Insert.{length-insert-le, insert-sub, insert-rising, insertAll-sub, insertAll-rising, mem-insertAll-new}
 use Rattle.claims.proofs.Order.{inOrder-rising, keysOf-storeOf}
 use Rattle.claims.proofs.QuestionLaws.{firstNo-yes, firstNo-no, firstNo-append-zero, claimQuestions-numbered, passes-firstNo, judged-firstNo}
-use Rattle.rounds.specs.declared.node.Node.{Node}
-use Rattle.rounds.specs.declared.delivery.Delivery.{Delivery}
-use Rattle.rounds.specs.Round.{union, leftEnd, rightEnd}
-use Rattle.rounds.specs.Question.{nodeQuestion1, question8, question9}
-use Rattle.rounds.specs.Call.{takeQuestions, roundQuestions, roundBy, met}
-use Rattle.rounds.proofs.NodeLaws.{ordered-nodeInOrder}
-use Rattle.rounds.proofs.Union.{union-rising, union-left, union-right, union-sub}
-use Rattle.rounds.proofs.Half.{Rounded}
-use Rattle.rounds.proofs.CallLaws.{met-done, met-refused, roundQuestions-yes, roundYes-rounded}
+use Rattle.rule.specs.declared.node.Node.{Node}
+use Rattle.rule.specs.declared.delivery.Delivery.{Delivery}
+use Rattle.rule.specs.Round.{union, leftEnd, rightEnd}
+use Rattle.rule.specs.Question.{nodeQuestion1, question8, question9}
+use Rattle.rule.specs.Call.{takeQuestions, roundQuestions, roundBy, met}
+use Rattle.rule.proofs.NodeLaws.{ordered-nodeInOrder}
+use Rattle.rule.proofs.Union.{union-rising, union-left, union-right, union-sub}
+use Rattle.rule.proofs.Half.{Rounded}
+use Rattle.rule.proofs.CallLaws.{met-done, met-refused, roundQuestions-yes, roundYes-rounded}
 use Rattle.meeting.specs.Event.{Event, To, enters, delivers, meets}
 use Rattle.meeting.specs.World.{World, start, Outcome, outcome, after, afterAll, numbers, enteredBy, keysEntered}
 use Rattle.meeting.specs.Premise.{AllMeant}

@@ -18,13 +18,13 @@ use Rattle.claims.proofs.Order.{inOrder-rising}
 use Rattle.claims.proofs.Span.{mem-first, mem-last, first-le-last, between-first-last}
 use Rattle.claims.proofs.ClaimLaws.{spanClaim, claim-same, wholeClaim-span}
 use Rattle.claims.proofs.ReplyLaws.{hear-held, own-between}
-use Rattle.rounds.specs.Round.{End, leftEnd, rightEnd, other, Pair, pair, keysAt, holding, Entry, waits, delivered, answers, line, Run, noting, runAll, half, roundOf}
-use Rattle.rounds.specs.Call.{roundQuestions, met}
-use Rattle.rounds.proofs.Union.{union-self}
-use Rattle.rounds.proofs.Pair.{rises-pair, holding-same}
-use Rattle.rounds.proofs.Entry.{entry}
-use Rattle.rounds.proofs.Half.{Halfway, halfway-opening, opening, half-opening, runAll-nil, runAll-cons}
-use Rattle.rounds.proofs.CallLaws.{RoundYes, roundQuestions-yes, met-done}
+use Rattle.rule.specs.Round.{End, leftEnd, rightEnd, other, Pair, pair, keysAt, holding, Entry, waits, delivered, answers, line, Run, noting, runAll, half, roundOf}
+use Rattle.rule.specs.Call.{roundQuestions, met}
+use Rattle.rule.proofs.Union.{union-self}
+use Rattle.rule.proofs.Pair.{rises-pair, holding-same}
+use Rattle.rule.proofs.Entry.{entry}
+use Rattle.rule.proofs.Half.{Halfway, halfway-opening, opening, half-opening, runAll-nil, runAll-cons}
+use Rattle.rule.proofs.CallLaws.{RoundYes, roundQuestions-yes, met-done}
 use Rattle.meeting.proofs.Backed.{Backed, backed-adding}
 
 answer-match : (c : Claim) (l : List ℕ) → same (own c l) c ≡ true → answer c l ≡ Match

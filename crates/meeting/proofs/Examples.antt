@@ -12,9 +12,9 @@ use Rattle.claims.specs.Store.{limit, zeros, storeOf, emptyStore, inOrder, allZ
 use Rattle.claims.specs.Cases.{claim}
 use Rattle.claims.specs.Reply.{answer}
 use Rattle.claims.specs.Call.{judged, entered, made, replied}
-use Rattle.rounds.specs.Node.{blanks, nodeOf, emptyNode, nodeInOrder}
-use Rattle.rounds.specs.Round.{run, runAll, half, roundOf}
-use Rattle.rounds.specs.Call.{taken, beaten, beatenLent, met, metLent}
+use Rattle.rule.specs.Node.{blanks, nodeOf, emptyNode, nodeInOrder}
+use Rattle.rule.specs.Round.{run, runAll, half, roundOf}
+use Rattle.rule.specs.Call.{taken, beaten, beatenLent, met, metLent}
 use Rattle.meeting.specs.World.{start, outcome, afterAll, numbers}
 use Rattle.meeting.specs.Premise.{AllMeant}
 use Rattle.meeting.specs.Statement.{end, keysIn, enteredIn, different, apart, rounds, noneFalse, Demand3}

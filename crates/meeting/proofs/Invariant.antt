@@ -20,16 +20,16 @@ use Rattle.claims.proofs.Insert.{mem-insert-new, mem-insert-old, insert-sub, in
 use Rattle.claims.proofs.Order.{keysOf-storeOf, count-storeOf, inOrder-rising}
 use Rattle.claims.proofs.QuestionLaws.{passes}
 use Rattle.claims.proofs.ReplyLaws.{hear-rising, hear-old, hear-sub}
-use Rattle.rounds.specs.declared.node.Node.{Node}
-use Rattle.rounds.specs.declared.delivery.Delivery.{Delivery}
-use Rattle.rounds.specs.Table.{serve, sending, tableWith}
-use Rattle.rounds.specs.Node.{nodeKeys, pendingOf, nodeOf}
-use Rattle.rounds.specs.Round.{union, leftEnd, rightEnd, Line}
-use Rattle.rounds.specs.Call.{takeQuestions, beatQuestions, roundQuestions, roundBy}
-use Rattle.rounds.proofs.NodeLaws.{Ordered, restored, ordered-restored, nodeKeys-nodeOf, store-nodeOf, emptyNode-nodeOf, ordered-emptyNode}
-use Rattle.rounds.proofs.Union.{union-rising, union-sub}
-use Rattle.rounds.proofs.Half.{Rounded}
-use Rattle.rounds.proofs.CallLaws.{TakeYes, takeQuestions-yes, ordered-taken, ordered-beaten, length-nodeKeys, length-pendingOf, RoundYes, roundQuestions-yes, roundYes-rounded}
+use Rattle.rule.specs.declared.node.Node.{Node}
+use Rattle.rule.specs.declared.delivery.Delivery.{Delivery}
+use Rattle.rule.specs.Table.{serve, sending, tableWith}
+use Rattle.rule.specs.Node.{nodeKeys, pendingOf, nodeOf}
+use Rattle.rule.specs.Round.{union, leftEnd, rightEnd, Line}
+use Rattle.rule.specs.Call.{takeQuestions, beatQuestions, roundQuestions, roundBy}
+use Rattle.rule.proofs.NodeLaws.{Ordered, restored, ordered-restored, nodeKeys-nodeOf, store-nodeOf, emptyNode-nodeOf, ordered-emptyNode}
+use Rattle.rule.proofs.Union.{union-rising, union-sub}
+use Rattle.rule.proofs.Half.{Rounded}
+use Rattle.rule.proofs.CallLaws.{TakeYes, takeQuestions-yes, ordered-taken, ordered-beaten, length-nodeKeys, length-pendingOf, RoundYes, roundQuestions-yes, roundYes-rounded}
 use Rattle.meeting.specs.Event.{Event, To, enters, makes, delivers, beats, meets}
 use Rattle.meeting.specs.World.{World, start, withNode, withStore, Outcome, outcome, after, afterAll, numbers, enteredBy, keysEntered}
 use Rattle.meeting.specs.Premise.{Refused, Meant, AllMeant}

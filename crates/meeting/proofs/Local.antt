@@ -24,10 +24,10 @@ use Rattle.claims.proofs.Span.{first, last, length-span, span-join, span-inside
 use Rattle.claims.proofs.QuestionLaws.{Passes}
 use Rattle.claims.proofs.ClaimLaws.{spanClaim, claimOf-span}
 use Rattle.claims.proofs.ReplyLaws.{hear-rising, hear-lo, hear-hi, own-between, helper-positions, Answered, matched, asked, helped-one, helped-two, Part, reply-answered}
-use Rattle.rounds.specs.Round.{End, Pair, keysAt, holding, Entry, waits, receiver, keysBefore, delivered, answers, Line, line, run}
-use Rattle.rounds.proofs.Pair.{Rises}
-use Rattle.rounds.proofs.Entry.{sound-limit}
-use Rattle.rounds.proofs.Half.{Fine, fine-step}
+use Rattle.rule.specs.Round.{End, Pair, keysAt, holding, Entry, waits, receiver, keysBefore, delivered, answers, Line, line, run}
+use Rattle.rule.proofs.Pair.{Rises}
+use Rattle.rule.proofs.Entry.{sound-limit}
+use Rattle.rule.proofs.Half.{Fine, fine-step}
 
 -- ---- keys added, seen through a range
 

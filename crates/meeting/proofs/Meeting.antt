@@ -16,14 +16,14 @@ use Rattle.claims.specs.Question.{firstNo}
 use Rattle.claims.proofs.Tests.{and-left, and-right, eq-or-ne}
 use Rattle.claims.proofs.Rising.{Rising, Sub, rising-length}
 use Rattle.claims.proofs.Order.{keysOf-storeOf, inOrder-storeOf, inOrder-rising}
-use Rattle.rounds.specs.declared.node.Node.{Node}
-use Rattle.rounds.specs.declared.delivery.Delivery.{Delivery}
-use Rattle.rounds.specs.Round.{union, leftEnd, rightEnd}
-use Rattle.rounds.specs.Call.{roundQuestions, roundBy}
-use Rattle.rounds.proofs.NodeLaws.{restored}
-use Rattle.rounds.proofs.Union.{union-comm, union-rising}
-use Rattle.rounds.proofs.Half.{Rounded}
-use Rattle.rounds.proofs.CallLaws.{RoundYes, roundQuestions-yes, roundYes-rounded}
+use Rattle.rule.specs.declared.node.Node.{Node}
+use Rattle.rule.specs.declared.delivery.Delivery.{Delivery}
+use Rattle.rule.specs.Round.{union, leftEnd, rightEnd}
+use Rattle.rule.specs.Call.{roundQuestions, roundBy}
+use Rattle.rule.proofs.NodeLaws.{restored}
+use Rattle.rule.proofs.Union.{union-comm, union-rising}
+use Rattle.rule.proofs.Half.{Rounded}
+use Rattle.rule.proofs.CallLaws.{RoundYes, roundQuestions-yes, roundYes-rounded}
 use Rattle.meeting.specs.Event.{Event, meets}
 use Rattle.meeting.specs.World.{World, withStore, Outcome, outcome, after, afterAll, numbers}
 use Rattle.meeting.specs.Statement.{keysIn, apart, Turn, straight, turned, rounds, falseIn, noneFalse}

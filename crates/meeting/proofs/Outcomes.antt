@@ -20,13 +20,13 @@ use Rattle.claims.specs.Call.{enterQuestions, entered, makeQuestions, made, rep
 use Rattle.claims.proofs.Tests.{and-left, and-right, eq-or-ne}
 use Rattle.claims.proofs.QuestionLaws.{firstNo-zero, firstNo-append-zero, firstNo-append-no, Passes, passes, claimQuestions-numbered}
 use Rattle.claims.proofs.ReplyLaws.{numberOf-answer}
-use Rattle.rounds.specs.declared.node.Node.{Node}
-use Rattle.rounds.specs.declared.delivery.Delivery.{Delivery}
-use Rattle.rounds.specs.Table.{tableWith, serve, sending}
-use Rattle.rounds.specs.Node.{nodeKeys, pendingOf, nodeOf}
-use Rattle.rounds.specs.Round.{Line, transcript}
-use Rattle.rounds.specs.Call.{takeQuestions, claimWords, beatQuestions, roundQuestions, roundBy}
-use Rattle.rounds.proofs.CallLaws.{taken-done, taken-refused, beaten-done, beaten-refused, beatenLent-done, met-done, met-refused, metLent-done}
+use Rattle.rule.specs.declared.node.Node.{Node}
+use Rattle.rule.specs.declared.delivery.Delivery.{Delivery}
+use Rattle.rule.specs.Table.{tableWith, serve, sending}
+use Rattle.rule.specs.Node.{nodeKeys, pendingOf, nodeOf}
+use Rattle.rule.specs.Round.{Line, transcript}
+use Rattle.rule.specs.Call.{takeQuestions, claimWords, beatQuestions, roundQuestions, roundBy}
+use Rattle.rule.proofs.CallLaws.{taken-done, taken-refused, beaten-done, beaten-refused, beatenLent-done, met-done, met-refused, metLent-done}
 use Rattle.meeting.specs.Event.{Event, To, enters, makes, delivers, beats, meets}
 use Rattle.meeting.specs.World.{withNode, withStore, Outcome, readClaims, readRecords, outcome, enteredBy}
 

@@ -20,10 +20,10 @@ use Rattle.claims.proofs.Span.{first, last, between-first-last}
 use Rattle.claims.proofs.QuestionLaws.{Passes}
 use Rattle.claims.proofs.ClaimLaws.{spanClaim, rangeClaim, spanClaim-range, wholeClaim-span}
 use Rattle.claims.proofs.ReplyLaws.{hear-rising, hear-lo, hear-hi, Answered, matched, asked, helped-one, helped-two, reply-answered, match-same}
-use Rattle.rounds.specs.Round.{union, End, leftEnd, rightEnd, other, Pair, pair, keysAt, Entry, waits, receiver, keysBefore, delivered, answers, Line, Run, anyFalse, run, half, roundOf}
-use Rattle.rounds.proofs.Pair.{other-other, keysAt-receiver, Rises, Grown, unionOf, rises-pair, size, delivered-size, delivered-heard, delivered-same}
-use Rattle.rounds.proofs.Entry.{Sound, sound-ends, sound-cnt, sound-limit, entry}
-use Rattle.rounds.proofs.Half.{Fine, fine-step, run-fine, run-grown, halfway-opening, opening, half-run, half-fine, half-ends, half-grown, half-union}
+use Rattle.rule.specs.Round.{union, End, leftEnd, rightEnd, other, Pair, pair, keysAt, Entry, waits, receiver, keysBefore, delivered, answers, Line, Run, anyFalse, run, half, roundOf}
+use Rattle.rule.proofs.Pair.{other-other, keysAt-receiver, Rises, Grown, unionOf, rises-pair, size, delivered-size, delivered-heard, delivered-same}
+use Rattle.rule.proofs.Entry.{Sound, sound-ends, sound-cnt, sound-limit, entry}
+use Rattle.rule.proofs.Half.{Fine, fine-step, run-fine, run-grown, halfway-opening, opening, half-run, half-fine, half-ends, half-grown, half-union}
 
 -- ---- growth, by sizes
 

@@ -6,8 +6,8 @@ use mathlib.Core.List.{List, []}
 use Rattle.claims.specs.Store.{limit}
 use Rattle.claims.proofs.Rising.{true-rising}
 use Rattle.claims.proofs.Order.{inOrder-rising}
-use Rattle.rounds.proofs.NodeLaws.{ordered-nodeInOrder}
-use Rattle.rounds.proofs.CallLaws.{met-bounded}
+use Rattle.rule.proofs.NodeLaws.{ordered-nodeInOrder}
+use Rattle.rule.proofs.CallLaws.{met-bounded}
 use Rattle.meeting.specs.Event.{Event}
 use Rattle.meeting.specs.World.{World, start}
 use Rattle.meeting.specs.Premise.{AllMeant}

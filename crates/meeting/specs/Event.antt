@@ -3,7 +3,7 @@
 use Prim.Native.Nat.{ℕ}
 use mathlib.Core.List.{List}
 use Rattle.claims.specs.declared.claim.Claim.{Claim}
-use Rattle.rounds.specs.declared.delivery.Delivery.{Delivery}
+use Rattle.rule.specs.declared.delivery.Delivery.{Delivery}
 
 -- "either to the reply, which changes its store, or to the table"
 pub data To : Type 0 where

@@ -4,8 +4,8 @@ use Prim.Native.Nat.{ℕ}
 use mathlib.Core.List.{List, [], _∷_}
 use lib.ListN.{replicate}
 use Rattle.claims.specs.Cases.{claim}
-use Rattle.rounds.specs.declared.delivery.Delivery.{Delivery}
-use Rattle.rounds.specs.Cases.{stale}
+use Rattle.rule.specs.declared.delivery.Delivery.{Delivery}
+use Rattle.rule.specs.Cases.{stale}
 use Rattle.meeting.specs.Event.{Event, To, enters, makes, delivers, beats, meets}
 use Rattle.meeting.specs.Statement.{Turn, straight, turned}
 

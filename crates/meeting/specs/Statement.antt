@@ -7,10 +7,10 @@ use mathlib.Core.Logic.{_↔_}
 use mathlib.Core.Path.{_≡_}
 use lib.ListN.{length}
 use Rattle.claims.specs.Store.{storeOf, rising, holds, allZero, insertAll}
-use Rattle.rounds.specs.declared.delivery.Delivery.{Delivery}
-use Rattle.rounds.specs.Node.{nodeInOrder, nodeKeys}
-use Rattle.rounds.specs.Round.{union, anyFalse}
-use Rattle.rounds.specs.Call.{met, roundBy}
+use Rattle.rule.specs.declared.delivery.Delivery.{Delivery}
+use Rattle.rule.specs.Node.{nodeInOrder, nodeKeys}
+use Rattle.rule.specs.Round.{union, anyFalse}
+use Rattle.rule.specs.Call.{met, roundBy}
 use Rattle.meeting.specs.Event.{Event, enters, makes, delivers, beats, meets}
 use Rattle.meeting.specs.World.{World, start, after, afterAll, numbers, keysEntered}
 

@@ -10,10 +10,10 @@ use Rattle.claims.specs.declared.claim.Claim.{Claim}
 use Rattle.claims.specs.declared.store.Store.{Store}
 use Rattle.claims.specs.Reply.{numberOf, claimsOf}
 use Rattle.claims.specs.Call.{entered, made, replied}
-use Rattle.rounds.specs.declared.node.Node.{Node}
-use Rattle.rounds.specs.declared.delivery.Delivery.{Delivery}
-use Rattle.rounds.specs.Node.{emptyNode}
-use Rattle.rounds.specs.Call.{taken, beaten, beatenLent, met, metLent}
+use Rattle.rule.specs.declared.node.Node.{Node}
+use Rattle.rule.specs.declared.delivery.Delivery.{Delivery}
+use Rattle.rule.specs.Node.{emptyNode}
+use Rattle.rule.specs.Call.{taken, beaten, beatenLent, met, metLent}
 use Rattle.meeting.specs.Event.{Event, To, enters, makes, delivers, beats, meets}
 
 -- Each kiosk's node, and "the claims made .. as they were then". A list of events of n kiosks names those below n (Premise), and changes no other.

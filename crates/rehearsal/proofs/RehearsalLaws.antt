@@ -14,9 +14,9 @@ use Rattle.claims.specs.Question.{Question, firstNo, settle}
 use Rattle.claims.proofs.Order.{count-storeOf}
 use Rattle.claims.proofs.QuestionLaws.{Numbered, firstNo-zero, firstNo-append-zero, firstNo-append-no, settle-done, settle-refused}
 use Rattle.claims.proofs.Tests.{and-right}
-use Rattle.rounds.specs.declared.answer.Met.{Met}
-use Rattle.rounds.specs.Call.{roundQuestions, roundBy, met, metWords}
-use Rattle.rounds.proofs.CallLaws.{met-done, met-refused, metWords-done, metWords-refused, roundQuestions-yes, roundYes-rounded}
+use Rattle.rule.specs.declared.answer.Met.{Met}
+use Rattle.rule.specs.Call.{roundQuestions, roundBy, met, metWords}
+use Rattle.rule.proofs.CallLaws.{met-done, met-refused, metWords-done, metWords-refused, roundQuestions-yes, roundYes-rounded}
 use Rattle.wire.specs.declared.answer.Imaged.{Imaged}
 use Rattle.wire.specs.declared.answer.Length.{Length}
 use Rattle.wire.specs.Length.{noLength}

@@ -10,9 +10,9 @@ use lib.ListN.{length, drop, getD, set, length-set, length-map}
 use lib.Seq.{getD-drop}
 use Rattle.claims.specs.Question.{firstNo, settle}
 use Rattle.claims.proofs.QuestionLaws.{settle-done, settle-refused}
-use Rattle.rounds.specs.declared.delivery.Delivery.{Delivery}
-use Rattle.rounds.specs.Round.{Line}
-use Rattle.rounds.specs.Call.{roundBy, deliveryWords, writtenOver}
+use Rattle.rule.specs.declared.delivery.Delivery.{Delivery}
+use Rattle.rule.specs.Round.{Line}
+use Rattle.rule.specs.Call.{roundBy, deliveryWords, writtenOver}
 use Rattle.wire.proofs.Places.{putAt-nil, putAt-zero}
 use Rattle.rehearsal.specs.declared.answer.Rehearsed.{Rehearsed}
 use Rattle.rehearsal.specs.Rehearsal.{firstBytes, secondBytes, storeIn, rehearseQuestions, rehearsed, rehearsedWords}

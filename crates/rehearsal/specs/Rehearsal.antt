@@ -5,8 +5,8 @@ use mathlib.Core.List.{List, _∷_, _++_}
 use lib.ListN.{length, take, drop}
 use Rattle.claims.specs.declared.store.Store.{Store}
 use Rattle.claims.specs.Question.{Question, firstNo, settle}
-use Rattle.rounds.specs.Round.{transcript}
-use Rattle.rounds.specs.Call.{roundQuestions, roundBy, deliveryWords, writtenOver}
+use Rattle.rule.specs.Round.{transcript}
+use Rattle.rule.specs.Call.{roundQuestions, roundBy, deliveryWords, writtenOver}
 use Rattle.wire.specs.Image.{sections, toldLength, frontQuestion14, readImageQuestions, readImage}
 use Rattle.rehearsal.specs.declared.answer.Rehearsed.{Rehearsed}
 

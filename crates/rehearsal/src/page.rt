@@ -5,7 +5,7 @@ use crate::run::rehearse;
 ghost use mathlib.Core.Path.{_≡_};
 ghost use Prim.Native.Nat.{_+_, _*_, _≤_};
 ghost use lib.ListN.{length};
-ghost use Rattle.rounds.specs.Call.{writtenOver};
+ghost use Rattle.rule.specs.Call.{writtenOver};
 ghost use Rattle.rehearsal.specs.Text.{field, labelled, letter, fourAt, rowAt, rows, lastLine, refusedLine, lentRecords, printed, fieldLimit, lineLimit, lastLimit};
 ghost use Rattle.rehearsal.specs.Written.{Written};
 

@@ -11,7 +11,7 @@ use lib.ListN.{length, take, drop, length-take}
 use Rattle.claims.specs.Store.{limit, rising, allZero}
 use Rattle.claims.specs.Lent.{orderedIn}
 use Rattle.claims.proofs.Tests.{and-left, and-right}
-use Rattle.rounds.specs.Round.{union}
+use Rattle.rule.specs.Round.{union}
 use Rattle.rounds.specs.Core.{asked}
 
 -- ---- a run that passes question 1

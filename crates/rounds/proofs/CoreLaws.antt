@@ -18,15 +18,15 @@ use Rattle.claims.proofs.Rising.{Rising, Sub, rising-length}
 use Rattle.claims.proofs.QuestionLaws.{Passes}
 use Rattle.claims.proofs.ReplyLaws.{hear-rising, hear-sub}
 use Rattle.claims.proofs.LentLaws.{keysHearing-fits, replyIn-fits, makeIn-store}
-use Rattle.rounds.specs.declared.delivery.Delivery.{Delivery}
-use Rattle.rounds.specs.Round.{End, leftEnd, rightEnd, senderNumber, Pair, pair, keysAt, holding, Entry, waits, receiver, keysBefore, delivered, answers, Line, Run, run, noting, runAll, half, followed, roundOf, transcript, union}
-use Rattle.rounds.specs.Call.{deliveryWords, writtenOver}
+use Rattle.rule.specs.declared.delivery.Delivery.{Delivery}
+use Rattle.rule.specs.Round.{End, leftEnd, rightEnd, senderNumber, Pair, pair, keysAt, holding, Entry, waits, receiver, keysBefore, delivered, answers, Line, Run, run, noting, runAll, half, followed, roundOf, transcript, union}
+use Rattle.rule.specs.Call.{deliveryWords, writtenOver}
 use Rattle.rounds.specs.Core.{recordsIn, claimIn, putRecord, putRecords, nextAfter, Core, toRight, toLeft, step, steps, finish, wholeWords, wholeNext, opened, reopened, both}
-use Rattle.rounds.proofs.Pair.{Rises, unionOf, rises-pair}
-use Rattle.rounds.proofs.Entry.{Sound, weights, sound-limit, length-waits}
-use Rattle.rounds.proofs.Deliver.{adding-within}
-use Rattle.rounds.proofs.Half.{Fine, fine-step, weights-step, fine-length, run-nil, run-cons, run-more, opening, halfway-opening, half-run, half-fine, half-union, length-half}
-use Rattle.rounds.proofs.Union.{length-left-union, length-right-union}
+use Rattle.rule.proofs.Pair.{Rises, unionOf, rises-pair}
+use Rattle.rule.proofs.Entry.{Sound, weights, sound-limit, length-waits}
+use Rattle.rule.proofs.Deliver.{adding-within}
+use Rattle.rule.proofs.Half.{Fine, fine-step, weights-step, fine-length, run-nil, run-cons, run-more, opening, halfway-opening, half-run, half-fine, half-union, length-half}
+use Rattle.rule.proofs.Union.{length-left-union, length-right-union}
 use Rattle.rounds.proofs.Steps.{steps-on, steps-off}
 use Rattle.rounds.proofs.WordsLaws.{delivery, length-over, sender-at, claim-at, putRecords-append}
 

@@ -4,7 +4,7 @@ use native.Mathlib.Omega.{arith}
 use mir.Syntax.{Ty, Mutability, named, w64, tyInt, tyRef}
 use denote.Memory.{pointee}
 use denote.Slice.{sliceTy}
-use Rattle.rounds.proofs.delivery.Delivery as D
+use Rattle.rule.proofs.delivery.Delivery as D
 
 abbrev pub word : Ty
 word = tyInt w64

@@ -10,13 +10,13 @@ use Rattle.claims.specs.Store.{limit, keysOf, storeOf, inOrder}
 use Rattle.claims.specs.Question.{firstNo}
 use Rattle.claims.proofs.Order.{inOrder-rising, length-keysOf, storeOf-keysOf, count-storeOf}
 use Rattle.claims.proofs.LentLaws.{orderedIn-inOrder}
-use Rattle.rounds.specs.declared.answer.Met.{Met}
-use Rattle.rounds.specs.declared.delivery.Delivery.{Delivery}
+use Rattle.rule.specs.declared.answer.Met.{Met}
+use Rattle.rule.specs.declared.delivery.Delivery.{Delivery}
 use Rattle.rounds.specs.declared.flat.Reached.{Reached}
-use Rattle.rounds.specs.Round.{Line, roundOf, transcript, union}
-use Rattle.rounds.specs.Call.{roundQuestions, roundBy, met, metWords, deliveryWords, writtenOver}
+use Rattle.rule.specs.Round.{Line, roundOf, transcript, union}
+use Rattle.rule.specs.Call.{roundQuestions, roundBy, met, metWords, deliveryWords, writtenOver}
 use Rattle.rounds.specs.Core.{asked, Core, both, Stepped}
-use Rattle.rounds.proofs.CallLaws.{RoundYes, roundQuestions-yes, met-done, met-refused, metWords-done, metWords-refused}
+use Rattle.rule.proofs.CallLaws.{RoundYes, roundQuestions-yes, met-done, met-refused, metWords-done, metWords-refused}
 use Rattle.rounds.proofs.CoreLaws.{Laid, laid-both, noted}
 
 -- a store by its parts

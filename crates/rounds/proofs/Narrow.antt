@@ -9,10 +9,10 @@ use lib.Dec.{lit<}
 use lib.ListN.{length, getD}
 use Rattle.claims.specs.Store.{limit}
 use Rattle.claims.proofs.Rising.{Rising}
-use Rattle.rounds.specs.declared.delivery.Delivery.{Delivery}
-use Rattle.rounds.specs.Round.{union, End, leftEnd, rightEnd, senderNumber, Pair, pair, Entry, delivered, answers, Line, Run, run, half, roundOf}
-use Rattle.rounds.proofs.Pair.{Rises, rises-pair, unionOf}
-use Rattle.rounds.proofs.Half.{Fine, fine-passes, fine-step, opening, halfway-opening, half-run, half-fine, half-union, roundOf-halves}
+use Rattle.rule.specs.declared.delivery.Delivery.{Delivery}
+use Rattle.rule.specs.Round.{union, End, leftEnd, rightEnd, senderNumber, Pair, pair, Entry, delivered, answers, Line, Run, run, half, roundOf}
+use Rattle.rule.proofs.Pair.{Rises, rises-pair, unionOf}
+use Rattle.rule.proofs.Half.{Fine, fine-passes, fine-step, opening, halfway-opening, half-run, half-fine, half-union, roundOf-halves}
 
 pub record Narrow (d : Delivery) : Type 0 where
   pub sender : d .sender < 256

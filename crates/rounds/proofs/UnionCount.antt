@@ -11,8 +11,8 @@ use lib.Seq.{drop-cons}
 use Rattle.claims.specs.Store.{insertAll}
 use Rattle.claims.proofs.Rising.{Rising, Sub, above-mem, mem-above, sub-tail, rising-drop}
 use Rattle.claims.proofs.Insert.{insertAll-held}
-use Rattle.rounds.specs.Round.{union}
-use Rattle.rounds.proofs.Union.{union-rising, union-left, union-right, union-sub, union-mem, union-is}
+use Rattle.rule.specs.Round.{union}
+use Rattle.rule.proofs.Union.{union-rising, union-left, union-right, union-sub, union-mem, union-is}
 
 -- the first keys of two rising lists
 union-less : (x y : ℕ) (xs ys : List ℕ) → Rising (x ∷ xs) → Rising (y ∷ ys) → x < y → union (x ∷ xs) (y ∷ ys) ≡ x ∷ union xs (y ∷ ys)

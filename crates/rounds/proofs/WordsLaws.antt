@@ -12,10 +12,10 @@ use lib.Seq.{sets, sets-eq, getD-append-add, take-append-seam, drop-append-add, 
 use Rattle.claims.specs.declared.claim.Claim.{Claim}
 use Rattle.claims.specs.Store.{limit}
 use Rattle.claims.proofs.ClaimLaws.{claim-ext}
-use Rattle.rounds.specs.declared.delivery.Delivery.{Delivery}
-use Rattle.rounds.specs.Call.{deliveryWords, writtenOver}
+use Rattle.rule.specs.declared.delivery.Delivery.{Delivery}
+use Rattle.rule.specs.Call.{deliveryWords, writtenOver}
 use Rattle.rounds.specs.Core.{recordWords, recordsIn, claimIn, putRecord, next, putRecords, nextAfter}
-use Rattle.rounds.proofs.Words.{length-deliveryWords, deliveryWords-append, length-writtenOver}
+use Rattle.rule.proofs.Words.{length-deliveryWords, deliveryWords-append, length-writtenOver}
 use Rattle.rounds.proofs.Records.{claimIn-some, next-some, next-length, length-putRecord}
 
 -- the record of a claim from one end

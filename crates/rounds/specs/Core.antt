@@ -17,7 +17,7 @@ use Rattle.claims.specs.Reply.{claimsOf}
 use Rattle.claims.specs.Lent.{orderedIn, makeIn, keysHearing, replyIn}
 use Rattle.claims.specs.Question.{question, firstNo}
 use Rattle.rounds.specs.declared.flat.Reached.{Reached}
-use Rattle.rounds.specs.Question.{question8, question9}
+use Rattle.rule.specs.Question.{question8, question9}
 
 -- ---- records in words, five to a record
 

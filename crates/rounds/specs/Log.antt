@@ -8,8 +8,8 @@ use lib.Dec.{ltb}
 use lib.ListN.{take, drop, getD, set}
 use Rattle.claims.specs.declared.store.Store.{Store}
 use Rattle.claims.specs.Claim.{noClaim}
-use Rattle.rounds.specs.declared.delivery.Delivery.{Delivery}
-use Rattle.rounds.specs.Call.{metWords}
+use Rattle.rule.specs.declared.delivery.Delivery.{Delivery}
+use Rattle.rule.specs.Call.{metWords}
 use Rattle.rounds.specs.Core.{recordsIn, claimIn}
 
 -- the record of zeros, which stands where there is none

@@ -1,6 +1,5 @@
 // A round on flat words, for callers with plain parameters. The lent records are the queue itself: those before `head` are delivered, those from
 // `head` to `tail` wait. Question 1 is put once to each store, and no store is copied for a delivery.
-use crate::answer::Met;
 use crate::record::RECORD;
 use crate::record::claim_in;
 use crate::record::put_answer;
@@ -9,14 +8,15 @@ use claims::Store;
 use claims::make_in;
 use claims::ordered_in;
 use claims::reply_in;
+use rule::Met;
 ghost use mathlib.Core.Path.{_≡_};
 ghost use mathlib.Core.Bool.{Bool, true};
 ghost use Prim.Native.Nat.{_≤_, _<_, _/_, _*_};
 ghost use lib.ListN.{length, take};
 ghost use Rattle.claims.specs.Store.{limit, rising};
 ghost use Rattle.claims.specs.Lent.{orderedIn};
-ghost use Rattle.rounds.specs.Round.{union};
-ghost use Rattle.rounds.specs.Call.{met, metWords};
+ghost use Rattle.rule.specs.Round.{union};
+ghost use Rattle.rule.specs.Call.{met, metWords};
 ghost use Rattle.rounds.specs.Core.{recordsIn, wholeWords, wholeNext, step, finish, opened, reopened, both, Stepped, asked};
 
 // Where the core is: both counts, and where the next record goes.

@@ -1,27 +1,21 @@
-// The upper library: nodes with their pending claims, beats and rounds (document 01, "A round", "Pending table and beat").
-// Each public call takes any content and states its whole result, and every lent place, by an equation with a definition of specs/.
-mod answer;
-mod beats;
-mod delivery;
+// The upper library (document 01, "A round", "Pending table and beat"): a round of two stores; the calls on nodes and the types come with it from `nodes` and `rule`.
+// Each public call takes any content and states its whole result, and every lent place, by an equation with a definition.
 mod flat;
 mod log;
-mod node;
-mod order;
 mod record;
-mod taking;
 
-pub use answer::Beaten;
-pub use answer::Met;
-pub use answer::Taken;
-pub use beats::beat;
-pub use beats::beat_in;
-pub use delivery::Delivery;
 pub use flat::Reached;
 pub use flat::round_words;
 pub use log::get;
 pub use log::put;
 pub use log::round;
-pub use node::Node;
-pub use order::ordered;
-pub use taking::take;
-pub use taking::take_next;
+pub use nodes::beat;
+pub use nodes::beat_in;
+pub use nodes::ordered;
+pub use nodes::take;
+pub use nodes::take_next;
+pub use rule::Beaten;
+pub use rule::Delivery;
+pub use rule::Met;
+pub use rule::Node;
+pub use rule::Taken;

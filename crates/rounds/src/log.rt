@@ -4,14 +4,14 @@
 ghost use mathlib.Core.Path.{_≡_};
 ghost use Prim.Native.Nat.{_≤_, min};
 ghost use lib.ListN.{length, set, getD};
-ghost use Rattle.rounds.specs.Call.{met, metLent};
+ghost use Rattle.rule.specs.Call.{met, metLent};
 ghost use Rattle.rounds.specs.Log.{noDelivery, deliveryIn, copied, frontRecords, frontWords};
-use crate::answer::Met;
-use crate::delivery::Delivery;
 use crate::flat::round_words;
 use crate::record::RECORD;
 use crate::record::claim_in;
 use claims::Store;
+use rule::Delivery;
+use rule::Met;
 
 // The words of all the records that a round can fill.
 const WORDS: usize = RECORD * Delivery::RECORDS;

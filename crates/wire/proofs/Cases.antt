@@ -3,7 +3,7 @@ use mathlib.Core.List.{map}
 use mathlib.Core.Path.{_≡_, refl}
 use Rattle.claims.specs.Store.{zeros, storeOf, emptyStore, inOrder}
 use Rattle.claims.specs.Call.{judged}
-use Rattle.rounds.specs.Node.{blanks, nodeOf, emptyNode, nodeInOrder}
+use Rattle.rule.specs.Node.{blanks, nodeOf, emptyNode, nodeInOrder}
 use Rattle.wire.specs.Number.{number, bytes}
 use Rattle.wire.specs.Claim.{claimBytes, claimFrom}
 use Rattle.wire.specs.Frame.{headBytes, frameBytes, marked, countable, sized, readFrame, writeFrame, frameLent}

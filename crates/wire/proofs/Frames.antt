@@ -18,9 +18,9 @@ use Rattle.wire.specs.Claim.{claimSize}
 use Rattle.wire.specs.Run.{claim, writeRun}
 use Rattle.wire.specs.Frame.{frameLimit, headSize, versionPlace, version, frameLength, frameMost, frameCount, begins, mark, marked, countable, sized, headQuestions, allPass, fourOf, frameClaims, noFrame, question10, question11, question12, question13, readFrameQuestions, readFrame, headBytes, countPlace, question12n, writeFrameQuestions, writeFrame, frameLent, frameBytes}
 use Rattle.wire.specs.Place.{putAt}
-use Rattle.rounds.specs.Node.{blanks}
-use Rattle.rounds.specs.Question.{question15}
-use Rattle.rounds.specs.Call.{writtenOver}
+use Rattle.rule.specs.Node.{blanks}
+use Rattle.rule.specs.Question.{question15}
+use Rattle.rule.specs.Call.{writtenOver}
 use Rattle.wire.specs.declared.answer.Framed.{Framed}
 use Rattle.wire.specs.declared.answer.Length.{Length}
 use Rattle.wire.specs.Length.{noLength}

@@ -11,11 +11,11 @@ use lib.Seq.{take-append-seam}
 use Rattle.claims.specs.declared.claim.Claim.{Claim}
 use Rattle.claims.specs.Store.{limit}
 use Rattle.claims.specs.Reply.{same}
-use Rattle.rounds.specs.declared.node.Node.{Node}
-use Rattle.rounds.specs.Table.{tableLimit}
-use Rattle.rounds.specs.Node.{nodeKeys, pendingOf, nodeInOrder}
-use Rattle.rounds.specs.Call.{writtenOver}
-use Rattle.rounds.proofs.NodeLaws.{nodeInOrder-ordered, nodeOf-same, nodeKeys-nodeOf, pendingOf-nodeOf}
+use Rattle.rule.specs.declared.node.Node.{Node}
+use Rattle.rule.specs.Table.{tableLimit}
+use Rattle.rule.specs.Node.{nodeKeys, pendingOf, nodeInOrder}
+use Rattle.rule.specs.Call.{writtenOver}
+use Rattle.rule.proofs.NodeLaws.{nodeInOrder-ordered, nodeOf-same, nodeKeys-nodeOf, pendingOf-nodeOf}
 use Rattle.wire.specs.Number.{byte, Below}
 use Rattle.wire.specs.Claim.{keyWidth, countWidth, ClaimFits}
 use Rattle.wire.specs.Run.{key, claim, Each}

@@ -17,12 +17,12 @@ use Rattle.claims.specs.Question.{firstNo}
 use Rattle.claims.proofs.Order.{inOrder-count}
 use Rattle.claims.proofs.Tests.{and-left, and-right}
 use Rattle.claims.proofs.QuestionLaws.{firstNo-zero}
-use Rattle.rounds.specs.Table.{tableLimit}
-use Rattle.rounds.specs.declared.node.Node.{Node}
-use Rattle.rounds.specs.Node.{blanks, nodeOf, nodeInOrder, nodeKeys, pendingOf}
-use Rattle.rounds.specs.Question.{nodeQuestion1, question15}
-use Rattle.rounds.specs.Call.{writtenOver}
-use Rattle.rounds.proofs.NodeLaws.{nodeInOrder-ordered}
+use Rattle.rule.specs.Table.{tableLimit}
+use Rattle.rule.specs.declared.node.Node.{Node}
+use Rattle.rule.specs.Node.{blanks, nodeOf, nodeInOrder, nodeKeys, pendingOf}
+use Rattle.rule.specs.Question.{nodeQuestion1, question15}
+use Rattle.rule.specs.Call.{writtenOver}
+use Rattle.rule.proofs.NodeLaws.{nodeInOrder-ordered}
 use Rattle.wire.specs.declared.answer.Length.{Length}
 use Rattle.wire.specs.declared.answer.Imaged.{Imaged}
 use Rattle.wire.specs.declared.image.Part.{Part}

@@ -7,7 +7,7 @@ use mathlib.Core.Path.{_≡_, ap}
 use mathlib.Core.List.{List, [], _∷_, _++_, append-assoc}
 use lib.ListN.{length, take, drop, getD, set, replicate, length-append, length-take, length-drop, length-set, take-append-drop}
 use lib.Seq.{take-set-le, drop-set-lt, getD-set-same, drop-drop, drop-cons, set-at, take-at, drop-append-add}
-use Rattle.rounds.specs.Call.{writtenOver}
+use Rattle.rule.specs.Call.{writtenOver}
 use Rattle.wire.specs.Place.{putAt}
 
 module _ {A : Type 0} where

@@ -9,7 +9,7 @@ use mathlib.Core.List.{List, [], _∷_, _++_, append-assoc, append-nil}
 use lib.Dec.{lit≤}
 use lib.ListN.{length, take, drop, getD, set, length-append, length-drop}
 use lib.Seq.{drop-drop, take-add, take-suc, length-take-le, drop-at}
-use Rattle.rounds.specs.Call.{writtenOver}
+use Rattle.rule.specs.Call.{writtenOver}
 use Rattle.wire.specs.Number.{byte, Below}
 use Rattle.wire.specs.Claim.{keyWidth, ClaimFits}
 use Rattle.wire.specs.Run.{Layout, key, claim, readRun, writeRun, Each}

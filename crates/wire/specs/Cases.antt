@@ -5,8 +5,8 @@ use mathlib.Core.List.{List, [], _∷_, _++_}
 use lib.ListN.{take, replicate}
 use Rattle.claims.specs.declared.claim.Claim.{Claim}
 use Rattle.claims.specs.Cases.{claim}
-use Rattle.rounds.specs.declared.node.Node.{Node}
-use Rattle.rounds.specs.Node.{nodeOf, emptyNode}
+use Rattle.rule.specs.declared.node.Node.{Node}
+use Rattle.rule.specs.Node.{nodeOf, emptyNode}
 use Rattle.wire.specs.declared.answer.Framed.{Framed}
 use Rattle.wire.specs.declared.answer.Imaged.{Imaged}
 use Rattle.wire.specs.declared.answer.Length.{Length}

@@ -8,9 +8,9 @@ use lib.ListN.{length, take, drop, getD}
 use Rattle.claims.specs.declared.claim.Claim.{Claim}
 use Rattle.claims.specs.Question.{Question, question, firstNo, settle}
 use Rattle.claims.specs.Call.{judged}
-use Rattle.rounds.specs.Node.{blanks}
-use Rattle.rounds.specs.Question.{question15}
-use Rattle.rounds.specs.Call.{writtenOver}
+use Rattle.rule.specs.Node.{blanks}
+use Rattle.rule.specs.Question.{question15}
+use Rattle.rule.specs.Call.{writtenOver}
 use Rattle.wire.specs.declared.answer.Framed.{Framed}
 use Rattle.wire.specs.declared.answer.Length.{Length}
 use Rattle.wire.specs.Length.{noLength}

@@ -9,11 +9,11 @@ use lib.ListN.{length, drop}
 use Rattle.claims.specs.declared.claim.Claim.{Claim}
 use Rattle.claims.specs.Store.{limit}
 use Rattle.claims.specs.Question.{Question, question, firstNo, settle}
-use Rattle.rounds.specs.declared.node.Node.{Node}
-use Rattle.rounds.specs.Table.{tableLimit}
-use Rattle.rounds.specs.Node.{nodeKeys, pendingOf, nodeOf, emptyNode}
-use Rattle.rounds.specs.Question.{nodeQuestion1, question15}
-use Rattle.rounds.specs.Call.{writtenOver}
+use Rattle.rule.specs.declared.node.Node.{Node}
+use Rattle.rule.specs.Table.{tableLimit}
+use Rattle.rule.specs.Node.{nodeKeys, pendingOf, nodeOf, emptyNode}
+use Rattle.rule.specs.Question.{nodeQuestion1, question15}
+use Rattle.rule.specs.Call.{writtenOver}
 use Rattle.wire.specs.declared.answer.Imaged.{Imaged}
 use Rattle.wire.specs.declared.answer.Length.{Length}
 use Rattle.wire.specs.Number.{byte, bytes, numberAt}

@@ -8,10 +8,10 @@ use lib.Dec.{leb}
 use lib.ListN.{length}
 use Rattle.claims.specs.Store.{limit}
 use Rattle.claims.specs.Question.{Question, question, firstNo, settle}
-use Rattle.rounds.specs.declared.node.Node.{Node}
-use Rattle.rounds.specs.Table.{tableLimit}
-use Rattle.rounds.specs.Question.{question15}
-use Rattle.rounds.specs.Call.{writtenOver}
+use Rattle.rule.specs.declared.node.Node.{Node}
+use Rattle.rule.specs.Table.{tableLimit}
+use Rattle.rule.specs.Question.{question15}
+use Rattle.rule.specs.Call.{writtenOver}
 use Rattle.wire.specs.declared.answer.Length.{Length}
 use Rattle.wire.specs.Length.{noLength}
 use Rattle.wire.specs.Image.{nodeBytes}

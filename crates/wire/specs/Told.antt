@@ -5,9 +5,9 @@ use mathlib.Core.List.{List}
 use mathlib.Core.Path.{_≡_}
 use lib.ListN.{length, drop}
 use Rattle.claims.specs.Store.{limit}
-use Rattle.rounds.specs.declared.node.Node.{Node}
-use Rattle.rounds.specs.Table.{tableLimit}
-use Rattle.rounds.specs.Node.{nodeOf}
+use Rattle.rule.specs.declared.node.Node.{Node}
+use Rattle.rule.specs.Table.{tableLimit}
+use Rattle.rule.specs.Node.{nodeOf}
 use Rattle.wire.specs.declared.image.Part.{Part}
 use Rattle.wire.specs.declared.image.Told.{Told}
 use Rattle.wire.specs.Claim.{countWidth}

@@ -7,10 +7,10 @@ use borrow.Author.Needs.{needs}
 use lib.Dec.{lit<}
 use lib.IntN.{pos}
 use lib.ListN.{length}
-use Rattle.rounds.specs.Node.{nodeInOrder}
+use Rattle.rule.specs.Node.{nodeInOrder}
 use Rattle.wire.specs.declared.answer.Length.{Length}
 use Rattle.wire.specs.Image.{imageLimit, nodeBytes, Shaped}
-use Rattle.rounds.proofs.TakeLaws.{length-mapped}
+use Rattle.nodes.proofs.TakeLaws.{length-mapped}
 use Rattle.host.proofs.Signs.{returned, fits-minus, fits-pos}
 use Rattle.host.proofs.Answers.{length-image, writeImageIn-room, frameTaken-before, frameTaken-15, frameTaken-0}
 use Rattle.host.proofs.minutefrost_take_frame.Statement.{statement}

@@ -2,8 +2,8 @@
 use mathlib.Core.Bool.{true}
 use mathlib.Core.Path.{_≡_, ap, sym, _∙_}
 use borrow.Author.Needs.{needs}
-use Rattle.rounds.specs.declared.node.Node.{Node}
-use Rattle.rounds.specs.Node.{nodeInOrder}
+use Rattle.rule.specs.declared.node.Node.{Node}
+use Rattle.rule.specs.Node.{nodeInOrder}
 use Rattle.wire.specs.declared.answer.Framed.{Framed}
 use Rattle.wire.specs.declared.answer.Imaged.{Imaged}
 use Rattle.wire.specs.Frame.{frameClaims}

@@ -9,10 +9,10 @@ use lib.ListN.{length, take, drop, getD}
 use lib.Seq.{getD-take, length-take-le}
 use Rattle.claims.specs.declared.claim.Claim.{Claim}
 use Rattle.claims.specs.Claim.{noClaim}
-use Rattle.rounds.specs.Node.{nodeInOrder}
-use Rattle.rounds.specs.Lent.{takenNext}
+use Rattle.rule.specs.Node.{nodeInOrder}
+use Rattle.nodes.specs.Lent.{takenNext}
 use Rattle.wire.specs.Image.{Shaped}
-use Rattle.rounds.proofs.TakeLaws.{length-mapped}
+use Rattle.nodes.proofs.TakeLaws.{length-mapped}
 use Rattle.host.specs.Taking.{takenUntil}
 use Rattle.host.proofs.Turns.{turn-refused, turn-done, turn-ordered, takenUntil-end}
 use Rattle.host.proofs.turn.take_in_turn.Statement.{statement}

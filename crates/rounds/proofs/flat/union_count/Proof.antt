@@ -9,7 +9,7 @@ use borrow.Author.Tests.{ltb-true, ltb-false}
 use denote.Ref.{now}
 use lib.ListN.{length, drop}
 use Rattle.claims.proofs.Rising.{rising-true}
-use Rattle.rounds.specs.Round.{union}
+use Rattle.rule.specs.Round.{union}
 use Rattle.rounds.proofs.UnionCount.{count-less, count-more, count-both, count-end}
 use Rattle.rounds.proofs.flat.union_count.Statement.{statement}
 use Rattle.rounds.proofs.flat.union_count.Tie as tie

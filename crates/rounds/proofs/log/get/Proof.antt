@@ -45,10 +45,10 @@ use Rattle.claims.specs.Claim.{noClaim}
 use Rattle.rounds.specs.Log.{noDelivery}
 use Rattle.claims.proofs.claim.Claim as K
 use Rattle.claims.proofs.claim.Claim.Laws as K′
-use Rattle.rounds.specs.declared.delivery.Delivery.{Delivery}
+use Rattle.rule.specs.declared.delivery.Delivery.{Delivery}
 use Rattle.rounds.proofs.LogWalk.{word, records, place-fits}
-use Rattle.rounds.proofs.delivery.Delivery as D
-use Rattle.rounds.proofs.delivery.Delivery.Laws as D′
+use Rattle.rule.proofs.delivery.Delivery as D
+use Rattle.rule.proofs.delivery.Delivery.Laws as D′
 use Rattle.rounds.proofs.log.get.Key.{name as #get}
 use Rattle.rounds.proofs.log.get as get
 use Rattle.rounds.proofs.log.get.Statement as stated

@@ -41,10 +41,10 @@ use denote.Triple.Table.{entered}
 use denote.Triple.Walked.{says, Stays, stay-slice, stay-none, walkOf, goes-slice, goes-none, Walks, ends-at, walked, walk-meets}
 use denote.Exit.{yes}
 use denote.Signature.{plain}
-use Rattle.rounds.specs.declared.delivery.Delivery.{Delivery}
+use Rattle.rule.specs.declared.delivery.Delivery.{Delivery}
 use Rattle.rounds.proofs.LogWalk.{word, records, place-fits}
-use Rattle.rounds.proofs.delivery.Delivery as D
-use Rattle.rounds.proofs.delivery.Delivery.Laws as D′
+use Rattle.rule.proofs.delivery.Delivery as D
+use Rattle.rule.proofs.delivery.Delivery.Laws as D′
 use Rattle.rounds.proofs.log.put.Key.{name as #put}
 use Rattle.rounds.proofs.log.put as put
 use Rattle.rounds.proofs.log.put.Statement as stated

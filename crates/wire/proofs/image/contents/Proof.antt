@@ -2,7 +2,7 @@
 use mathlib.Core.Path.{_≡_, ap, sym, _∙_}
 use borrow.Author.Needs.{needs}
 use borrow.Author.Tests.{not-true, not-false}
-use Rattle.rounds.specs.Node.{nodeInOrder}
+use Rattle.rule.specs.Node.{nodeInOrder}
 use Rattle.wire.specs.Image.{parse, nodeFrom}
 use Rattle.wire.proofs.Images.{told-room, nodeAt-parse, readImage-1, readImage-0}
 use Rattle.wire.proofs.image.contents.Statement.{statement}

@@ -1,6 +1,6 @@
 -- `image::empty_node` meets its contract. Assumes nothing.
 use borrow.Author.Needs.{needs}
-use Rattle.rounds.specs.Node.{emptyNode}
+use Rattle.rule.specs.Node.{emptyNode}
 use Rattle.wire.proofs.image.empty_node.Statement.{statement}
 use Rattle.wire.proofs.image.empty_node.Tie as tie
 

@@ -1,5 +1,5 @@
 -- `image::no_claims` meets its contract. Assumes nothing.
-use Rattle.rounds.specs.Node.{blanks}
+use Rattle.rule.specs.Node.{blanks}
 use Rattle.wire.proofs.image.no_claims.Statement.{statement}
 use Rattle.wire.proofs.image.no_claims.Tie as tie
 

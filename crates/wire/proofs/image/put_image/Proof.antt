@@ -1,6 +1,6 @@
 -- `image::put_image` meets its contract: four blocks, each right after the one before, are the image. Assumes nothing.
 use borrow.Author.Needs.{needs}
-use Rattle.rounds.proofs.TakeLaws.{length-mapped}
+use Rattle.nodes.proofs.TakeLaws.{length-mapped}
 use Rattle.wire.specs.Image.{Shaped}
 use Rattle.wire.proofs.Images.{nodeBytes-put}
 use Rattle.wire.proofs.image.put_image.Statement.{statement}

@@ -4,10 +4,10 @@ use native.Mathlib.Omega.{arith}
 use mathlib.Core.Path.{_≡_}
 use borrow.Author.Needs.{needs}
 use lib.ListN.{drop}
-use Rattle.rounds.proofs.NodeLaws.{length-blanks}
-use Rattle.rounds.specs.Call.{writtenOver}
-use Rattle.rounds.specs.Node.{blanks}
-use Rattle.rounds.specs.Table.{tableLimit}
+use Rattle.rule.proofs.NodeLaws.{length-blanks}
+use Rattle.rule.specs.Call.{writtenOver}
+use Rattle.rule.specs.Node.{blanks}
+use Rattle.rule.specs.Table.{tableLimit}
 use Rattle.wire.specs.Run.{claim, readRun}
 use Rattle.wire.proofs.Runs.{set-readRun}
 use Rattle.wire.proofs.image.read_claims.Statement.{statement}

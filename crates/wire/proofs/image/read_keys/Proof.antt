@@ -5,7 +5,7 @@ use mathlib.Core.Path.{_≡_, refl}
 use borrow.Author.Needs.{needs}
 use lib.ListN.{length, drop, length-set}
 use Rattle.claims.specs.Store.{limit}
-use Rattle.rounds.specs.Call.{writtenOver}
+use Rattle.rule.specs.Call.{writtenOver}
 use Rattle.wire.specs.Run.{key, readRun}
 use Rattle.wire.proofs.Runs.{set-readRun}
 use Rattle.wire.proofs.image.read_keys.Statement.{statement}

@@ -4,7 +4,7 @@ use native.Mathlib.Omega.{arith}
 use borrow.Author.Needs.{needs}
 use borrow.Author.Tests.{not-true, not-false}
 use Rattle.claims.specs.Store.{limit}
-use Rattle.rounds.specs.Table.{tableLimit}
+use Rattle.rule.specs.Table.{tableLimit}
 use Rattle.wire.proofs.Images.{part-most, told-keys, told-pending, told-both}
 use Rattle.wire.proofs.image.told_by.Statement.{statement}
 use Rattle.wire.proofs.image.told_by.Tie as tie

@@ -5,8 +5,8 @@ use mathlib.Core.Path.{_≡_, refl, sym, _∙_}
 use borrow.Author.Needs.{needs}
 use lib.ListN.{length, take}
 use Rattle.claims.specs.Claim.{noClaim}
-use Rattle.rounds.specs.Table.{tableLimit}
-use Rattle.rounds.proofs.TakeLaws.{length-mapped}
+use Rattle.rule.specs.Table.{tableLimit}
+use Rattle.nodes.proofs.TakeLaws.{length-mapped}
 use Rattle.wire.specs.Place.{putAt}
 use Rattle.wire.specs.Run.{claim, writeRun}
 use Rattle.wire.proofs.Places.{putAt-nil}

@@ -1,0 +1,97 @@
+-- `nodes::beats::write_answer` meets its contract. Assumes nothing.
+use borrow.Author.Needs.{needs}
+use denote.Ref.{now}
+use mathlib.Core.Path.{ap}
+use Rattle.claims.specs.Reply.{claimsOf}
+use Rattle.nodes.proofs.Writing.{wrote-none, wrote-one, wrote-two}
+use Rattle.nodes.proofs.beats.write_answer.Statement.{statement}
+use Rattle.nodes.proofs.beats.write_answer.Tie as tie
+
+enum-told : tie.Need-enum-told
+enum-told c = search needs
+
+enum-told-2 : tie.Need-enum-told-2
+enum-told-2 c = search needs
+
+enum-known-answer : tie.Need-enum-known-answer
+enum-known-answer c = search needs
+
+write-claim-requires : tie.Need-write-claim-requires
+write-claim-requires c κs = search needs
+
+add-result : tie.Need-add-result
+add-result c = search needs
+
+enum-known-answer-2 : tie.Need-enum-known-answer-2
+enum-known-answer-2 c = search needs
+
+write-claim-requires-2 : tie.Need-write-claim-requires-2
+write-claim-requires-2 c κs = search needs
+
+add-result-2 : tie.Need-add-result-2
+add-result-2 c = search needs
+
+enum-known-answer-3 : tie.Need-enum-known-answer-3
+enum-known-answer-3 c = search needs
+
+write-claim-requires-3 : tie.Need-write-claim-requires-3
+write-claim-requires-3 c κs = search needs
+
+add-write-claim : tie.Need-add-write-claim
+add-write-claim c = search needs
+
+write-claim-requires-4 : tie.Need-write-claim-requires-4
+write-claim-requires-4 c κs = search needs
+
+add-result-3 : tie.Need-add-result-3
+add-result-3 c = search needs
+
+returns : tie.Need-returns
+returns c = let s = c .before .before .before in wrote-none (s .args .answer) (s .args .at) (now (s .args .lent)) (ap claimsOf (c .enum-told .given .1))
+
+returns-2 : tie.Need-returns-2
+returns-2 c = let s = c .before .before .before in wrote-none (s .args .answer) (s .args .at) (now (s .args .lent)) (ap claimsOf (c .enum-told2 .given .1))
+
+same-length : tie.Need-same-length
+same-length c = search needs
+
+returns-3 : tie.Need-returns-3
+returns-3 c = let s = c .before .before .before .before .before .before .before .before in wrote-one (s .args .answer) (s .args .at) (now (s .args .lent)) _ (ap claimsOf (c .before .before .before .before .before .answer .given .1)) (c .before .before .write-claim .last .0) (c .before .before .write-claim .ensures)
+
+same-length-2 : tie.Need-same-length-2
+same-length-2 c = search needs
+
+returns-4 : tie.Need-returns-4
+returns-4 c = let s = c .before .before .before .before .before .before .before .before in wrote-one (s .args .answer) (s .args .at) (now (s .args .lent)) _ (ap claimsOf (c .before .before .before .before .before .answer2 .given .1)) (c .before .before .write-claim2 .last .0) (c .before .before .write-claim2 .ensures)
+
+same-length-3 : tie.Need-same-length-3
+same-length-3 c = search needs
+
+returns-5 : tie.Need-returns-5
+returns-5 c = let s = c .before .before .before .before .before .before .before .before .before .before .before .before in wrote-two (s .args .answer) (s .args .at) (now (s .args .lent)) _ _ (ap claimsOf (c .before .before .before .before .before .before .before .before .before .answer3 .given .1)) (c .before .before .before .before .before .before .write-claim3 .last .0) (c .before .before .write-claim4 .last .0) (c .before .before .before .before .before .before .write-claim3 .ensures) (c .before .before .write-claim4 .ensures)
+
+pub write-answer-spec : {M : Type 1} → statement M
+write-answer-spec =
+    tie.close
+    (tie.spec
+    enum-told
+    enum-told-2
+    enum-known-answer
+    write-claim-requires
+    add-result
+    enum-known-answer-2
+    write-claim-requires-2
+    add-result-2
+    enum-known-answer-3
+    write-claim-requires-3
+    add-write-claim
+    write-claim-requires-4
+    add-result-3
+    returns
+    returns-2
+    same-length
+    returns-3
+    same-length-2
+    returns-4
+    same-length-3
+    returns-5)

@@ -1,0 +1,21 @@
+-- `nodes::taking::enlist` meets its contract. Assumes nothing.
+use borrow.Author.Needs.{needs}
+use Rattle.nodes.proofs.TakeLaws.{enlisted-found}
+use Rattle.nodes.proofs.taking.enlist.Statement.{statement}
+use Rattle.nodes.proofs.taking.enlist.Tie as tie
+
+capped-requires : tie.Need-capped-requires
+capped-requires c κs = search needs
+
+find-requires : tie.Need-find-requires
+find-requires c κs = search needs
+
+enlist-at-requires : tie.Need-enlist-at-requires
+enlist-at-requires c κs = search needs
+
+returns : tie.Need-returns
+returns c =
+    enlisted-found (c .before .before .before .args .table) (c .before .before .before .args .count) (c .before .before .capped .result) (c .before .find .result) (c .before .before .before .args .claim) (c .enlist-at .result .table) (c .enlist-at .result .count) (search needs) (c .before .before .capped .ensures) (c .before .find .ensures .0) (c .enlist-at .ensures)
+
+pub enlist-spec : {M : Type 1} → statement M
+enlist-spec = tie.close (tie.spec capped-requires find-requires enlist-at-requires returns)

@@ -1,0 +1,99 @@
+-- `nodes::taking::find` meets its contract. The invariant: halving what is left gives what halving all of it gives. Assumes nothing.
+use mathlib.Core.Path.{_≡_, sym, _∙_, ap}
+use mathlib.Core.List.{List}
+use Prim.Native.Nat.{_+_, _/_, _≤_}
+use native.Mathlib.Omega.{arith}
+use borrow.Author.Needs.{needs}
+use lib.ListN.{take, getD}
+use lib.Seq.{getD-take}
+use Rattle.claims.specs.declared.claim.Claim.{Claim}
+use Rattle.claims.specs.Claim.{noClaim}
+use Rattle.rule.specs.Table.{before}
+use Rattle.nodes.specs.Lent.{halvedTo, placeAmong}
+use Rattle.nodes.proofs.Placing.{halvedTo-none, halvedTo-up, halvedTo-down, placeAmong-take}
+use Rattle.nodes.proofs.taking.find.Statement.{statement}
+use Rattle.nodes.proofs.taking.find.Tie as tie
+
+abbrev Inv-loop : tie.InvT-loop
+Inv-loop count claim table base₀ size₀ base size = (base + size ≤ count) × (placeAmong claim (take count table) ≡ halvedTo size (take count table) claim base size)
+
+abbrev μ-loop : tie.MeasureT-loop
+μ-loop count claim table base₀ size₀ base size = size
+
+-- the claims, seen from the loop's head
+abbrev claims : tie.At-loop Inv-loop μ-loop → List Claim
+claims s = take (s .before .args .count) (s .before .args .t1)
+
+-- what the comparison says of the claim in the middle
+compared : (c : tie.After-precedes Inv-loop μ-loop)
+    → let s = c .before .before .before in
+    before (getD (claims s) (s .loop .base + s .loop .size / 2) noClaim) (s .before .args .claim) ≡ c .precedes .result
+compared c =
+    let s = c .before .before .before in
+    ap (λ (x : Claim). before x (s .before .args .claim)) (getD-take (s .before .args .count) (s .before .args .t1) (s .loop .base + s .loop .size / 2) noClaim (omega arith))
+    ∙ sym (c .precedes .ensures)
+
+loop-holds : tie.Need-loop-holds Inv-loop μ-loop
+loop-holds c = (omega arith, placeAmong-take (c .args .t1) (c .args .count) (c .args .claim) (search needs))
+
+add-mid : tie.Need-add-mid Inv-loop μ-loop
+add-mid c = search needs
+
+mul-precedes : tie.Need-mul-precedes Inv-loop μ-loop
+mul-precedes c = search needs
+
+array-copy-out-precedes : tie.Need-array-copy-out-precedes Inv-loop μ-loop
+array-copy-out-precedes c = search needs
+
+precedes-requires : tie.Need-precedes-requires Inv-loop μ-loop
+precedes-requires c κs = search needs
+
+add-base : tie.Need-add-base Inv-loop μ-loop
+add-base c = search needs
+
+add-size : tie.Need-add-size Inv-loop μ-loop
+add-size c = search needs
+
+sub-size : tie.Need-sub-size Inv-loop μ-loop
+sub-size c = search needs
+
+loop-less : tie.Need-loop-less Inv-loop μ-loop
+loop-less c = search needs
+
+loop-again : tie.Need-loop-again Inv-loop μ-loop
+loop-again c =
+    let s = c .before .before .before .before in
+    (omega arith, s .loop .inv .1 ∙ halvedTo-up (claims s) (s .before .args .claim) (s .loop .base) (s .loop .size) (omega arith) (compared (c .before) ∙ c .if1 .taken))
+
+loop-less-2 : tie.Need-loop-less-2 Inv-loop μ-loop
+loop-less-2 c = search needs
+
+loop-again-2 : tie.Need-loop-again-2 Inv-loop μ-loop
+loop-again-2 c =
+    let s = c .before .before .before .before in
+    (omega arith, s .loop .inv .1 ∙ halvedTo-down (claims s) (s .before .args .claim) (s .loop .base) (s .loop .size) (omega arith) (compared (c .before) ∙ c .if1 .left))
+
+returns : tie.Need-returns Inv-loop μ-loop
+returns c =
+    let s = c .before in
+    (sym (s .loop .inv .1 ∙ halvedTo-none (claims s) (s .before .args .claim) (s .loop .size) (s .loop .base) (s .loop .size) (omega arith)), omega arith)
+
+pub find-spec : {M : Type 1} → statement M
+find-spec =
+    tie.close
+    (tie.spec
+    Inv-loop
+    μ-loop
+    loop-holds
+    add-mid
+    mul-precedes
+    array-copy-out-precedes
+    precedes-requires
+    add-base
+    add-size
+    sub-size
+    loop-less
+    loop-again
+    loop-less-2
+    loop-again-2
+    returns)

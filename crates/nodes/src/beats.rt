@@ -1,0 +1,184 @@
+// The beat of a node.
+use crate::order::ordered;
+use claims::Answer;
+use claims::Claim;
+use claims::answer_in;
+use claims::make_in;
+use claims::place_in;
+use rule::Beaten;
+use rule::Node;
+ghost use mathlib.Core.Path.{_≡_};
+ghost use mathlib.Core.List.{[], _∷_};
+ghost use Prim.Native.Nat.{_+_, _*_, _≤_};
+ghost use lib.ListN.{length, take};
+ghost use Rattle.claims.specs.Reply.{claimsOf};
+ghost use Rattle.rule.specs.Table.{tableLimit, remains};
+ghost use Rattle.rule.specs.Call.{beaten, beatenLent};
+ghost use Rattle.nodes.specs.Serving.{answerTo, serveIn, wholeIn, wroteAt, keptWith, beatenIn, beatenInLent};
+
+// The words of a claim in a lent run: lo, hi, sum, cnt.
+const WORDS: usize = 4;
+
+// The answer to a claim whose lo and hi are held.
+fn answer_to(keys: &[u64], count: usize, claim: Claim) -> Answer
+    ensures { λ r. ⌜ r ≡ answerTo (now (keys .entry)) count claim ⌝ }
+{
+    let first = place_in(keys, count, claim.lo);
+    let last = place_in(keys, count, claim.hi);
+    answer_in(keys, count, first.at, last.at, claim)
+}
+
+// Writes a claim to a place.
+fn write_claim(lent: &mut [u64], at: usize, claim: Claim)
+    requires { ⌜ 4 * at + 4 ≤ length (now lent) ⌝ }
+    ensures { λ r. ⌜ now (lent .exit) ≡ wroteAt at (claim ∷ []) (now (lent .entry)) ⌝ }
+{
+    let i = WORDS * at;
+    lent[i] = claim.lo;
+    lent[i + 1] = claim.hi;
+    lent[i + 2] = claim.sum;
+    lent[i + 3] = claim.cnt as u64;
+}
+
+// Writes the claims that an answer carries, and returns the place after them.
+fn write_answer(lent: &mut [u64], at: usize, answer: Answer) -> usize
+    requires { ⌜ 4 * at + 8 ≤ length (now lent) ⌝ }
+    ensures { λ r. ⌜ (r ≡ at + length (claimsOf answer)) × (now (lent .exit) ≡ wroteAt at (claimsOf answer) (now (lent .entry))) ⌝ }
+{
+    match answer {
+        Answer::Refused(_) => at,
+        Answer::Match => at,
+        Answer::Ask(own) => {
+            write_claim(lent, at, own);
+            at + 1
+        }
+        Answer::One(claim) => {
+            write_claim(lent, at, claim);
+            at + 1
+        }
+        Answer::Two(one, two) => {
+            write_claim(lent, at, one);
+            write_claim(lent, at + 1, two);
+            at + 2
+        }
+    }
+}
+
+// Whether a claim stays pending: only one that was asked about does.
+fn stays(answer: Answer) -> bool
+    ensures { λ r. ⌜ r ≡ remains answer ⌝ }
+{
+    match answer {
+        Answer::Refused(_) => false,
+        Answer::Match => false,
+        Answer::Ask(_) => true,
+        Answer::One(_) => false,
+        Answer::Two(_, _) => false,
+    }
+}
+
+// A table once it is served: the claims that stay, then zeros; how many stay; the place after what was written.
+struct Kept {
+    table: [Claim; Node::TABLE],
+    count: usize,
+    written: usize,
+}
+
+// Serves the pending claims in table order, and writes the claims of their answers from a place on.
+fn serve_table(
+    keys: &[u64],
+    count: usize,
+    table: [Claim; Node::TABLE],
+    pending: usize,
+    lent: &mut [u64],
+    at: usize,
+) -> Kept
+    requires { ⌜ (pending ≤ tableLimit) × (4 * (at + 2 * pending) ≤ length (now lent)) ⌝ }
+    ensures { λ r. ⌜ (r ≡ keptWith at (serveIn (now (keys .entry)) count (take pending table))) × (now (lent .exit) ≡ wroteAt at (serveIn (now (keys .entry)) count (take pending table) .sent) (now (lent .entry))) ⌝ }
+{
+    let mut kept = [Claim {
+        lo: 0,
+        hi: 0,
+        sum: 0,
+        cnt: 0,
+    }; Node::TABLE];
+    let mut n = 0;
+    let mut written = at;
+    let mut i = 0;
+    while i < pending {
+        let claim = table[i];
+        let answer = answer_to(keys, count, claim);
+        written = write_answer(lent, written, answer);
+        if stays(answer) {
+            kept[n] = claim;
+            n += 1;
+        }
+        i += 1;
+    }
+    Kept {
+        table: kept,
+        count: n,
+        written,
+    }
+}
+
+// Writes the whole claim to the first place, if there is one, and returns the place after it.
+fn write_whole(keys: &[u64], count: usize, lent: &mut [u64]) -> usize
+    requires { ⌜ 4 ≤ length (now lent) ⌝ }
+    ensures { λ r. ⌜ (r ≡ length (wholeIn (now (keys .entry)) count)) × (now (lent .exit) ≡ wroteAt 0 (wholeIn (now (keys .entry)) count) (now (lent .entry))) ⌝ }
+{
+    if count == 0 {
+        return 0;
+    }
+    let made = make_in(keys, count, 0, count - 1);
+    write_claim(lent, 0, made.claim);
+    1
+}
+
+// The beat of a node, for any content: question 1 is not put, but a table that could not be read is refused with its number. Asks 15.
+pub fn beat_in(node: Node, lent: &mut [u64]) -> Beaten
+    ensures { λ r. ⌜ (r ≡ beatenIn node (now (lent .entry))) × (now (lent .exit) ≡ beatenInLent node (now (lent .entry))) ⌝ }
+{
+    let mut n = node;
+    let pending = n.count;
+    if Node::TABLE < pending {
+        return Beaten {
+            number: 1,
+            node: n,
+            written: 0,
+        };
+    }
+    if lent.len() / WORDS < Node::BEAT {
+        return Beaten {
+            number: 15,
+            node: n,
+            written: 0,
+        };
+    }
+    let held = n.store.count;
+    let at = write_whole(&n.store.keys, held, lent);
+    let table = n.pending;
+    let kept = serve_table(&n.store.keys, held, table, pending, lent, at);
+    let rest = kept.table;
+    n.pending = rest;
+    n.count = kept.count;
+    Beaten {
+        number: 0,
+        node: n,
+        written: kept.written,
+    }
+}
+
+// The beat of a node: the whole claim and the claims of the replies to the pending ones are written, four words to a claim. Asks 1 and 15.
+pub fn beat(node: Node, lent: &mut [u64]) -> Beaten
+    ensures { λ r. ⌜ (r ≡ beaten node (now (lent .entry))) × (now (lent .exit) ≡ beatenLent node (now (lent .entry))) ⌝ }
+{
+    if !ordered(node) {
+        return Beaten {
+            number: 1,
+            node,
+            written: 0,
+        };
+    }
+    beat_in(node, lent)
+}

@@ -1,0 +1,127 @@
+// Question 1 of a node: whether it is in order.
+use claims::Claim;
+use claims::judge;
+use claims::ordered_in;
+use claims::place_in;
+use rule::Node;
+ghost use mathlib.Core.Path.{_≡_};
+ghost use mathlib.Core.Bool.{true, _&&_};
+ghost use Prim.Native.Nat.{_≤_};
+ghost use lib.Dec.{eqb};
+ghost use lib.ListN.{length, take, drop};
+ghost use Rattle.claims.specs.Store.{limit};
+ghost use Rattle.claims.specs.Claim.{noClaim};
+ghost use Rattle.claims.specs.Reply.{ends};
+ghost use Rattle.claims.specs.Call.{judged};
+ghost use Rattle.claims.specs.Lent.{orderedIn};
+ghost use Rattle.rule.specs.Table.{tableLimit, before, climbs};
+ghost use Rattle.rule.specs.Node.{holdsAll, allFit, allUnused, nodeInOrder};
+ghost use Rattle.nodes.specs.Lent.{nodeFrom};
+
+// Whether one claim comes before another in a table: by cnt, then lo, hi, sum.
+pub(crate) fn precedes(one: Claim, other: Claim) -> bool
+    ensures { λ r. ⌜ r ≡ before one other ⌝ }
+{
+    if one.cnt != other.cnt {
+        return one.cnt < other.cnt;
+    }
+    if one.lo != other.lo {
+        return one.lo < other.lo;
+    }
+    if one.hi != other.hi {
+        return one.hi < other.hi;
+    }
+    one.sum < other.sum
+}
+
+// The claim of zeros, which comes before every other one.
+pub(crate) fn none() -> Claim
+    ensures { λ r. ⌜ r ≡ noClaim ⌝ }
+{
+    Claim {
+        lo: 0,
+        hi: 0,
+        sum: 0,
+        cnt: 0,
+    }
+}
+
+// Whether a claim passes questions 2 to 5 and has lo and hi in the store.
+fn fits(keys: &[u64], held: usize, claim: Claim) -> bool
+    requires { ⌜ (length (now keys) ≡ limit) × (orderedIn (now keys) held ≡ true) ⌝ }
+    ensures { λ r. ⌜ r ≡ (eqb (judged claim) 0 && holdsAll (ends claim) (take held (now (keys .entry)))) ⌝ }
+{
+    if judge(claim) != 0 {
+        return false;
+    }
+    let lower = place_in(keys, held, claim.lo);
+    if !lower.held {
+        return false;
+    }
+    let upper = place_in(keys, held, claim.hi);
+    upper.held
+}
+
+// Whether the first `count` claims of a table rise strictly and each fits. None that fits is all zeros, so the first one comes after that.
+fn pends(keys: &[u64], held: usize, table: [Claim; Node::TABLE], count: usize) -> bool
+    requires { ⌜ (length (now keys) ≡ limit) × (orderedIn (now keys) held ≡ true) × (count ≤ tableLimit) ⌝ }
+    ensures { λ r. ⌜ r ≡ (climbs (take count table) && allFit (take count table) (take held (now (keys .entry)))) ⌝ }
+{
+    let mut last = none();
+    let mut i = 0;
+    while i < count {
+        let claim = table[i];
+        if !precedes(last, claim) {
+            return false;
+        }
+        if !fits(keys, held, claim) {
+            return false;
+        }
+        last = claim;
+        i += 1;
+    }
+    true
+}
+
+// Whether the places of a table from the count on are zeros.
+fn unused(table: [Claim; Node::TABLE], count: usize) -> bool
+    ensures { λ r. ⌜ r ≡ allUnused (drop count table) ⌝ }
+{
+    let mut i = count;
+    while i < Node::TABLE {
+        if precedes(none(), table[i]) {
+            return false;
+        }
+        i += 1;
+    }
+    true
+}
+
+// Whether the node of these parts is in order: a lent run of keys and how many are held, a table and how many are pending.
+pub(crate) fn ordered_parts(
+    keys: &[u64],
+    held: usize,
+    table: [Claim; Node::TABLE],
+    count: usize,
+) -> bool
+    requires { ⌜ length (now keys) ≡ limit ⌝ }
+    ensures { λ r. ⌜ r ≡ nodeInOrder (nodeFrom (now (keys .entry)) held table count) ⌝ }
+{
+    if !ordered_in(keys, held) {
+        return false;
+    }
+    if Node::TABLE < count {
+        return false;
+    }
+    if !pends(keys, held, table, count) {
+        return false;
+    }
+    unused(table, count)
+}
+
+// Whether a node is in order.
+pub fn ordered(node: Node) -> bool
+    ensures { λ r. ⌜ r ≡ nodeInOrder node ⌝ }
+{
+    ordered_parts(&node.store.keys, node.store.count, node.pending, node.count)
+}

@@ -1,0 +1,137 @@
+// Taking a claim: its ends are added to the store, and it goes into the table in its place.
+use crate::order::ordered_parts;
+use crate::order::precedes;
+use claims::Claim;
+use claims::hear_in;
+use claims::judge;
+use rule::Node;
+use rule::Taken;
+ghost use mathlib.Core.Path.{_≡_};
+ghost use Prim.Native.Nat.{_≤_, _<_, min};
+ghost use lib.ListN.{take};
+ghost use Rattle.rule.specs.Table.{tableLimit};
+ghost use Rattle.rule.specs.Call.{writtenOver, taken};
+ghost use Rattle.nodes.specs.Lent.{placeAmong, isAt, placedAt, placedIn, tableIn, Enlisted, takenNext};
+
+// A table, and how many claims are pending in it.
+struct Listed {
+    table: [Claim; Node::TABLE],
+    count: usize,
+}
+
+// The place of a claim among the first `count` claims of a table, if these rise: after all that come before it.
+fn find(table: [Claim; Node::TABLE], count: usize, claim: Claim) -> usize
+    requires { ⌜ count ≤ tableLimit ⌝ }
+    ensures { λ r. ⌜ (r ≡ placeAmong claim (take count table)) × (r ≤ count) ⌝ }
+{
+    let mut base = 0;
+    let mut size = count;
+    while 0 < size {
+        let half = size / 2;
+        let mid = base + half;
+        if precedes(table[mid], claim) {
+            base = mid + 1;
+            size -= half + 1;
+        } else {
+            size = half;
+        }
+    }
+    base
+}
+
+// Whether a claim is the one at a place.
+fn stands(table: [Claim; Node::TABLE], count: usize, at: usize, claim: Claim) -> bool
+    requires { ⌜ count ≤ tableLimit ⌝ }
+    ensures { λ r. ⌜ r ≡ isAt at claim (take count table) ⌝ }
+{
+    if count <= at {
+        return false;
+    }
+    !precedes(claim, table[at])
+}
+
+// Puts a claim in at a place: the claims from there to the count move up by one, the last one first.
+fn put(table: [Claim; Node::TABLE], count: usize, at: usize, claim: Claim) -> [Claim; Node::TABLE]
+    requires { ⌜ (at ≤ count) × (count < tableLimit) ⌝ }
+    ensures { λ r. ⌜ r ≡ writtenOver (placedAt at claim (take count table)) table ⌝ }
+{
+    let mut moved = table;
+    let mut i = count;
+    while at < i {
+        moved[i] = moved[i - 1];
+        i -= 1;
+    }
+    moved[at] = claim;
+    moved
+}
+
+// The lesser of two numbers.
+fn capped(count: usize, most: usize) -> usize
+    ensures { λ r. ⌜ r ≡ min count most ⌝ }
+{
+    if count < most { count } else { most }
+}
+
+// The table with a claim put in at a place, unless it is the one there; of 65 the last is dropped.
+fn enlist_at(table: [Claim; Node::TABLE], count: usize, at: usize, claim: Claim) -> Listed
+    requires { ⌜ (at ≤ count) × (count ≤ tableLimit) ⌝ }
+    ensures { λ r. ⌜ Enlisted table (placedIn at claim (take count table)) (r .table) (r .count) ⌝ }
+{
+    if stands(table, count, at, claim) {
+        return Listed { table, count };
+    }
+    if at == Node::TABLE {
+        return Listed { table, count };
+    }
+    let kept = capped(count, Node::TABLE - 1);
+    let moved = put(table, kept, at, claim);
+    Listed {
+        table: moved,
+        count: kept + 1,
+    }
+}
+
+// The table with a claim in its place.
+fn enlist(table: [Claim; Node::TABLE], count: usize, claim: Claim) -> Listed
+    ensures { λ r. ⌜ Enlisted table (tableIn claim (take count table)) (r .table) (r .count) ⌝ }
+{
+    let known = capped(count, Node::TABLE);
+    let at = find(table, known, claim);
+    enlist_at(table, known, at, claim)
+}
+
+// Takes a claim that passes questions 2 to 5 into a node that was found in order. Asks 6.
+pub fn take_next(node: Node, claim: Claim) -> Taken
+    ensures { λ r. ⌜ r ≡ takenNext node claim ⌝ }
+{
+    let mut n = node;
+    let held = n.store.count;
+    let heard = hear_in(&mut n.store.keys, held, claim);
+    if heard.number != 0 {
+        return Taken {
+            number: heard.number,
+            node: n,
+        };
+    }
+    let pending = n.pending;
+    let listed = enlist(pending, n.count, claim);
+    let table = listed.table;
+    n.store.count = heard.count;
+    n.pending = table;
+    n.count = listed.count;
+    Taken { number: 0, node: n }
+}
+
+// Takes a claim. Asks 1, 2 to 5 and 6.
+pub fn take(node: Node, claim: Claim) -> Taken
+    ensures { λ r. ⌜ r ≡ taken node claim ⌝ }
+{
+    if !ordered_parts(&node.store.keys, node.store.count, node.pending, node.count) {
+        return Taken { number: 1, node };
+    }
+    let number = judge(claim);
+    if number != 0 {
+        return Taken { number, node };
+    }
+    take_next(node, claim)
+}

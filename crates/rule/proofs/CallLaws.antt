@@ -1,0 +1,211 @@
+-- What the public calls return, one law a return path: `taken`, `beaten`, `beatenLent`, `met`, `metLent` and `metWords` of Call. In order, for
+-- taking, a beat and a round: what it says that every question was answered yes; carried out; refused. Then: a taken node and a beaten one are in order;
+-- what a round returns is in order, and its count is at most twice the keys of the union. Assumes nothing.
+use Prim.Native.Nat.{ℕ, _+_, _*_, _/_, _≤_, _<_}
+use mathlib.Core.Bool.{true}
+use mathlib.Core.List.{List, [], _∷_, _++_, List·Memᴰ, Memᴰ·append-left}
+use mathlib.Core.Logic.{⊎-elim}
+use mathlib.Core.Path.{_≡_, sym, _∙_, subst}
+use native.Mathlib.Omega.{arith}
+use borrow.Author.Tests.{ltb-true, leb-true}
+use lib.ListN.{length, take, drop, length-take, take-append-drop}
+use Rattle.claims.specs.declared.claim.Claim.{Claim}
+use Rattle.claims.specs.declared.store.Store.{Store}
+use Rattle.claims.specs.Store.{limit, keysOf, storeOf, inOrder, insertAll}
+use Rattle.claims.specs.Question.{firstNo, question1, question6, claimQuestions}
+use Rattle.claims.specs.Reply.{ends, hear}
+use Rattle.claims.specs.Call.{judged}
+use Rattle.claims.proofs.Tests.{eq-or-ne}
+use Rattle.claims.proofs.Order.{inOrder-count, inOrder-rising}
+use Rattle.claims.proofs.QuestionLaws.{firstNo-zero, firstNo-append-zero, firstNo-append-no, settle-done, settle-refused, passes, claimQuestions-numbered, judged-firstNo}
+use Rattle.claims.proofs.ReplyLaws.{hear-rising, hear-old, hear-new}
+use Rattle.rule.specs.declared.node.Node.{Node}
+use Rattle.rule.specs.declared.delivery.Delivery.{Delivery}
+use Rattle.rule.specs.Table.{tableLimit, tableWith, insertClaim, serve, sending, beatLimit}
+use Rattle.rule.specs.Node.{nodeKeys, pendingOf, nodeOf}
+use Rattle.rule.specs.Round.{union, transcript}
+use Rattle.rule.specs.Question.{nodeQuestion1, question8, question9, question15}
+use Rattle.rule.specs.Call.{writtenOver, takeQuestions, taken, claimWords, beatQuestions, beaten, beatenLent, roundQuestions, roundBy, met, metLent, deliveryWords, metWords}
+use Rattle.rule.proofs.TableLaws.{climbs-tableWith, climbs-kept, insertClaim-mem, kept-mem, length-tableWith, length-kept}
+use Rattle.rule.proofs.NodeLaws.{Fits, fits-sub, Ordered, nodeInOrder-ordered, ordered-nodeOf}
+use Rattle.rule.proofs.Half.{Rounded, rounded}
+
+-- ---- taking
+
+pub record TakeYes (n : Node) (c : Claim) : Type 0 where
+  pub node : Ordered n
+  pub judged : judged c ≡ 0
+  pub room : length (insertAll (ends c) (nodeKeys n)) ≤ limit
+
+pub takeQuestions-yes : (n : Node) (c : Claim) → firstNo (takeQuestions n c) ≡ 0 → TakeYes n c
+takeQuestions-yes n c h =
+    let a = firstNo-zero (nodeQuestion1 n) (claimQuestions c ++ (question6 (ends c) (nodeKeys n) ∷ [])) (omega arith) h in
+    let j : firstNo (claimQuestions c) ≡ 0
+    = ⊎-elim
+    {C = firstNo (claimQuestions c) ≡ 0}
+    (λ (e : firstNo (claimQuestions c) ≡ 0). e)
+    (λ (f : firstNo (claimQuestions c) ≡ 0 → ⊥). absurd (f (sym (firstNo-append-no (claimQuestions c) (question6 (ends c) (nodeKeys n) ∷ []) f) ∙ a .1)))
+    (eq-or-ne (firstNo (claimQuestions c)) 0) in
+    let b : firstNo (question6 (ends c) (nodeKeys n) ∷ []) ≡ 0
+    = sym (firstNo-append-zero (claimQuestions c) (question6 (ends c) (nodeKeys n) ∷ []) (claimQuestions-numbered c) j) ∙ a .1 in
+    let d = firstNo-zero (question6 (ends c) (nodeKeys n)) [] (omega arith) b in
+    record {
+      node = nodeInOrder-ordered n (a .0);
+      judged = judged-firstNo c ∙ j;
+      room =
+          let z : length (insertAll (ends c) (nodeKeys n)) < limit + 1 = ltb-true (length (insertAll (ends c) (nodeKeys n))) (limit + 1) (d .0) in omega arith;
+    }
+
+pub taken-done : (n : Node) (c : Claim) → firstNo (takeQuestions n c) ≡ 0 →
+    taken n c ≡ record { number = 0; node = nodeOf (hear c (nodeKeys n)) (tableWith c (pendingOf n)) }
+unfolding taken
+taken-done n c h =
+    settle-done (firstNo (takeQuestions n c)) (record { number = 0; node = nodeOf (hear c (nodeKeys n)) (tableWith c (pendingOf n)) })
+    (λ x. record { number = x; node = n }) h
+
+pub taken-refused : (n : Node) (c : Claim) → (firstNo (takeQuestions n c) ≡ 0 → ⊥) → taken n c ≡ record { number = firstNo (takeQuestions n c); node = n }
+unfolding taken
+taken-refused n c f =
+    settle-refused (firstNo (takeQuestions n c)) (record { number = 0; node = nodeOf (hear c (nodeKeys n)) (tableWith c (pendingOf n)) })
+    (λ x. record { number = x; node = n }) f
+
+-- ---- a beat
+
+pub record BeatYes (n : Node) (lent : List ℕ) : Type 0 where
+  pub node : Ordered n
+  pub room : beatLimit ≤ length lent / 4
+
+pub beatQuestions-yes : (n : Node) (lent : List ℕ) → firstNo (beatQuestions n lent) ≡ 0 → BeatYes n lent
+beatQuestions-yes n lent h =
+    let a = firstNo-zero (nodeQuestion1 n) (question15 (length lent / 4) beatLimit ∷ []) (omega arith) h in
+    let b = firstNo-zero (question15 (length lent / 4) beatLimit) [] (omega arith) (a .1) in
+    record { node = nodeInOrder-ordered n (a .0); room = leb-true beatLimit (length lent / 4) (b .0) }
+
+pub beaten-done : (n : Node) (lent : List ℕ) → firstNo (beatQuestions n lent) ≡ 0 →
+    beaten n lent ≡ record
+    { number = 0; node = nodeOf (nodeKeys n) (serve (nodeKeys n) (pendingOf n) .kept); written = length (sending (nodeKeys n) (pendingOf n)) }
+unfolding beaten
+beaten-done n lent h =
+    settle-done (firstNo (beatQuestions n lent))
+    (record { number = 0; node = nodeOf (nodeKeys n) (serve (nodeKeys n) (pendingOf n) .kept); written = length (sending (nodeKeys n) (pendingOf n)) })
+    (λ x. record { number = x; node = n; written = 0 }) h
+
+pub beaten-refused : (n : Node) (lent : List ℕ) → (firstNo (beatQuestions n lent) ≡ 0 → ⊥) →
+    beaten n lent ≡ record { number = firstNo (beatQuestions n lent); node = n; written = 0 }
+unfolding beaten
+beaten-refused n lent f =
+    settle-refused (firstNo (beatQuestions n lent))
+    (record { number = 0; node = nodeOf (nodeKeys n) (serve (nodeKeys n) (pendingOf n) .kept); written = length (sending (nodeKeys n) (pendingOf n)) })
+    (λ x. record { number = x; node = n; written = 0 }) f
+
+pub beatenLent-done : (n : Node) (lent : List ℕ) → firstNo (beatQuestions n lent) ≡ 0 →
+    beatenLent n lent ≡ writtenOver (claimWords (sending (nodeKeys n) (pendingOf n))) lent
+unfolding beatenLent
+beatenLent-done n lent h = settle-done (firstNo (beatQuestions n lent)) (writtenOver (claimWords (sending (nodeKeys n) (pendingOf n))) lent) (λ x. lent) h
+
+pub beatenLent-refused : (n : Node) (lent : List ℕ) → (firstNo (beatQuestions n lent) ≡ 0 → ⊥) → beatenLent n lent ≡ lent
+unfolding beatenLent
+beatenLent-refused n lent f = settle-refused (firstNo (beatQuestions n lent)) (writtenOver (claimWords (sending (nodeKeys n) (pendingOf n))) lent) (λ x. lent) f
+
+-- ---- a round
+
+pub record RoundYes (s t : Store) (records : ℕ) : Type 0 where
+  pub left : inOrder s ≡ true
+  pub right : inOrder t ≡ true
+  pub fits : length (union (keysOf s) (keysOf t)) ≤ limit
+  pub room : 2 * length (union (keysOf s) (keysOf t)) ≤ records
+
+pub roundQuestions-yes : (s t : Store) (n : ℕ) → firstNo (roundQuestions s t n) ≡ 0 → RoundYes s t n
+roundQuestions-yes s t n h =
+    let q8 = question8 (keysOf s) (keysOf t) in
+    let q9 = question9 (keysOf s) (keysOf t) n in
+    let a = firstNo-zero (question1 s) (question1 t ∷ q8 ∷ q9 ∷ []) (omega arith) h in
+    let b = firstNo-zero (question1 t) (q8 ∷ q9 ∷ []) (omega arith) (a .1) in
+    let c = firstNo-zero q8 (q9 ∷ []) (omega arith) (b .1) in
+    let d = firstNo-zero q9 [] (omega arith) (c .1) in
+    record {
+      left = a .0;
+      right = b .0;
+      fits = leb-true (length (union (keysOf s) (keysOf t))) limit (c .0);
+      room = leb-true (2 * length (union (keysOf s) (keysOf t))) n (d .0);
+    }
+
+pub met-done : (s t : Store) (n : ℕ) → firstNo (roundQuestions s t n) ≡ 0 →
+    met s t n ≡ record { number = 0; left = storeOf (roundBy s t .stores .left); right = storeOf (roundBy s t .stores .right); deliveries = length (roundBy s t .lines) }
+unfolding met
+met-done s t n h =
+    settle-done (firstNo (roundQuestions s t n))
+    (record { number = 0; left = storeOf (roundBy s t .stores .left); right = storeOf (roundBy s t .stores .right); deliveries = length (roundBy s t .lines) })
+    (λ x. record { number = x; left = s; right = t; deliveries = 0 }) h
+
+pub met-refused : (s t : Store) (n : ℕ) → (firstNo (roundQuestions s t n) ≡ 0 → ⊥) →
+    met s t n ≡ record { number = firstNo (roundQuestions s t n); left = s; right = t; deliveries = 0 }
+unfolding met
+met-refused s t n f =
+    settle-refused (firstNo (roundQuestions s t n))
+    (record { number = 0; left = storeOf (roundBy s t .stores .left); right = storeOf (roundBy s t .stores .right); deliveries = length (roundBy s t .lines) })
+    (λ x. record { number = x; left = s; right = t; deliveries = 0 }) f
+
+pub metLent-done : (s t : Store) (lent : List Delivery) → firstNo (roundQuestions s t (length lent)) ≡ 0 →
+    metLent s t lent ≡ writtenOver (transcript (roundBy s t)) lent
+unfolding metLent
+metLent-done s t lent h = settle-done (firstNo (roundQuestions s t (length lent))) (writtenOver (transcript (roundBy s t)) lent) (λ x. lent) h
+
+pub metLent-refused : (s t : Store) (lent : List Delivery) → (firstNo (roundQuestions s t (length lent)) ≡ 0 → ⊥) → metLent s t lent ≡ lent
+unfolding metLent
+metLent-refused s t lent f = settle-refused (firstNo (roundQuestions s t (length lent))) (writtenOver (transcript (roundBy s t)) lent) (λ x. lent) f
+
+pub metWords-done : (s t : Store) (lent : List ℕ) → firstNo (roundQuestions s t (length lent / 5)) ≡ 0 →
+    metWords s t lent ≡ writtenOver (deliveryWords (transcript (roundBy s t))) lent
+unfolding metWords
+metWords-done s t lent h =
+    settle-done (firstNo (roundQuestions s t (length lent / 5))) (writtenOver (deliveryWords (transcript (roundBy s t))) lent) (λ x. lent) h
+
+pub metWords-refused : (s t : Store) (lent : List ℕ) → (firstNo (roundQuestions s t (length lent / 5)) ≡ 0 → ⊥) → metWords s t lent ≡ lent
+unfolding metWords
+metWords-refused s t lent f =
+    settle-refused (firstNo (roundQuestions s t (length lent / 5))) (writtenOver (deliveryWords (transcript (roundBy s t))) lent) (λ x. lent) f
+
+-- ---- what comes out is in order
+
+pub ordered-taken : (n : Node) (c : Claim) → TakeYes n c → Ordered (nodeOf (hear c (nodeKeys n)) (tableWith c (pendingOf n)))
+ordered-taken n c y =
+    let l : List ℕ = nodeKeys n in
+    ordered-nodeOf (hear c l) (tableWith c (pendingOf n)) (hear-rising c l (inOrder-rising (n .store) (y .node .store))) (y .room)
+    (length-tableWith c (pendingOf n)) (climbs-tableWith c (pendingOf n) (y .node .table))
+    (λ d m.
+    ⊎-elim
+    {C = Fits d (hear c l)}
+    (λ (e : d ≡ c). subst (λ (x : Claim). Fits x (hear c l)) (sym e) (record { passes = y .judged; held = hear-new c l }))
+    (λ (o : List·Memᴰ d (pendingOf n)). fits-sub d l (hear c l) (hear-old c l) (y .node .fit d o))
+    (insertClaim-mem c (pendingOf n) d (take-mem tableLimit (insertClaim c (pendingOf n)) d m)))
+  where
+    take-mem : (k : ℕ) (t : List Claim) (d : Claim) → List·Memᴰ d (take k t) → List·Memᴰ d t
+    take-mem k t d m = subst (λ (x : List Claim). List·Memᴰ d x) (take-append-drop k t) (Memᴰ·append-left (drop k t) m)
+
+pub length-nodeKeys : (n : Node) → Ordered n → length (nodeKeys n) ≤ limit
+length-nodeKeys n o = rw (length-take (n .store .count) (n .store .keys)) (omega (arith, inOrder-count (n .store) (o .store)))
+
+pub ordered-beaten : (n : Node) → Ordered n → length (pendingOf n) ≤ tableLimit → Ordered (nodeOf (nodeKeys n) (serve (nodeKeys n) (pendingOf n) .kept))
+ordered-beaten n o h =
+    let l : List ℕ = nodeKeys n in
+    ordered-nodeOf l (serve l (pendingOf n) .kept) (inOrder-rising (n .store) (o .store)) (length-nodeKeys n o)
+    (let z : length (serve l (pendingOf n) .kept) ≤ length (pendingOf n) = length-kept l (pendingOf n) in omega arith)
+    (climbs-kept l (pendingOf n) (o .table))
+    (λ d m. o .fit d (kept-mem l (pendingOf n) d m))
+
+pub length-pendingOf : (n : Node) → Ordered n → length (pendingOf n) ≤ tableLimit
+length-pendingOf n o = rw (length-take (n .count) (n .pending)) (omega (arith, o .count))
+
+-- the rule's facts, of a round that was not refused
+pub roundYes-rounded : (s t : Store) (n : ℕ) → RoundYes s t n → Rounded (keysOf s) (keysOf t)
+roundYes-rounded s t n y = rounded (keysOf s) (keysOf t) (inOrder-rising s (y .left)) (inOrder-rising t (y .right)) (y .fits)
+
+-- the count that a round returns, refused or not, whatever the two stores hold
+pub met-bounded : (s t : Store) (n : ℕ) → met s t n .deliveries ≤ 2 * length (union (keysOf s) (keysOf t))
+met-bounded s t n =
+    ⊎-elim
+    {C = met s t n .deliveries ≤ 2 * length (union (keysOf s) (keysOf t))}
+    (λ (h : firstNo (roundQuestions s t n) ≡ 0). rw (met-done s t n h) (roundYes-rounded s t n (roundQuestions-yes s t n h) .bound))
+    (λ (f : firstNo (roundQuestions s t n) ≡ 0 → ⊥). rw (met-refused s t n f) (omega arith))
+    (eq-or-ne (firstNo (roundQuestions s t n)) 0)

@@ -1,0 +1,283 @@
+-- A half of a round ends, and makes at most as many deliveries as the union has keys: `run`, `runAll`, `half` and `roundOf` of Round. In order: a
+-- fine state of a half, and that a delivery leads to the next; running: it ends, its deliveries and what waits fit the weight, more steps change
+-- nothing; `runAll` without its bound; a half; a round. Each delivery takes at least 1 off the weights of what waits. Assumes nothing.
+use Prim.Native.Nat.{ℕ, zero, suc, _+_, _*_, _≤_}
+use mathlib.Core.List.{List, [], _∷_, _++_, List·Memᴰ, List·Memᴰ·head, List·Memᴰ·tail, List·Memᴰ·not-nil}
+use mathlib.Core.Path.{_≡_, refl, sym, ap, _∙_, subst}
+use native.Mathlib.Omega.{arith}
+use lib.ListN.{length, length-append}
+use Rattle.claims.specs.Store.{limit}
+use Rattle.claims.specs.Claim.{wholeClaim, between}
+use Rattle.claims.proofs.Rising.{Rising, Sub, sub-refl, rising-length}
+use Rattle.claims.proofs.Between.{length-between}
+use Rattle.claims.proofs.Span.{first, last, between-first-last}
+use Rattle.claims.proofs.QuestionLaws.{Passes}
+use Rattle.claims.proofs.ClaimLaws.{spanClaim, wholeClaim-span}
+use Rattle.rule.specs.Round.{union, End, leftEnd, rightEnd, Pair, pair, keysAt, Entry, waits, delivered, answers, line, Run, noting, run, runAll, half, followed, roundOf}
+use Rattle.rule.proofs.Pair.{Rises, Within, Grown, grown-refl, grown-trans, unionOf, unionOf-rising, unionOf-grown, within-unionOf, rises-pair, delivered-rises, delivered-within, delivered-grown}
+use Rattle.rule.proofs.Entry.{Sound, sound-limit, AllSound, allSound-grown, allSound-append, entry, sound-entry, weight, weights, weights-append, weights-grown, weight-le, length-weights}
+use Rattle.rule.proofs.Deliver.{answers-sound, answers-weight, adding-within}
+
+-- ---- a fine state of a half
+
+-- both stores rise and lie within u, at most 1,024 keys, and every entry that waits is sound
+pub record Fine (u : List ℕ) (p : Pair) (q : List Entry) : Type 0 where
+  pub whole : Rising u
+  pub fits : length u ≤ limit
+  pub rises : Rises p
+  pub within : Within p u
+  pub sound : AllSound p q
+
+fine-first : (u : List ℕ) (p : Pair) (e : Entry) (q : List Entry) → Fine u p (e ∷ q) → Sound p e
+fine-first u p e q f = f .sound e (List·Memᴰ·head refl)
+
+-- the first claim passes questions 2 to 5, ..
+pub fine-passes : (u : List ℕ) (p : Pair) (e : Entry) (q : List Entry) → Fine u p (e ∷ q) → Passes (e .claim)
+fine-passes u p e q f = sound-limit p e u (fine-first u p e q f) (f .within) (f .whole) (f .fits)
+
+-- .. and either store has room: of the state after the delivery this says that what the claim adds fits
+pub fine-count : (u : List ℕ) (p : Pair) (q : List Entry) → Fine u p q → (s : End) → length (keysAt s p) ≤ limit
+fine-count u p q f s =
+    let a : length (keysAt s p) ≤ length u = rising-length (keysAt s p) u (f .rises s) (f .whole) (f .within s) in
+    let b : length u ≤ limit = f .fits in
+    omega arith
+
+pub fine-step : (u : List ℕ) (p : Pair) (e : Entry) (q : List Entry) → Fine u p (e ∷ q) → Fine u (delivered e p) (q ++ answers e p)
+fine-step u p e q f =
+    let s : Sound p e = fine-first u p e q f in
+    record {
+      whole = f .whole;
+      fits = f .fits;
+      rises = delivered-rises e p (f .rises);
+      within = delivered-within e p u (adding-within u p e s (f .within)) (f .within);
+      sound = allSound-append (delivered e p) q (answers e p)
+          (allSound-grown p (delivered e p) q (delivered-grown e p) (λ x m. f .sound x (List·Memᴰ·tail m)))
+          (answers-sound u p e s (f .rises) (f .within) (f .whole) (f .fits));
+    }
+
+pub weights-step : (u : List ℕ) (p : Pair) (e : Entry) (q : List Entry) → Fine u p (e ∷ q) →
+    weights u (delivered e p) (q ++ answers e p) + 1 ≤ weights u p (e ∷ q)
+weights-step u p e q f =
+    let a : weights u (delivered e p) (q ++ answers e p) ≡ weights u (delivered e p) q + weights u (delivered e p) (answers e p)
+    = weights-append u (delivered e p) q (answers e p) in
+    let b : weights u (delivered e p) q ≤ weights u p q
+    = weights-grown u p (delivered e p) q (f .rises) (delivered-rises e p (f .rises)) (delivered-grown e p) in
+    let c : weights u (delivered e p) (answers e p) + 1 ≤ weight u p e
+    = answers-weight u p e (fine-first u p e q f) (f .rises) (f .within) (f .whole) (f .fits) in
+    omega arith
+
+-- what waits is never more than what the weights leave: with the deliveries so far, it fits the records
+pub fine-length : (u : List ℕ) (p : Pair) (q : List Entry) → Fine u p q → length q ≤ weights u p q
+fine-length u p q f = length-weights u p q (f .sound) (f .rises) (f .within) (f .whole)
+
+-- ---- running
+
+pub run-nil : (n : ℕ) (p : Pair) → run n p [] ≡ record { stores = p; lines = []; waiting = [] }
+unfolding run
+run-nil zero p = refl
+run-nil (suc n) p = refl
+
+pub run-cons : (n : ℕ) (p : Pair) (e : Entry) (q : List Entry) → run (suc n) p (e ∷ q) ≡ noting (line e p) (run n (delivered e p) (q ++ answers e p))
+unfolding run
+run-cons n p e q = refl
+
+pub run-fine : (n : ℕ) (u : List ℕ) (p : Pair) (q : List Entry) → Fine u p q → Fine u (run n p q .stores) (run n p q .waiting)
+unfolding run
+run-fine zero u p q f = f
+run-fine (suc n) u p [] f = f
+run-fine (suc n) u p (e ∷ q) f = run-fine n u (delivered e p) (q ++ answers e p) (fine-step u p e q f)
+
+pub run-grown : (n : ℕ) (p : Pair) (q : List Entry) → Grown p (run n p q .stores)
+unfolding run
+run-grown zero p q = grown-refl p
+run-grown (suc n) p [] = grown-refl p
+run-grown (suc n) p (e ∷ q) =
+    grown-trans p (delivered e p) (run n (delivered e p) (q ++ answers e p) .stores) (delivered-grown e p) (run-grown n (delivered e p) (q ++ answers e p))
+
+pub length-run : (n : ℕ) (u : List ℕ) (p : Pair) (q : List Entry) → Fine u p q → length (run n p q .lines) ≤ weights u p q
+unfolding run
+length-run zero u p q f = omega arith
+length-run (suc n) u p [] f = omega arith
+length-run (suc n) u p (e ∷ q) f = omega (arith, weights-step u p e q f, length-run n u (delivered e p) (q ++ answers e p) (fine-step u p e q f))
+
+-- the deliveries and what waits after them
+pub length-run-waiting : (n : ℕ) (u : List ℕ) (p : Pair) (q : List Entry) → Fine u p q → length (run n p q .lines) + length (run n p q .waiting) ≤ weights u p q
+unfolding run
+length-run-waiting zero u p q f = omega (arith, fine-length u p q f)
+length-run-waiting (suc n) u p [] f = omega arith
+length-run-waiting (suc n) u p (e ∷ q) f =
+    omega (arith, weights-step u p e q f, length-run-waiting n u (delivered e p) (q ++ answers e p) (fine-step u p e q f))
+
+-- nothing waits at the end ..
+pub run-ends : (n : ℕ) (u : List ℕ) (p : Pair) (q : List Entry) → Fine u p q → weights u p q ≤ n → run n p q .waiting ≡ []
+unfolding run
+run-ends zero u p [] f h = refl
+run-ends zero u p (e ∷ q) f h = absurd (omega (arith, weights-step u p e q f))
+run-ends (suc n) u p [] f h = refl
+run-ends (suc n) u p (e ∷ q) f h = run-ends n u (delivered e p) (q ++ answers e p) (fine-step u p e q f) (omega (arith, weights-step u p e q f))
+
+-- .. and more steps change nothing
+pub run-more : (n m : ℕ) (u : List ℕ) (p : Pair) (q : List Entry) → Fine u p q → weights u p q ≤ n → weights u p q ≤ m → run n p q ≡ run m p q
+run-more zero zero u p q f h g = refl
+run-more zero (suc m) u p [] f h g = run-nil zero p ∙ sym (run-nil (suc m) p)
+run-more zero (suc m) u p (e ∷ q) f h g = absurd (omega (arith, weights-step u p e q f))
+run-more (suc n) zero u p [] f h g = run-nil (suc n) p ∙ sym (run-nil zero p)
+run-more (suc n) zero u p (e ∷ q) f h g = absurd (omega (arith, weights-step u p e q f))
+run-more (suc n) (suc m) u p [] f h g = run-nil (suc n) p ∙ sym (run-nil (suc m) p)
+run-more (suc n) (suc m) u p (e ∷ q) f h g =
+    run-cons n p e q
+    ∙ ap (noting (line e p))
+    (run-more n m u (delivered e p) (q ++ answers e p) (fine-step u p e q f) (omega (arith, weights-step u p e q f)) (omega (arith, weights-step u p e q f)))
+    ∙ sym (run-cons m p e q)
+
+-- ---- a half, at any time in it
+
+-- what a half comes to while it is delivered: fine over the union of its two stores, with no more weight than that union has keys
+pub record Halfway (p : Pair) (q : List Entry) : Type 0 where
+  pub fine : Fine (unionOf p) p q
+  pub light : weights (unionOf p) p q ≤ length (unionOf p)
+
+pub halfway-step : (p : Pair) (e : Entry) (q : List Entry) → Halfway p (e ∷ q) → Halfway (delivered e p) (q ++ answers e p)
+halfway-step p e q h =
+    let f : Fine (unionOf p) (delivered e p) (q ++ answers e p) = fine-step (unionOf p) p e q (h .fine) in
+    let k : unionOf (delivered e p) ≡ unionOf p = unionOf-grown p (delivered e p) (h .fine .rises) (f .rises) (delivered-grown e p) (f .within) in
+    let w : weights (unionOf p) (delivered e p) (q ++ answers e p) ≤ length (unionOf p) = omega (arith, weights-step (unionOf p) p e q (h .fine), h .light) in
+    record {
+      fine = subst (λ (u : List ℕ). Fine u (delivered e p) (q ++ answers e p)) (sym k) f;
+      light = subst (λ (u : List ℕ). weights u (delivered e p) (q ++ answers e p) ≤ length u) (sym k) w;
+    }
+
+-- a half with nothing waiting ends
+pub runAll-nil : (p : Pair) → runAll p [] ≡ record { stores = p; lines = []; waiting = [] }
+unfolding runAll
+runAll-nil p = run-nil (length (unionOf p)) p
+
+-- a half with a first entry is the half after its delivery, with the replies put last
+pub runAll-cons : (p : Pair) (e : Entry) (q : List Entry) → Halfway p (e ∷ q) → runAll p (e ∷ q) ≡ noting (line e p) (runAll (delivered e p) (q ++ answers e p))
+unfolding runAll
+runAll-cons p e q h = go (length (unionOf p)) refl
+  where
+    u : List ℕ
+    u = unionOf p
+
+    f : Fine u (delivered e p) (q ++ answers e p)
+    f = fine-step u p e q (h .fine)
+
+    k : unionOf (delivered e p) ≡ u
+    k = unionOf-grown p (delivered e p) (h .fine .rises) (f .rises) (delivered-grown e p) (f .within)
+
+    go : (n : ℕ) → length u ≡ n → run n p (e ∷ q) ≡ noting (line e p) (run (length (unionOf (delivered e p))) (delivered e p) (q ++ answers e p))
+    go zero z = absurd (omega (arith, weights-step u p e q (h .fine), h .light))
+    go (suc n) z =
+        run-cons n p e q
+        ∙ ap (noting (line e p))
+        (run-more n (length u) u (delivered e p) (q ++ answers e p) f (omega (arith, weights-step u p e q (h .fine), h .light)) (omega (arith, weights-step u p e q (h .fine), h .light))
+        ∙ ap (λ (v : List ℕ). run (length v) (delivered e p) (q ++ answers e p)) (sym k))
+
+pub runAll-ends : (p : Pair) (q : List Entry) → Halfway p q → runAll p q .waiting ≡ []
+unfolding runAll
+runAll-ends p q h = run-ends (length (unionOf p)) (unionOf p) p q (h .fine) (h .light)
+
+-- ---- a half
+
+abbrev pub opening : End → Pair → List Entry
+opening s p = waits s (keysAt s p) (wholeClaim (keysAt s p))
+
+opening-whole : (s : End) (p : Pair) (l : List ℕ) → Rises p → l ≡ keysAt s p → length (unionOf p) ≤ limit → Halfway p (waits s l (wholeClaim l))
+opening-whole s p [] r e h = record {
+  fine = record { whole = unionOf-rising p r; fits = h; rises = r; within = within-unionOf p; sound = λ x m. absurd (List·Memᴰ·not-nil m) };
+  light = omega arith;
+}
+opening-whole s p (k ∷ ks) r e h =
+    let l : List ℕ = k ∷ ks in
+    let rl : Rising l = subst Rising (sym e) (r s) in
+    let x : Entry = entry s l (spanClaim l) in
+    let i : waits s l (wholeClaim l) ≡ x ∷ [] = ap (waits s l) (wholeClaim-span l (omega arith)) in
+    let a : Sound p x = sound-entry p s l l rl (subst (λ (m : List ℕ). Sub l m) e (sub-refl l)) (omega arith) (between-first-last l rl) in
+    let b : weight (unionOf p) p x ≤ length (between (first l) (last l) (unionOf p)) = weight-le (unionOf p) p x in
+    let c : length (between (first l) (last l) (unionOf p)) ≤ length (unionOf p) = length-between (first l) (last l) (unionOf p) in
+    subst (λ (q : List Entry). Halfway p q) (sym i) (record {
+      fine = record {
+        whole = unionOf-rising p r;
+        fits = h;
+        rises = r;
+        within = within-unionOf p;
+        sound = λ y m. one x y a m;
+      };
+      light = omega arith;
+    })
+  where
+    one : (x y : Entry) → Sound p x → List·Memᴰ y (x ∷ []) → Sound p y
+    one x y a (List·Memᴰ·head z) = subst (λ (t : Entry). Sound p t) (sym z) a
+    one x y a (List·Memᴰ·tail m) = absurd (List·Memᴰ·not-nil m)
+
+pub halfway-opening : (s : End) (p : Pair) → Rises p → length (unionOf p) ≤ limit → Halfway p (opening s p)
+halfway-opening s p r h = opening-whole s p (keysAt s p) r refl h
+
+pub half-opening : (s : End) (p : Pair) → half s p ≡ runAll p (opening s p)
+unfolding half
+half-opening s p = refl
+
+pub half-run : (s : End) (p : Pair) → half s p ≡ run (length (unionOf p)) p (opening s p)
+unfolding half runAll
+half-run s p = refl
+
+pub half-fine : (s : End) (p : Pair) → Rises p → length (unionOf p) ≤ limit → Fine (unionOf p) (half s p .stores) (half s p .waiting)
+unfolding half runAll
+half-fine s p r h = run-fine (length (unionOf p)) (unionOf p) p (opening s p) (halfway-opening s p r h .fine)
+
+pub half-ends : (s : End) (p : Pair) → Rises p → length (unionOf p) ≤ limit → half s p .waiting ≡ []
+unfolding half
+half-ends s p r h = runAll-ends p (opening s p) (halfway-opening s p r h)
+
+pub length-half : (s : End) (p : Pair) → Rises p → length (unionOf p) ≤ limit → length (half s p .lines) ≤ length (unionOf p)
+unfolding half runAll
+length-half s p r h =
+    let w : Halfway p (opening s p) = halfway-opening s p r h in
+    omega (arith, length-run (length (unionOf p)) (unionOf p) p (opening s p) (w .fine), w .light)
+
+pub half-grown : (s : End) (p : Pair) → Grown p (half s p .stores)
+unfolding half runAll
+half-grown s p = run-grown (length (unionOf p)) p (opening s p)
+
+pub half-union : (s : End) (p : Pair) → Rises p → length (unionOf p) ≤ limit → unionOf (half s p .stores) ≡ unionOf p
+half-union s p r h = unionOf-grown p (half s p .stores) r (half-fine s p r h .rises) (half-grown s p) (half-fine s p r h .within)
+
+-- ---- a round
+
+pub roundOf-halves : (l r : List ℕ) → roundOf l r ≡ followed (half leftEnd (pair l r)) (half rightEnd (half leftEnd (pair l r) .stores))
+unfolding roundOf
+roundOf-halves l r = refl
+
+-- both halves of a round of rising stores whose union has at most 1,024 keys
+pub record RoundedBy (l r : List ℕ) (x : Run) : Type 0 where
+  pub rises : Rises (x .stores)
+  pub within : Within (x .stores) (union l r)
+  pub grown : Grown (pair l r) (x .stores)
+  pub same-union : unionOf (x .stores) ≡ union l r
+  pub ends : x .waiting ≡ []
+  pub bound : length (x .lines) ≤ 2 * length (union l r)
+
+abbrev pub Rounded : List ℕ → List ℕ → Type 0
+Rounded l r = RoundedBy l r (roundOf l r)
+
+pub rounded : (l r : List ℕ) → Rising l → Rising r → length (union l r) ≤ limit → Rounded l r
+rounded l r rl rr h =
+    let p : Pair = pair l r in
+    let rp : Rises p = rises-pair l r rl rr in
+    let p′ : Pair = half leftEnd p .stores in
+    let u : unionOf p′ ≡ unionOf p = half-union leftEnd p rp h in
+    let rp′ : Rises p′ = half-fine leftEnd p rp h .rises in
+    let h′ : length (unionOf p′) ≤ limit = subst (λ (v : List ℕ). length v ≤ limit) (sym u) h in
+    let f : Fine (unionOf p′) (half rightEnd p′ .stores) (half rightEnd p′ .waiting) = half-fine rightEnd p′ rp′ h′ in
+    let a : length (half leftEnd p .lines) ≤ length (unionOf p) = length-half leftEnd p rp h in
+    let b : length (half rightEnd p′ .lines) ≤ length (unionOf p)
+    = subst (λ (v : List ℕ). length (half rightEnd p′ .lines) ≤ length v) u (length-half rightEnd p′ rp′ h′) in
+    subst (RoundedBy l r) (sym (roundOf-halves l r)) (record {
+      rises = f .rises;
+      within = subst (λ (v : List ℕ). Within (half rightEnd p′ .stores) v) u (f .within);
+      grown = grown-trans p p′ (half rightEnd p′ .stores) (half-grown leftEnd p) (half-grown rightEnd p′);
+      same-union = half-union rightEnd p′ rp′ h′ ∙ u;
+      ends = rw (half-ends leftEnd p rp h, half-ends rightEnd p′ rp′ h′);
+      bound = rw (length-append (half leftEnd p .lines) (half rightEnd p′ .lines)) (omega arith);
+    })

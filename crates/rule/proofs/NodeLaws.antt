@@ -1,0 +1,182 @@
+-- A node in order: `nodeInOrder`, `nodeOf` and `emptyNode` of Node. In order: keys held and claims that fit, by their members; blanks; what "in
+-- order" says, clause by clause, and that the clauses make it up; a node whose store grew; the node of keys and claims; the empty node.
+-- Not here: the table (TableLaws). Assumes nothing.
+use Prim.Native.Nat.{ℕ, zero, suc, _-_, _≤_}
+use mathlib.Core.Bool.{Bool, true, _&&_}
+use mathlib.Core.List.{List, [], _∷_, _++_, List·Memᴰ, List·Memᴰ·head, List·Memᴰ·tail, List·Memᴰ·not-nil, Memᴰ·cast}
+use mathlib.Core.Path.{_≡_, refl, sym, ap, _∙_, subst}
+use native.Mathlib.Omega.{arith}
+use borrow.Author.Tests.{leb-true, le-leb, eqb-true, eq-eqb}
+use lib.Dec.{leb, eqb}
+use lib.ListN.{length, drop, length-drop, length-replicate, take-append-drop}
+use lib.Seq.{length-take-le, take-append-seam, drop-append-seam}
+use Rattle.claims.specs.declared.claim.Claim.{Claim}
+use Rattle.claims.specs.declared.store.Store.{Store}
+use Rattle.claims.specs.Store.{limit, storeOf, inOrder, holds}
+use Rattle.claims.specs.Reply.{ends, same}
+use Rattle.claims.specs.Call.{judged}
+use Rattle.claims.specs.Claim.{noClaim}
+use Rattle.claims.proofs.Tests.{and-left, and-right, and-both}
+use Rattle.claims.proofs.Rising.{Rising, Sub, sub-trans, holds-mem, mem-holds}
+use Rattle.claims.proofs.Order.{keysOf-storeOf, storeOf-keysOf, inOrder-storeOf, emptyStore-storeOf}
+use Rattle.claims.proofs.ClaimLaws.{same-claim}
+use Rattle.rule.specs.declared.node.Node.{Node}
+use Rattle.rule.specs.Table.{tableLimit, climbs}
+use Rattle.rule.specs.Node.{blanks, pendingOf, nodeKeys, nodeOf, emptyNode, holdsAll, allFit, allUnused, nodeInOrder}
+
+-- ---- keys held, and claims that fit
+
+pub holdsAll-sub : (ks l : List ℕ) → holdsAll ks l ≡ true → Sub ks l
+holdsAll-sub [] l h k m = absurd (List·Memᴰ·not-nil m)
+holdsAll-sub (x ∷ xs) l h k (List·Memᴰ·head e) = Memᴰ·cast e (holds-mem x l (and-left (holds x l) (holdsAll xs l) h))
+holdsAll-sub (x ∷ xs) l h k (List·Memᴰ·tail m) = holdsAll-sub xs l (and-right (holds x l) (holdsAll xs l) h) k m
+
+pub sub-holdsAll : (ks l : List ℕ) → Sub ks l → holdsAll ks l ≡ true
+sub-holdsAll [] l s = refl
+sub-holdsAll (x ∷ xs) l s = and-both (holds x l) (holdsAll xs l) (mem-holds x l (s x (List·Memᴰ·head refl))) (sub-holdsAll xs l (λ k m. s k (List·Memᴰ·tail m)))
+
+-- a claim may be pending beside the keys l
+pub record Fits (c : Claim) (l : List ℕ) : Type 0 where
+  pub passes : judged c ≡ 0
+  pub held : Sub (ends c) l
+
+pub fits-sub : (c : Claim) (l m : List ℕ) → Sub l m → Fits c l → Fits c m
+fits-sub c l m s f = record { passes = f .passes; held = sub-trans (ends c) l m (f .held) s }
+
+pub allFit-mem : (t : List Claim) (l : List ℕ) → allFit t l ≡ true → (c : Claim) → List·Memᴰ c t → Fits c l
+allFit-mem [] l h c m = absurd (List·Memᴰ·not-nil m)
+allFit-mem (d ∷ ds) l h c (List·Memᴰ·head e) =
+    let p : judged d ≡ 0 = eqb-true (judged d) 0 (and-left (eqb (judged d) 0) (holdsAll (ends d) l && allFit ds l) h) in
+    let q : holdsAll (ends d) l ≡ true = and-left (holdsAll (ends d) l) (allFit ds l) (and-right (eqb (judged d) 0) (holdsAll (ends d) l && allFit ds l) h) in
+    let f : Fits d l = record { passes = p; held = holdsAll-sub (ends d) l q } in
+    subst (λ (x : Claim). Fits x l) (sym e) f
+allFit-mem (d ∷ ds) l h c (List·Memᴰ·tail m) =
+    allFit-mem ds l (and-right (holdsAll (ends d) l) (allFit ds l) (and-right (eqb (judged d) 0) (holdsAll (ends d) l && allFit ds l) h)) c m
+
+pub mem-allFit : (t : List Claim) (l : List ℕ) → ((c : Claim) → List·Memᴰ c t → Fits c l) → allFit t l ≡ true
+mem-allFit [] l f = refl
+mem-allFit (d ∷ ds) l f =
+    let g : Fits d l = f d (List·Memᴰ·head refl) in
+    and-both (eqb (judged d) 0) (holdsAll (ends d) l && allFit ds l) (eq-eqb (judged d) 0 (g .passes))
+    (and-both (holdsAll (ends d) l) (allFit ds l) (sub-holdsAll (ends d) l (g .held)) (mem-allFit ds l (λ c m. f c (List·Memᴰ·tail m))))
+
+-- ---- blanks
+
+pub length-blanks : (n : ℕ) → length (blanks n) ≡ n
+unfolding blanks
+length-blanks n = length-replicate n noClaim
+
+pub allUnused-blanks : (n : ℕ) → allUnused (blanks n) ≡ true
+unfolding blanks
+allUnused-blanks zero = refl
+allUnused-blanks (suc n) = allUnused-blanks n
+
+pub blanks-allUnused : (t : List Claim) → allUnused t ≡ true → t ≡ blanks (length t)
+unfolding blanks
+blanks-allUnused [] h = refl
+blanks-allUnused (c ∷ cs) h =
+    let e : c ≡ noClaim = same-claim c noClaim (and-left (same c noClaim) (allUnused cs) h) in
+    let p : cs ≡ blanks (length cs) = blanks-allUnused cs (and-right (same c noClaim) (allUnused cs) h) in
+    cc
+
+-- ---- what "in order" says
+
+pub record Ordered (n : Node) : Type 0 where
+  pub store : inOrder (n .store) ≡ true
+  pub count : n .count ≤ tableLimit
+  pub table : climbs (pendingOf n) ≡ true
+  pub fit : (c : Claim) → List·Memᴰ c (pendingOf n) → Fits c (nodeKeys n)
+  pub unused : allUnused (drop (n .count) (n .pending)) ≡ true
+
+pub nodeInOrder-ordered : (n : Node) → nodeInOrder n ≡ true → Ordered n
+unfolding nodeInOrder
+nodeInOrder-ordered n h =
+    let a : Bool = inOrder (n .store) in
+    let b : Bool = leb (n .count) tableLimit in
+    let c : Bool = climbs (pendingOf n) in
+    let d : Bool = allFit (pendingOf n) (nodeKeys n) in
+    let e : Bool = allUnused (drop (n .count) (n .pending)) in
+    let h1 : (b && (c && (d && e))) ≡ true = and-right a (b && (c && (d && e))) h in
+    let h2 : (c && (d && e)) ≡ true = and-right b (c && (d && e)) h1 in
+    let h3 : (d && e) ≡ true = and-right c (d && e) h2 in
+    record {
+      store = and-left a (b && (c && (d && e))) h;
+      count = leb-true (n .count) tableLimit (and-left b (c && (d && e)) h1);
+      table = and-left c (d && e) h2;
+      fit = allFit-mem (pendingOf n) (nodeKeys n) (and-left d e h3);
+      unused = and-right d e h3;
+    }
+
+pub ordered-nodeInOrder : (n : Node) → Ordered n → nodeInOrder n ≡ true
+unfolding nodeInOrder
+ordered-nodeInOrder n o =
+    let b : Bool = leb (n .count) tableLimit in
+    let c : Bool = climbs (pendingOf n) in
+    let d : Bool = allFit (pendingOf n) (nodeKeys n) in
+    let e : Bool = allUnused (drop (n .count) (n .pending)) in
+    and-both (inOrder (n .store)) (b && (c && (d && e))) (o .store)
+    (and-both b (c && (d && e)) (le-leb (n .count) tableLimit (o .count))
+    (and-both c (d && e) (o .table)
+    (and-both d e (mem-allFit (pendingOf n) (nodeKeys n) (o .fit)) (o .unused))))
+
+-- ---- a node whose store became the store of more keys
+
+abbrev pub restored : Node → Store → Node
+restored n s = record { store = s; pending = n .pending; count = n .count }
+
+pub ordered-restored : (n : Node) (l : List ℕ) → Ordered n → Rising l → length l ≤ limit → Sub (nodeKeys n) l → Ordered (restored n (storeOf l))
+ordered-restored n l o r h s = record {
+  store = inOrder-storeOf l r h;
+  count = o .count;
+  table = o .table;
+  fit = λ c m. subst (λ (k : List ℕ). Fits c k) (sym (keysOf-storeOf l)) (fits-sub c (nodeKeys n) l s (o .fit c m));
+  unused = o .unused;
+}
+
+-- ---- the node of keys and claims
+
+pub nodeKeys-nodeOf : (l : List ℕ) (t : List Claim) → nodeKeys (nodeOf l t) ≡ l
+unfolding nodeOf
+nodeKeys-nodeOf l t = keysOf-storeOf l
+
+pub store-nodeOf : (l : List ℕ) (t : List Claim) → nodeOf l t .store ≡ storeOf l
+unfolding nodeOf
+store-nodeOf l t = refl
+
+pub pendingOf-nodeOf : (l : List ℕ) (t : List Claim) → pendingOf (nodeOf l t) ≡ t
+unfolding nodeOf
+pendingOf-nodeOf l t = take-append-seam t (blanks (tableLimit - length t))
+
+pub ordered-nodeOf : (l : List ℕ) (t : List Claim) → Rising l → length l ≤ limit → length t ≤ tableLimit → climbs t ≡ true →
+    ((c : Claim) → List·Memᴰ c t → Fits c l) → Ordered (nodeOf l t)
+unfolding nodeOf
+ordered-nodeOf l t r h g u f = record {
+  store = inOrder-storeOf l r h;
+  count = g;
+  table = rw (take-append-seam t (blanks (tableLimit - length t))) u;
+  fit = rw (take-append-seam t (blanks (tableLimit - length t)), keysOf-storeOf l) f;
+  unused = rw (drop-append-seam t (blanks (tableLimit - length t))) (allUnused-blanks (tableLimit - length t));
+}
+
+-- a node in order, with as many places as the limits say, is the node of its keys and its pending claims
+pub nodeOf-same : (n : Node) → length (n .store .keys) ≡ limit → length (n .pending) ≡ tableLimit → Ordered n → n ≡ nodeOf (nodeKeys n) (pendingOf n)
+unfolding nodeOf
+nodeOf-same n k p o =
+    let s : n .store ≡ storeOf (nodeKeys n) = storeOf-keysOf (n .store) k (o .store) in
+    let h : n .count ≤ tableLimit = o .count in
+    let c : length (pendingOf n) ≡ n .count = length-take-le (n .count) (n .pending) (omega arith) in
+    let d : length (drop (n .count) (n .pending)) ≡ tableLimit - length (pendingOf n) = length-drop (n .count) (n .pending) ∙ (omega arith) in
+    let b : drop (n .count) (n .pending) ≡ blanks (tableLimit - length (pendingOf n))
+    = blanks-allUnused (drop (n .count) (n .pending)) (o .unused) ∙ ap blanks d in
+    let t : n .pending ≡ pendingOf n ++ blanks (tableLimit - length (pendingOf n))
+    = sym (take-append-drop (n .count) (n .pending)) ∙ ap (λ (x : List Claim). pendingOf n ++ x) b in
+    λ i. record { store = s i; pending = t i; count = sym c i }
+
+-- ---- the empty node
+
+pub emptyNode-nodeOf : emptyNode ≡ nodeOf [] []
+unfolding emptyNode nodeOf
+emptyNode-nodeOf = λ i. record { store = emptyStore-storeOf i; pending = blanks tableLimit; count = 0 }
+
+pub ordered-emptyNode : Ordered emptyNode
+ordered-emptyNode = rw emptyNode-nodeOf (ordered-nodeOf [] [] tt (omega arith) (omega arith) refl (λ c m. absurd (List·Memᴰ·not-nil m)))

@@ -1,0 +1,232 @@
+-- The pending table: `before`, `climbs`, `insertClaim`, `tableWith` and `serve` of Table. In order: words compared; claims compared; climbing
+-- tables stay so when a claim is put in, the last is dropped and some leave; how many claims there are; what a beat sends and keeps.
+-- Not here: the node around the table (NodeLaws). Assumes nothing.
+use Prim.Native.Nat.{ℕ, zero, suc, _*_, _≤_, _<_}
+use mathlib.Core.Bool.{Bool, true, false, cond, _&&_, false≢true}
+use mathlib.Core.List.{List, [], _∷_, _++_, List·Memᴰ, List·Memᴰ·head, List·Memᴰ·tail, List·Memᴰ·not-nil, List·Memᴰ·append-cases}
+use mathlib.Core.Logic.{_⊎_, inl, inr, ⊎-elim}
+use mathlib.Core.Path.{_≡_, refl, sym, _∙_}
+use native.Mathlib.Omega.{arith}
+use borrow.Author.Tests.{lt-ltb, le-ltb, eq-eqb, ne-eqb}
+use lib.ListN.{length, take, drop, length-append, length-take, take-append-drop}
+use Rattle.claims.specs.declared.claim.Claim.{Claim}
+use Rattle.claims.specs.declared.answer.Answer.{Answer}
+use Rattle.claims.specs.declared.answer.Answer.the-variants.{Refused, Match, Ask, One, Two}
+use Rattle.claims.specs.Claim.{wholeClaim}
+use Rattle.claims.specs.Reply.{same, reply, claimsOf}
+use Rattle.claims.proofs.Tests.{and-left, and-right, and-both, Order, less, equal, greater, order}
+use Rattle.claims.proofs.ClaimLaws.{claim-ext, claim-same}
+use Rattle.rule.specs.Table.{tableLimit, ranking, wordsBefore, before, climbsFrom, climbs, insertClaim, tableWith, remains, serve, sending, beatLimit}
+
+-- ---- words compared
+
+pub wordsBefore-less : (x y : ℕ) (xs ys : List ℕ) → x < y → wordsBefore (x ∷ xs) (y ∷ ys) ≡ true
+wordsBefore-less x y xs ys h = rw (ne-eqb x y (λ (e : x ≡ y). omega arith), lt-ltb x y h)
+
+pub wordsBefore-equal : (x y : ℕ) (xs ys : List ℕ) → x ≡ y → wordsBefore (x ∷ xs) (y ∷ ys) ≡ wordsBefore xs ys
+wordsBefore-equal x y xs ys e = rw (eq-eqb x y e)
+
+pub wordsBefore-greater : (x y : ℕ) (xs ys : List ℕ) → y < x → wordsBefore (x ∷ xs) (y ∷ ys) ≡ false
+wordsBefore-greater x y xs ys h = rw (ne-eqb x y (λ (e : x ≡ y). omega arith), le-ltb x y (omega arith))
+
+pub wordsBefore-trans : (xs ys zs : List ℕ) → wordsBefore xs ys ≡ true → wordsBefore ys zs ≡ true → wordsBefore xs zs ≡ true
+wordsBefore-trans [] [] zs h g = absurd (false≢true h)
+wordsBefore-trans [] (y ∷ ys) [] h g = g
+wordsBefore-trans [] (y ∷ ys) (z ∷ zs) h g = refl
+wordsBefore-trans (x ∷ xs) [] zs h g = absurd (false≢true h)
+wordsBefore-trans (x ∷ xs) (y ∷ ys) [] h g = g
+wordsBefore-trans (x ∷ xs) (y ∷ ys) (z ∷ zs) h g = go (order x y) (order y z) (wordsBefore-trans xs ys zs)
+  where
+    go : Order x y → Order y z → (wordsBefore xs ys ≡ true → wordsBefore ys zs ≡ true → wordsBefore xs zs ≡ true) → wordsBefore (x ∷ xs) (z ∷ zs) ≡ true
+    go (less p) (less q) below = wordsBefore-less x z xs zs (omega arith)
+    go (less p) (equal q) below = wordsBefore-less x z xs zs (omega arith)
+    go (less p) (greater q) below = absurd (false≢true (sym (wordsBefore-greater y z ys zs q) ∙ g))
+    go (equal p) (less q) below = wordsBefore-less x z xs zs (omega arith)
+    go (equal p) (equal q) below =
+        wordsBefore-equal x z xs zs (p ∙ q) ∙ below (sym (wordsBefore-equal x y xs ys p) ∙ h) (sym (wordsBefore-equal y z ys zs q) ∙ g)
+    go (equal p) (greater q) below = absurd (false≢true (sym (wordsBefore-greater y z ys zs q) ∙ g))
+    go (greater p) q below = absurd (false≢true (sym (wordsBefore-greater x y xs ys p) ∙ h))
+
+-- of two lists of words neither of which comes first, one is the other
+pub wordsBefore-total : (xs ys : List ℕ) → wordsBefore xs ys ≡ false → wordsBefore ys xs ≡ false → xs ≡ ys
+wordsBefore-total [] [] h g = refl
+wordsBefore-total [] (y ∷ ys) h g = absurd (false≢true (sym h))
+wordsBefore-total (x ∷ xs) [] h g = absurd (false≢true (sym g))
+wordsBefore-total (x ∷ xs) (y ∷ ys) h g = go (order x y) (wordsBefore-total xs ys)
+  where
+    go : Order x y → (wordsBefore xs ys ≡ false → wordsBefore ys xs ≡ false → xs ≡ ys) → x ∷ xs ≡ y ∷ ys
+    go (less p) below = absurd (false≢true (sym h ∙ wordsBefore-less x y xs ys p))
+    go (equal p) below = let q : xs ≡ ys = below (sym (wordsBefore-equal x y xs ys p) ∙ h) (sym (wordsBefore-equal y x ys xs (sym p)) ∙ g) in cc
+    go (greater p) below = absurd (false≢true (sym g ∙ wordsBefore-less y x ys xs p))
+
+-- ---- claims compared
+
+pub before-trans : (b c d : Claim) → before b c ≡ true → before c d ≡ true → before b d ≡ true
+before-trans b c d h g = wordsBefore-trans (ranking b) (ranking c) (ranking d) h g
+
+-- equal words are equal fields
+ranking-same : (c d : Claim) → ranking c ≡ ranking d → same c d ≡ true
+ranking-same c d e = claim-same c d (claim-ext c d (cc) (cc) (cc) (cc))
+
+pub before-total : (c d : Claim) → before d c ≡ false → same d c ≡ false → before c d ≡ true
+before-total c d h g = go (before c d) refl
+  where
+    go : (t : Bool) → before c d ≡ t → t ≡ true
+    go true e = refl
+    go false e = absurd (false≢true (sym g ∙ ranking-same d c (wordsBefore-total (ranking d) (ranking c) h e)))
+
+-- ---- climbing tables
+
+pub climbsFrom-lower : (b c : Claim) (t : List Claim) → before b c ≡ true → climbsFrom c t ≡ true → climbsFrom b t ≡ true
+climbsFrom-lower b c [] h g = refl
+climbsFrom-lower b c (d ∷ ds) h g =
+    and-both (before b d) (climbsFrom d ds) (before-trans b c d h (and-left (before c d) (climbsFrom d ds) g)) (and-right (before c d) (climbsFrom d ds) g)
+
+pub climbsFrom-climbs : (c : Claim) (t : List Claim) → climbsFrom c t ≡ true → climbs t ≡ true
+climbsFrom-climbs c [] h = refl
+climbsFrom-climbs c (d ∷ ds) h = and-right (before c d) (climbsFrom d ds) h
+
+climbsFrom-insertClaim : (b c : Claim) (t : List Claim) → before b c ≡ true → climbsFrom b t ≡ true → climbsFrom b (insertClaim c t) ≡ true
+climbsFrom-insertClaim b c [] h g = and-both (before b c) true h refl
+climbsFrom-insertClaim b c (d ∷ ds) h g = go (before d c) refl (same d c) refl (climbsFrom-insertClaim d c ds)
+  where
+    p : before b d ≡ true
+    p = and-left (before b d) (climbsFrom d ds) g
+
+    q : climbsFrom d ds ≡ true
+    q = and-right (before b d) (climbsFrom d ds) g
+
+    go : (s : Bool) → before d c ≡ s → (t : Bool) → same d c ≡ t → (before d c ≡ true → climbsFrom d ds ≡ true → climbsFrom d (insertClaim c ds) ≡ true) →
+        climbsFrom b (cond s (d ∷ insertClaim c ds) (cond t (d ∷ ds) (c ∷ (d ∷ ds)))) ≡ true
+    go true e t f below = and-both (before b d) (climbsFrom d (insertClaim c ds)) p (below e q)
+    go false e true f below = g
+    go false e false f below = and-both (before b c) (before c d && climbsFrom d ds) h (and-both (before c d) (climbsFrom d ds) (before-total c d e f) q)
+
+pub climbs-insertClaim : (c : Claim) (t : List Claim) → climbs t ≡ true → climbs (insertClaim c t) ≡ true
+climbs-insertClaim c [] g = refl
+climbs-insertClaim c (d ∷ ds) g = go (before d c) refl (same d c) refl
+  where
+    go : (s : Bool) → before d c ≡ s → (t : Bool) → same d c ≡ t → climbs (cond s (d ∷ insertClaim c ds) (cond t (d ∷ ds) (c ∷ (d ∷ ds)))) ≡ true
+    go true e t f = climbsFrom-insertClaim d c ds e g
+    go false e true f = g
+    go false e false f = and-both (before c d) (climbsFrom d ds) (before-total c d e f) g
+
+climbsFrom-take : (n : ℕ) (c : Claim) (t : List Claim) → climbsFrom c t ≡ true → climbsFrom c (take n t) ≡ true
+climbsFrom-take zero c t h = refl
+climbsFrom-take (suc n) c [] h = refl
+climbsFrom-take (suc n) c (d ∷ ds) h =
+    and-both (before c d) (climbsFrom d (take n ds)) (and-left (before c d) (climbsFrom d ds) h)
+    (climbsFrom-take n d ds (and-right (before c d) (climbsFrom d ds) h))
+
+pub climbs-take : (n : ℕ) (t : List Claim) → climbs t ≡ true → climbs (take n t) ≡ true
+climbs-take zero t h = refl
+climbs-take (suc n) [] h = refl
+climbs-take (suc n) (c ∷ cs) h = climbsFrom-take n c cs h
+
+-- what is dropped is the last in order
+pub tableWith-drops : (c : Claim) (t : List Claim) → tableWith c t ++ drop tableLimit (insertClaim c t) ≡ insertClaim c t
+tableWith-drops c t = take-append-drop tableLimit (insertClaim c t)
+
+pub climbs-tableWith : (c : Claim) (t : List Claim) → climbs t ≡ true → climbs (tableWith c t) ≡ true
+climbs-tableWith c t h = climbs-take tableLimit (insertClaim c t) (climbs-insertClaim c t h)
+
+climbsFrom-kept : (l : List ℕ) (b : Claim) (t : List Claim) → climbsFrom b t ≡ true → climbsFrom b (serve l t .kept) ≡ true
+climbsFrom-kept l b [] h = refl
+climbsFrom-kept l b (c ∷ cs) h = go (remains (reply c l)) (λ d. climbsFrom-kept l d cs)
+  where
+    p : before b c ≡ true
+    p = and-left (before b c) (climbsFrom c cs) h
+
+    q : climbsFrom c cs ≡ true
+    q = and-right (before b c) (climbsFrom c cs) h
+
+    go : (t : Bool) → ((d : Claim) → climbsFrom d cs ≡ true → climbsFrom d (serve l cs .kept) ≡ true) →
+        climbsFrom b (cond t (c ∷ serve l cs .kept) (serve l cs .kept)) ≡ true
+    go true below = and-both (before b c) (climbsFrom c (serve l cs .kept)) p (below c q)
+    go false below = below b (climbsFrom-lower b c cs p q)
+
+pub climbs-kept : (l : List ℕ) (t : List Claim) → climbs t ≡ true → climbs (serve l t .kept) ≡ true
+climbs-kept l [] h = refl
+climbs-kept l (c ∷ cs) h = go (remains (reply c l)) (climbs-kept l cs (climbsFrom-climbs c cs h))
+  where
+    go : (t : Bool) → climbs (serve l cs .kept) ≡ true → climbs (cond t (c ∷ serve l cs .kept) (serve l cs .kept)) ≡ true
+    go true below = climbsFrom-kept l c cs h
+    go false below = below
+
+-- ---- members
+
+pub insertClaim-mem : (c : Claim) (t : List Claim) (d : Claim) → List·Memᴰ d (insertClaim c t) → (d ≡ c) ⊎ List·Memᴰ d t
+insertClaim-mem c [] d (List·Memᴰ·head e) = inl e
+insertClaim-mem c [] d (List·Memᴰ·tail m) = absurd (List·Memᴰ·not-nil m)
+insertClaim-mem c (b ∷ bs) d m = go (before b c) (same b c) m (insertClaim-mem c bs d)
+  where
+    go : (s t : Bool) → List·Memᴰ d (cond s (b ∷ insertClaim c bs) (cond t (b ∷ bs) (c ∷ (b ∷ bs)))) →
+        (List·Memᴰ d (insertClaim c bs) → (d ≡ c) ⊎ List·Memᴰ d bs) → (d ≡ c) ⊎ List·Memᴰ d (b ∷ bs)
+    go true t (List·Memᴰ·head e) below = inr (List·Memᴰ·head e)
+    go true t (List·Memᴰ·tail n) below =
+        ⊎-elim {C = (d ≡ c) ⊎ List·Memᴰ d (b ∷ bs)} (λ (e : d ≡ c). inl e) (λ (o : List·Memᴰ d bs). inr (List·Memᴰ·tail o)) (below n)
+    go false true n below = inr n
+    go false false (List·Memᴰ·head e) below = inl e
+    go false false (List·Memᴰ·tail n) below = inr n
+
+pub kept-mem : (l : List ℕ) (t : List Claim) (d : Claim) → List·Memᴰ d (serve l t .kept) → List·Memᴰ d t
+kept-mem l [] d m = m
+kept-mem l (c ∷ cs) d m = go (remains (reply c l)) m (kept-mem l cs d)
+  where
+    go : (t : Bool) → List·Memᴰ d (cond t (c ∷ serve l cs .kept) (serve l cs .kept)) → (List·Memᴰ d (serve l cs .kept) → List·Memᴰ d cs) → List·Memᴰ d (c ∷ cs)
+    go true (List·Memᴰ·head e) below = List·Memᴰ·head e
+    go true (List·Memᴰ·tail n) below = List·Memᴰ·tail (below n)
+    go false n below = List·Memᴰ·tail (below n)
+
+-- a claim that is sent for the table is a claim of some pending claim's reply
+pub sent-mem : (l : List ℕ) (t : List Claim) (d : Claim) → List·Memᴰ d (serve l t .sent) → (c : Claim) × List·Memᴰ c t × List·Memᴰ d (claimsOf (reply c l))
+sent-mem l [] d m = absurd (List·Memᴰ·not-nil m)
+sent-mem l (c ∷ cs) d m =
+    ⊎-elim
+    {C = (b : Claim) × List·Memᴰ b (c ∷ cs) × List·Memᴰ d (claimsOf (reply b l))}
+    (λ (n : List·Memᴰ d (claimsOf (reply c l))). (c, List·Memᴰ·head refl, n))
+    (λ (n : List·Memᴰ d (serve l cs .sent)). let (b, i, o) = sent-mem l cs d n in (b, List·Memᴰ·tail i, o))
+    (List·Memᴰ·append-cases (claimsOf (reply c l)) m)
+
+-- ---- how many claims there are
+
+pub length-insertClaim : (c : Claim) (t : List Claim) → length (insertClaim c t) ≤ suc (length t)
+length-insertClaim c [] = omega arith
+length-insertClaim c (d ∷ ds) = go (before d c) (same d c) (length-insertClaim c ds)
+  where
+    go : (s t : Bool) → length (insertClaim c ds) ≤ suc (length ds) →
+        length (cond s (d ∷ insertClaim c ds) (cond t (d ∷ ds) (c ∷ (d ∷ ds)))) ≤ suc (length (d ∷ ds))
+    go true t h = omega arith
+    go false true h = omega arith
+    go false false h = omega arith
+
+pub length-tableWith : (c : Claim) (t : List Claim) → length (tableWith c t) ≤ tableLimit
+length-tableWith c t = rw (length-take tableLimit (insertClaim c t)) (omega arith)
+
+pub length-kept : (l : List ℕ) (t : List Claim) → length (serve l t .kept) ≤ length t
+length-kept l [] = omega arith
+length-kept l (c ∷ cs) = go (remains (reply c l)) (length-kept l cs)
+  where
+    go : (t : Bool) → length (serve l cs .kept) ≤ length cs → length (cond t (c ∷ serve l cs .kept) (serve l cs .kept)) ≤ length (c ∷ cs)
+    go true h = omega arith
+    go false h = omega arith
+
+-- an answer carries at most two claims
+pub length-claimsOf : (a : Answer) → length (claimsOf a) ≤ 2
+length-claimsOf (Refused n) = omega arith
+length-claimsOf Match = omega arith
+length-claimsOf (Ask c) = omega arith
+length-claimsOf (One c) = omega arith
+length-claimsOf (Two c d) = omega arith
+
+pub length-sent : (l : List ℕ) (t : List Claim) → length (serve l t .sent) ≤ 2 * length t
+length-sent l [] = omega arith
+length-sent l (c ∷ cs) = rw (length-append (claimsOf (reply c l)) (serve l cs .sent)) (omega (arith, length-claimsOf (reply c l), length-sent l cs))
+
+length-wholeClaim : (l : List ℕ) → length (wholeClaim l) ≤ 1
+length-wholeClaim [] = omega arith
+length-wholeClaim (k ∷ ks) = omega arith
+
+-- so what a beat writes fits the places that question 15 asks for
+pub length-sending : (l : List ℕ) (t : List Claim) → length t ≤ tableLimit → length (sending l t) ≤ beatLimit
+length-sending l t h = omega (arith, length-append (wholeClaim l) (serve l t .sent), length-wholeClaim l, length-sent l t)

@@ -1,0 +1,71 @@
+-- Claims and records as words: `claimWords`, `deliveryWords` and `writtenOver` of Call. In order: how many words; joins; parts; what is written over a
+-- lent run keeps its length; a round's records and its words are one and the same. Assumes nothing.
+use Prim.Native.Nat.{ℕ, _*_, _/_, _≤_}
+use mathlib.Core.List.{List, [], _∷_, _++_}
+use mathlib.Core.Logic.{⊎-elim}
+use mathlib.Core.Path.{_≡_, refl, sym, ap, _∙_}
+use native.Mathlib.Omega.{arith}
+use lib.ListN.{length, drop, length-append, length-drop}
+use Rattle.claims.specs.declared.claim.Claim.{Claim}
+use Rattle.claims.specs.declared.store.Store.{Store}
+use Rattle.claims.specs.Question.{firstNo}
+use Rattle.claims.proofs.Tests.{eq-or-ne}
+use Rattle.rule.specs.declared.delivery.Delivery.{Delivery}
+use Rattle.rule.specs.Round.{transcript}
+use Rattle.rule.specs.Call.{writtenOver, claimWords, roundQuestions, roundBy, metLent, deliveryWords, metWords}
+use Rattle.rule.proofs.CallLaws.{metLent-done, metLent-refused, metWords-done, metWords-refused}
+
+-- ---- how many words
+
+pub length-claimWords : (cs : List Claim) → length (claimWords cs) ≡ 4 * length cs
+length-claimWords [] = refl
+length-claimWords (c ∷ cs) = omega (arith, length-claimWords cs)
+
+pub length-deliveryWords : (ds : List Delivery) → length (deliveryWords ds) ≡ 5 * length ds
+length-deliveryWords [] = refl
+length-deliveryWords (d ∷ ds) = omega (arith, length-deliveryWords ds)
+
+-- ---- joins
+
+pub claimWords-append : (a b : List Claim) → claimWords (a ++ b) ≡ claimWords a ++ claimWords b
+claimWords-append [] b = refl
+claimWords-append (c ∷ cs) b = ap (λ (x : List ℕ). c .lo ∷ c .hi ∷ c .sum ∷ c .cnt ∷ x) (claimWords-append cs b)
+
+pub deliveryWords-append : (a b : List Delivery) → deliveryWords (a ++ b) ≡ deliveryWords a ++ deliveryWords b
+deliveryWords-append [] b = refl
+deliveryWords-append (d ∷ ds) b = ap (λ (x : List ℕ). d .sender ∷ d .claim .lo ∷ d .claim .hi ∷ d .claim .sum ∷ d .claim .cnt ∷ x) (deliveryWords-append ds b)
+
+-- ---- parts
+
+-- as many records left out as a list has, and their words
+deliveryWords-drop : (ds lent : List Delivery) → drop (length (deliveryWords ds)) (deliveryWords lent) ≡ deliveryWords (drop (length ds) lent)
+deliveryWords-drop [] lent = refl
+deliveryWords-drop (d ∷ ds) [] = refl
+deliveryWords-drop (d ∷ ds) (e ∷ lent) = deliveryWords-drop ds lent
+
+-- ---- written over a lent run
+
+pub length-writtenOver : {A : Type 0} (new lent : List A) → length new ≤ length lent → length (writtenOver new lent) ≡ length lent
+length-writtenOver new lent h = omega (arith, length-append new (drop (length new) lent), length-drop (length new) lent)
+
+pub deliveryWords-writtenOver : (new lent : List Delivery) → deliveryWords (writtenOver new lent) ≡ writtenOver (deliveryWords new) (deliveryWords lent)
+deliveryWords-writtenOver new lent =
+    deliveryWords-append new (drop (length new) lent) ∙ ap (λ (x : List ℕ). deliveryWords new ++ x) (sym (deliveryWords-drop new lent))
+
+-- ---- a round, as records and as words
+
+-- lent the words of some records, a round leaves the words of the records that it would leave
+pub metWords-records : (s t : Store) (lent : List Delivery) → metWords s t (deliveryWords lent) ≡ deliveryWords (metLent s t lent)
+metWords-records s t lent =
+    ⊎-elim
+    {C = metWords s t (deliveryWords lent) ≡ deliveryWords (metLent s t lent)}
+    (λ (z : firstNo (roundQuestions s t (length lent)) ≡ 0).
+    metWords-done s t (deliveryWords lent) (ap (λ (n : ℕ). firstNo (roundQuestions s t n)) records ∙ z)
+    ∙ sym (ap deliveryWords (metLent-done s t lent z) ∙ deliveryWords-writtenOver (transcript (roundBy s t)) lent))
+    (λ (f : firstNo (roundQuestions s t (length lent)) ≡ 0 → ⊥).
+    metWords-refused s t (deliveryWords lent) (λ (z : firstNo (roundQuestions s t (length (deliveryWords lent) / 5)) ≡ 0). f (sym (ap (λ (n : ℕ). firstNo (roundQuestions s t n)) records) ∙ z))
+    ∙ sym (ap deliveryWords (metLent-refused s t lent f)))
+    (eq-or-ne (firstNo (roundQuestions s t (length lent))) 0)
+  where
+    records : length (deliveryWords lent) / 5 ≡ length lent
+    records = omega (arith, length-deliveryWords lent)

@@ -1,0 +1,94 @@
+-- What each public call of `rounds` returns, for any content of what it is given, and what every lent place holds afterwards: the first question
+-- answered no decides, and then the rule. "A refusal returns its number, the given store or node, and zeros for any claim or count. On success,
+-- output past what was written keeps its contents." Assumes nothing.
+use Prim.Native.Nat.{ℕ, _/_}
+use mathlib.Core.List.{List, [], _∷_, _++_}
+use lib.ListN.{length, drop}
+use Rattle.claims.specs.declared.claim.Claim.{Claim}
+use Rattle.claims.specs.declared.store.Store.{Store}
+use Rattle.claims.specs.Store.{keysOf, storeOf}
+use Rattle.claims.specs.Question.{Question, firstNo, settle, question1, question6, claimQuestions}
+use Rattle.claims.specs.Reply.{ends, hear}
+use Rattle.rule.specs.declared.node.Node.{Node}
+use Rattle.rule.specs.declared.delivery.Delivery.{Delivery}
+use Rattle.rule.specs.declared.answer.Taken.{Taken}
+use Rattle.rule.specs.declared.answer.Beaten.{Beaten}
+use Rattle.rule.specs.declared.answer.Met.{Met}
+use Rattle.rule.specs.Table.{tableWith, serve, sending, beatLimit}
+use Rattle.rule.specs.Node.{nodeKeys, pendingOf, nodeOf}
+use Rattle.rule.specs.Round.{Run, roundOf, transcript}
+use Rattle.rule.specs.Question.{nodeQuestion1, question8, question9, question15}
+
+-- a lent run after something was written to its beginning: what was written, then what stood there before
+abbrev pub writtenOver : {A : Type 0} → List A → List A → List A
+writtenOver new lent = new ++ drop (length new) lent
+
+-- `take` asks 1, 2 to 5 and 6: "Taking a claim adds lo and hi, then the claim .."
+abbrev pub takeQuestions : Node → Claim → List Question
+takeQuestions n c = nodeQuestion1 n ∷ (claimQuestions c ++ (question6 (ends c) (nodeKeys n) ∷ []))
+
+unfoldable pub taken : Node → Claim → Taken
+taken n c =
+    settle (firstNo (takeQuestions n c))
+    (record { number = 0; node = nodeOf (hear c (nodeKeys n)) (tableWith c (pendingOf n)) })
+    (λ x. record { number = x; node = n })
+
+-- a claim in a lent run of words: four to a claim
+abbrev pub claimWords : List Claim → List ℕ
+claimWords [] = []
+claimWords (c ∷ cs) = c .lo ∷ c .hi ∷ c .sum ∷ c .cnt ∷ claimWords cs
+
+-- `beat` asks 1 and 15, of the places for claims in the words that it is lent.
+abbrev pub beatQuestions : Node → List ℕ → List Question
+beatQuestions n lent = nodeQuestion1 n ∷ question15 (length lent / 4) beatLimit ∷ []
+
+-- "It returns the node and the number written. A beat adds no key."
+unfoldable pub beaten : Node → List ℕ → Beaten
+beaten n lent =
+    settle (firstNo (beatQuestions n lent))
+    (record { number = 0; node = nodeOf (nodeKeys n) (serve (nodeKeys n) (pendingOf n) .kept); written = length (sending (nodeKeys n) (pendingOf n)) })
+    (λ x. record { number = x; node = n; written = 0 })
+
+unfoldable pub beatenLent : Node → List ℕ → List ℕ
+beatenLent n lent =
+    settle (firstNo (beatQuestions n lent))
+    (writtenOver (claimWords (sending (nodeKeys n) (pendingOf n))) lent)
+    (λ x. lent)
+
+-- `round` asks 1 of the left store and of the right one, 8 and 9, of so many records.
+abbrev pub roundQuestions : Store → Store → ℕ → List Question
+roundQuestions s t records =
+    question1 s ∷ question1 t ∷ question8 (keysOf s) (keysOf t) ∷ question9 (keysOf s) (keysOf t) records ∷ []
+
+abbrev pub roundBy : Store → Store → Run
+roundBy s t = roundOf (keysOf s) (keysOf t)
+
+-- "Returned: both stores and the number of deliveries."
+unfoldable pub met : Store → Store → ℕ → Met
+met s t records =
+    settle (firstNo (roundQuestions s t records))
+    (record {
+      number = 0;
+      left = storeOf (roundBy s t .stores .left);
+      right = storeOf (roundBy s t .stores .right);
+      deliveries = length (roundBy s t .lines);
+    })
+    (λ x. record { number = x; left = s; right = t; deliveries = 0 })
+
+-- The lent records afterwards, as records ..
+unfoldable pub metLent : Store → Store → List Delivery → List Delivery
+metLent s t lent =
+    settle (firstNo (roundQuestions s t (length lent)))
+    (writtenOver (transcript (roundBy s t)) lent)
+    (λ x. lent)
+
+-- .. and as words, five to a record: sender, lo, hi, sum, cnt. The records are then a fifth of the words.
+abbrev pub deliveryWords : List Delivery → List ℕ
+deliveryWords [] = []
+deliveryWords (d ∷ ds) = d .sender ∷ d .claim .lo ∷ d .claim .hi ∷ d .claim .sum ∷ d .claim .cnt ∷ deliveryWords ds
+
+unfoldable pub metWords : Store → Store → List ℕ → List ℕ
+metWords s t lent =
+    settle (firstNo (roundQuestions s t (length lent / 5)))
+    (writtenOver (deliveryWords (transcript (roundBy s t))) lent)
+    (λ x. lent)

@@ -1,0 +1,112 @@
+-- Worked examples over the call definitions, as one table: document 01's rehearsal, record by record; a false match; a 65th claim; a beat.
+-- That each row gives what is wanted is one law, `cases-hold` of proofs/Cases. Assumes nothing.
+use Prim.Native.Nat.{ℕ, zero, suc}
+use mathlib.Core.Bool.{Bool, true, false}
+use mathlib.Core.List.{List, [], _∷_, _++_, map}
+use lib.Bits.{bitXor}
+use lib.ListN.{replicate}
+use Rattle.claims.specs.declared.claim.Claim.{Claim}
+use Rattle.claims.specs.declared.store.Store.{Store}
+use Rattle.claims.specs.Store.{storeOf, emptyStore}
+use Rattle.claims.specs.Cases.{claim}
+use Rattle.rule.specs.declared.node.Node.{Node}
+use Rattle.rule.specs.declared.delivery.Delivery.{Delivery}
+use Rattle.rule.specs.declared.answer.Taken.{Taken}
+use Rattle.rule.specs.declared.answer.Beaten.{Beaten}
+use Rattle.rule.specs.declared.answer.Met.{Met}
+use Rattle.rule.specs.Node.{nodeOf, emptyNode, nodeInOrder}
+use Rattle.rule.specs.Round.{anyFalse}
+use Rattle.rule.specs.Call.{taken, beaten, beatenLent, met, metLent, metWords, roundBy}
+
+-- what a row compares
+pub data Outcome : Type 0 where
+  take-is : Taken → Outcome
+  beat-is : Beaten → Outcome
+  round-is : Met → Outcome
+  words-are : List ℕ → Outcome
+  records-are : List Delivery → Outcome
+  truth-is : Bool → Outcome
+
+pub record Row : Type 0 where
+  pub gives : Outcome
+  pub wanted : Outcome
+
+abbrev pub row : Outcome → Outcome → Row
+row a b = record { gives = a; wanted = b }
+
+-- the n numbers from k on
+abbrev pub upFrom : ℕ → ℕ → List ℕ
+upFrom k zero = []
+upFrom k (suc n) = k ∷ upFrom (suc k) n
+
+-- one record: "sender (0 left, 1 right) and claim"
+abbrev pub record5 : ℕ → ℕ → ℕ → ℕ → ℕ → Delivery
+record5 s lo hi sum cnt = record { sender = s; claim = claim lo hi sum cnt }
+
+-- what stands in the lent places before a call
+abbrev pub stale : Delivery
+stale = record5 7 7 7 7 7
+
+abbrev pub metWith : ℕ → List ℕ → List ℕ → ℕ → Met
+metWith n l r count = record { number = n; left = storeOf l; right = storeOf r; deliveries = count }
+
+-- "Stores {0, 1, 10} and {0, 5, 6, 10}, tables empty, give in full .."
+abbrev pub rehearsed : List Delivery
+rehearsed = record5 0 0 10 11 3 ∷ record5 1 5 6 3 2 ∷ record5 1 0 10 9 4 ∷ record5 0 1 6 2 3 ∷ []
+
+abbrev pub rehearsedLeft : Store
+rehearsedLeft = storeOf (0 ∷ 1 ∷ 10 ∷ [])
+
+abbrev pub rehearsedRight : Store
+rehearsedRight = storeOf (0 ∷ 5 ∷ 6 ∷ 10 ∷ [])
+
+-- two stores whose whole claims match, and are of different keys
+abbrev pub alikeLeft : Store
+alikeLeft = storeOf (1 ∷ 2 ∷ 5 ∷ 16 ∷ [])
+
+abbrev pub alikeRight : Store
+alikeRight = storeOf (1 ∷ 3 ∷ 4 ∷ 16 ∷ [])
+
+-- a full table: the 64 claims of the two keys 0 and k
+abbrev pub fullTable : List Claim
+fullTable = map (λ (k : ℕ). claim 0 k k 2) (upFrom 1 64)
+
+abbrev pub fullNode : Node
+fullNode = nodeOf (upFrom 0 65) fullTable
+
+-- a node whose three pending claims are helped, matched and asked about, in this order
+abbrev pub busyNode : Node
+busyNode = nodeOf (1 ∷ 4 ∷ 16 ∷ []) (claim 1 16 19 3 ∷ claim 1 16 21 3 ∷ claim 1 16 20 4 ∷ [])
+
+abbrev pub table : List Row
+table =
+    -- the rehearsal of document 01: both stores, the count, every record, as records and as words; the places past it keep their contents
+    row (round-is (met rehearsedLeft rehearsedRight 10)) (round-is (metWith 0 (0 ∷ 1 ∷ 5 ∷ 6 ∷ 10 ∷ []) (0 ∷ 1 ∷ 5 ∷ 6 ∷ 10 ∷ []) 4))
+    ∷ row (records-are (metLent rehearsedLeft rehearsedRight (replicate 10 stale))) (records-are (rehearsed ++ replicate 6 stale))
+    ∷ row (words-are (metWords rehearsedLeft rehearsedRight (replicate 52 7))) (words-are (0 ∷ 0 ∷ 10 ∷ 11 ∷ 3 ∷ 1 ∷ 5 ∷ 6 ∷ 3 ∷ 2 ∷ 1 ∷ 0 ∷ 10 ∷ 9 ∷ 4 ∷ 0 ∷ 1 ∷ 6 ∷ 2 ∷ 3 ∷ replicate 32 7))
+    ∷ row (truth-is (anyFalse (roundBy rehearsedLeft rehearsedRight .lines))) (truth-is false)
+    -- one record too few: 9, both stores as given, and nothing written
+    ∷ row (round-is (met rehearsedLeft rehearsedRight 9)) (round-is (metWith 9 (0 ∷ 1 ∷ 10 ∷ []) (0 ∷ 5 ∷ 6 ∷ 10 ∷ []) 0))
+    ∷ row (records-are (metLent rehearsedLeft rehearsedRight (replicate 9 stale))) (records-are (replicate 9 stale))
+    -- first come, first served: of two claims that wait, the second is delivered before what follows from the first
+    ∷ row (records-are (metLent (storeOf (1 ∷ 32 ∷ [])) (storeOf (1 ∷ 2 ∷ 4 ∷ 8 ∷ 16 ∷ 32 ∷ [])) (replicate 12 stale)))
+    (records-are (record5 0 1 32 33 2 ∷ record5 1 2 8 14 3 ∷ record5 1 16 16 16 1 ∷ record5 0 2 8 10 2 ∷ record5 1 4 4 4 1 ∷ record5 1 1 32 63 6 ∷ replicate 6 stale))
+    -- {1, 2, 5, 16} with {1, 3, 4, 16}: both matches are false, and the stores stay unequal
+    ∷ row (round-is (met alikeLeft alikeRight 12)) (round-is (metWith 0 (1 ∷ 2 ∷ 5 ∷ 16 ∷ []) (1 ∷ 3 ∷ 4 ∷ 16 ∷ []) 2))
+    ∷ row (truth-is (anyFalse (roundBy alikeLeft alikeRight .lines))) (truth-is true)
+    -- an empty store makes no whole claim; made of what came, right's is a second delivery
+    ∷ row (records-are (metLent emptyStore (storeOf (7 ∷ [])) (replicate 2 stale))) (records-are (record5 1 7 7 7 1 ∷ stale ∷ []))
+    ∷ row (records-are (metLent (storeOf (7 ∷ [])) emptyStore (replicate 2 stale))) (records-are (record5 0 7 7 7 1 ∷ record5 1 7 7 7 1 ∷ []))
+    -- a 65th claim that comes last in order is dropped, its lo and hi are added all the same; one that comes first pushes the last one out
+    ∷ row (take-is (taken fullNode (claim 70 80 (bitXor 70 80) 2))) (take-is (record { number = 0; node = nodeOf (upFrom 0 65 ++ 70 ∷ 80 ∷ []) fullTable }))
+    ∷ row (take-is (taken fullNode (claim 9 9 9 1))) (take-is (record { number = 0; node = nodeOf (upFrom 0 65) (claim 9 9 9 1 ∷ map (λ (k : ℕ). claim 0 k k 2) (upFrom 1 63)) }))
+    -- a claim that is pending already changes nothing
+    ∷ row (take-is (taken fullNode (claim 0 9 9 2))) (take-is (record { number = 0; node = fullNode }))
+    -- a beat: the whole claim, then the claims of each reply; the asked claim is kept, the helped one and the matched one are gone
+    ∷ row (beat-is (beaten busyNode (replicate 517 7))) (beat-is (record { number = 0; node = nodeOf (1 ∷ 4 ∷ 16 ∷ []) (claim 1 16 20 4 ∷ []); written = 3 }))
+    ∷ row (words-are (beatenLent busyNode (replicate 517 7))) (words-are (1 ∷ 16 ∷ 21 ∷ 3 ∷ 4 ∷ 4 ∷ 4 ∷ 1 ∷ 1 ∷ 16 ∷ 21 ∷ 3 ∷ replicate 505 7))
+    -- one word too few: 15
+    ∷ row (beat-is (beaten busyNode (replicate 515 7))) (beat-is (record { number = 15; node = busyNode; written = 0 }))
+    -- the empty node is in order
+    ∷ row (truth-is (nodeInOrder emptyNode)) (truth-is true)
+    ∷ []
