@@ -1,4 +1,4 @@
--- What the host calls return, one law for each way that the code goes. In order: what reading tells; the longest image has room for any; taking a frame.
+-- What the host calls return, one law for each way that the code goes. In order: what reading tells; the longest image has room for any; taking a frame; a beat.
 -- Assumes nothing.
 use Prim.Native.Nat.{ℕ, _+_, _*_, _≤_, _<_}
 use native.Mathlib.Omega.{arith}
@@ -30,7 +30,8 @@ use Rattle.wire.proofs.Frames.{head-yes, sized-yes, take-fourOf, readFrame-numb
 use Rattle.wire.proofs.Images.{readImage-number, readImage-yes, readImage-0, ordered-counts, length-nodeBytes, writeImageIn-0}
 use Rattle.wire.proofs.Runs.{length-readRun}
 use Rattle.host.specs.Taking.{questions6, takenInTurn, takenUntil}
-use Rattle.host.specs.Call.{minus, nodeIn, takingQuestions, takeFrameQuestions, nodeAfter, frameTaken, frameTakenOut, TakenFrom}
+use Rattle.host.specs.Frames.{framesLimit}
+use Rattle.host.specs.Call.{minus, nodeIn, takingQuestions, takeFrameQuestions, nodeAfter, frameTaken, frameTakenOut, TakenFrom, beatImageQuestions, nodeServed, framesSent, imageBeaten, imageBeatenOut, imageBeatenFrames}
 use Rattle.host.proofs.Turns.{questions6-numbered, takenUntil-number, takenUntil-node, ordered-takenInTurn}
 
 -- ---- what reading tells
@@ -81,16 +82,16 @@ numbered-append (q ∷ qs) b m n = (m .0, numbered-append qs b (m .1) n)
 abbrev six : List ℕ → List ℕ → List Question
 six image frame = questions6 (frameClaims frame) (nodeKeys (nodeIn image))
 
-module _ (image frame : List ℕ) where
-  image-numbered : Numbered (readImageQuestions image)
-  image-numbered = (lit< tt, (lit< tt, tt))
+image-numbered : (image : List ℕ) → Numbered (readImageQuestions image)
+image-numbered image = (lit< tt, (lit< tt, tt))
 
+module _ (image frame : List ℕ) where
   frame-numbered : Numbered (readFrameQuestions frame)
   frame-numbered = (lit< tt, (lit< tt, (lit< tt, (lit< tt, tt))))
 
   taking-numbered : Numbered (takingQuestions image frame)
   taking-numbered =
-      numbered-append (readImageQuestions image) (readFrameQuestions frame ++ six image frame) image-numbered
+      numbered-append (readImageQuestions image) (readFrameQuestions frame ++ six image frame) (image-numbered image)
       (numbered-append (readFrameQuestions frame) (six image frame) frame-numbered
       (questions6-numbered (frameClaims frame) (nodeKeys (nodeIn image))))
 
@@ -106,7 +107,7 @@ module _ (image frame : List ℕ) where
 
   module _ (read : readImage image .number ≡ 0) where
     past-image : firstNo (takingQuestions image frame) ≡ firstNo (readFrameQuestions frame ++ six image frame)
-    past-image = firstNo-append-zero (readImageQuestions image) (readFrameQuestions frame ++ six image frame) image-numbered (sym (readImage-number image) ∙ read)
+    past-image = firstNo-append-zero (readImageQuestions image) (readFrameQuestions frame ++ six image frame) (image-numbered image) (sym (readImage-number image) ∙ read)
 
     pub takenFrom-frame : {r : Taken} → r .number ≡ readFrame frame .number → (r .number ≡ 0 → ⊥) → TakenFrom image frame r
     takenFrom-frame e f =
@@ -164,3 +165,51 @@ module _ (image frame out : List ℕ) {r : Taken} (from : TakenFrom image frame 
         let q : firstNo (takeFrameQuestions image frame (length out)) ≡ 0 =
         past-taking ∙ firstNo-yes (question15 (length out) imageLimit) [] (le-leb imageLimit (length out) h) in
         (rw (q, from .node taken), rw (q, from .node taken))
+
+-- ---- a beat
+
+module _ (image out frames : List ℕ) where
+  -- its questions
+  abbrev asked : List Question
+  asked = beatImageQuestions image (length out) (length frames)
+
+  beaten-refused : (k : ℕ) → firstNo asked ≡ k → (k ≡ 0 → ⊥)
+      → (minus k ≡ imageBeaten image (length out) (length frames)) × (out ≡ imageBeatenOut image out (length frames)) × (frames ≡ imageBeatenFrames image (length out) frames)
+  unfolding imageBeaten imageBeatenOut imageBeatenFrames
+  beaten-refused k q f =
+      let g : firstNo asked ≡ 0 → ⊥ = λ z. f (sym q ∙ z) in (
+        sym (settle-refused (firstNo asked) _ minus g ∙ ap minus q),
+        sym (settle-refused (firstNo asked) _ (λ (k : ℕ). out) g),
+        sym (settle-refused (firstNo asked) _ (λ (k : ℕ). frames) g),
+      )
+
+  pub beaten-image : {k : ℕ} → k ≡ readImage image .number → (k ≡ 0 → ⊥)
+      → (minus k ≡ imageBeaten image (length out) (length frames)) × (out ≡ imageBeatenOut image out (length frames)) × (frames ≡ imageBeatenFrames image (length out) frames)
+  beaten-image {k} e f =
+      let q : k ≡ firstNo (readImageQuestions image) = e ∙ readImage-number image in
+      beaten-refused k
+      (firstNo-append-no (readImageQuestions image) (question15 (length out) imageLimit ∷ question15 (length frames) framesLimit ∷ []) (λ z. f (q ∙ z)) ∙ sym q) f
+
+  module _ (read : readImage image .number ≡ 0) where
+    past-read : firstNo asked ≡ firstNo (question15 (length out) imageLimit ∷ question15 (length frames) framesLimit ∷ [])
+    past-read =
+        firstNo-append-zero (readImageQuestions image) (question15 (length out) imageLimit ∷ question15 (length frames) framesLimit ∷ []) (image-numbered image)
+        (sym (readImage-number image) ∙ read)
+
+    pub beaten-out : length out < imageLimit
+        → (minus 15 ≡ imageBeaten image (length out) (length frames)) × (out ≡ imageBeatenOut image out (length frames)) × (frames ≡ imageBeatenFrames image (length out) frames)
+    beaten-out h = beaten-refused 15 (past-read ∙ rw (lt-leb imageLimit (length out) h)) (λ (z : 15 ≡ 0). omega arith)
+
+    module _ (room : imageLimit ≤ length out) where
+      pub beaten-frames : length frames < framesLimit
+          → (minus 15 ≡ imageBeaten image (length out) (length frames)) × (out ≡ imageBeatenOut image out (length frames)) × (frames ≡ imageBeatenFrames image (length out) frames)
+      beaten-frames h = beaten-refused 15 (past-read ∙ rw (le-leb imageLimit (length out) room, lt-leb framesLimit (length frames) h)) (λ (z : 15 ≡ 0). omega arith)
+
+      pub beaten-0 : framesLimit ≤ length frames
+          → (pos (length (framesSent (nodeIn image))) ≡ imageBeaten image (length out) (length frames))
+          × (writtenOver (nodeBytes (nodeServed (nodeIn image))) out ≡ imageBeatenOut image out (length frames))
+          × (writtenOver (framesSent (nodeIn image)) frames ≡ imageBeatenFrames image (length out) frames)
+      unfolding imageBeaten imageBeatenOut imageBeatenFrames
+      beaten-0 h =
+          let q : firstNo asked ≡ 0 = past-read ∙ rw (le-leb imageLimit (length out) room, le-leb framesLimit (length frames) h) in
+          (rw q, rw q, rw q)

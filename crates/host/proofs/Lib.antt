@@ -1,7 +1,17 @@
 -- The laws of `host`, by topic.
---   Signs    lengths and minus numbers in 64 bits
---   Turns    the claims of a frame taken in turn, by a node in order
---   Answers  what the host calls return, one law for each way that the code goes
+--   Signs     lengths and minus numbers in 64 bits
+--   Turns     the claims of a frame taken in turn, by a node in order
+--   Grouping  claims in frames of four
+--   Passing   the claims that a beat sends may go into a frame
+--   Words     claims in a lent run of words
+--   Sends     the functions of src/sent.rt, one law for each way that the code goes
+--   Beats     a beat of a node in order, run on a lent run of words
+--   Answers   what the host calls return, one law for each way that the code goes
 mod Signs
 mod Turns
+mod Grouping
+mod Passing
+mod Words
+mod Sends
+mod Beats
 mod Answers

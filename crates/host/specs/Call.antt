@@ -9,12 +9,14 @@ use lib.ListN.{length}
 use Rattle.claims.specs.Question.{Question, firstNo, settle}
 use Rattle.rule.specs.declared.node.Node.{Node}
 use Rattle.rule.specs.declared.answer.Taken.{Taken}
-use Rattle.rule.specs.Node.{nodeKeys, nodeInOrder}
+use Rattle.rule.specs.Node.{nodeKeys, pendingOf, nodeOf, nodeInOrder}
+use Rattle.rule.specs.Table.{serve, sending}
 use Rattle.rule.specs.Question.{question15}
 use Rattle.rule.specs.Call.{writtenOver}
 use Rattle.wire.specs.Frame.{frameClaims, readFrameQuestions}
 use Rattle.wire.specs.Image.{imageLimit, nodeBytes, readImageQuestions, readImage}
 use Rattle.host.specs.Taking.{questions6, takenInTurn}
+use Rattle.host.specs.Frames.{framesBytes, framesLimit}
 
 -- "Both return minus the number on a refusal."
 abbrev pub minus : ℕ → ℤ
@@ -57,3 +59,36 @@ pub record TakenFrom (image frame : List ℕ) (r : Taken) : Type 0 where
   pub number : r .number ≡ firstNo (takingQuestions image frame)
   pub node : r .number ≡ 0 → r .node ≡ nodeAfter image frame
   pub ordered : r .number ≡ 0 → nodeInOrder (r .node) ≡ true
+
+-- ---- a beat: "One takes an image, runs a beat, writes the new image to one buffer and the claims to a second, four to a frame and the rest in a last one,
+-- and returns the length of the frames."
+
+-- "its host call 129 claims' worth (3,486 bytes) and 9,860 for the image, whatever is pending"
+abbrev pub beatImageQuestions : List ℕ → ℕ → ℕ → List Question
+beatImageQuestions image room framesRoom =
+    readImageQuestions image ++ (question15 room imageLimit ∷ question15 framesRoom framesLimit ∷ [])
+
+-- the node after a beat, and the frames of the claims that it sends
+abbrev pub nodeServed : Node → Node
+nodeServed n = nodeOf (nodeKeys n) (serve (nodeKeys n) (pendingOf n) .kept)
+
+abbrev pub framesSent : Node → List ℕ
+framesSent n = framesBytes (sending (nodeKeys n) (pendingOf n))
+
+unfoldable pub imageBeaten : List ℕ → ℕ → ℕ → ℤ
+imageBeaten image room framesRoom =
+    settle (firstNo (beatImageQuestions image room framesRoom))
+    (pos (length (framesSent (nodeIn image))))
+    minus
+
+unfoldable pub imageBeatenOut : List ℕ → List ℕ → ℕ → List ℕ
+imageBeatenOut image out framesRoom =
+    settle (firstNo (beatImageQuestions image (length out) framesRoom))
+    (writtenOver (nodeBytes (nodeServed (nodeIn image))) out)
+    (λ k. out)
+
+unfoldable pub imageBeatenFrames : List ℕ → ℕ → List ℕ → List ℕ
+imageBeatenFrames image room frames =
+    settle (firstNo (beatImageQuestions image room (length frames)))
+    (writtenOver (framesSent (nodeIn image)) frames)
+    (λ k. frames)

@@ -1,9 +1,12 @@
 // What the kiosk daemon links: two calls on images and frames (document 01, "Host calls").
 mod reply;
+mod sent;
 mod turn;
 
 use crate::reply::refusal;
 use crate::reply::size;
+use crate::sent::FRAMES;
+use crate::sent::send;
 use crate::turn::take_in_turn;
 use rounds::Taken;
 use wire::Imaged;
@@ -12,7 +15,7 @@ use wire::read_image;
 use wire::write_image_in;
 ghost use mathlib.Core.Path.{_≡_};
 ghost use lib.ListN.{length};
-ghost use Rattle.host.specs.Call.{frameTaken, frameTakenOut, TakenFrom};
+ghost use Rattle.host.specs.Call.{frameTaken, frameTakenOut, TakenFrom, imageBeaten, imageBeatenOut, imageBeatenFrames};
 
 // The node of an image with the claims of a frame taken, in turn. Asks 14, 1, 10 to 13, and 6 claim by claim.
 fn taken_from(image: &[u8], frame: &[u8]) -> Taken
@@ -52,4 +55,23 @@ pub extern "C" fn minutefrost_take_frame(image: &[u8], frame: &[u8], out: &mut [
     }
     let written = write_image_in(taken.node, out);
     size(written.length)
+}
+
+// Takes an image, runs a beat, writes the new image to the front of `out` and the claims to the front of `frames`, four to a frame and the rest in a last
+// one, and returns the length of the frames; or minus the number of the first question answered no, and then nothing is written. Asks 14, 1 and 15.
+#[no_mangle]
+pub extern "C" fn minutefrost_beat(image: &[u8], out: &mut [u8], frames: &mut [u8]) -> i64
+    ensures { λ r. ⌜ (r ≡ imageBeaten (now (image .entry)) (length (now (out .entry))) (length (now (frames .entry)))) × (now (out .exit) ≡ imageBeatenOut (now (image .entry)) (now (out .entry)) (length (now (frames .entry)))) × (now (frames .exit) ≡ imageBeatenFrames (now (image .entry)) (length (now (out .entry))) (now (frames .entry))) ⌝ }
+{
+    let read = read_image(image);
+    if read.number != 0 {
+        return refusal(read.number);
+    }
+    if out.len() < Imaged::LENGTH {
+        return refusal(15);
+    }
+    if frames.len() < FRAMES {
+        return refusal(15);
+    }
+    size(send(read.node, out, frames))
 }

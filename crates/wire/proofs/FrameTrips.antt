@@ -23,7 +23,7 @@ use Rattle.wire.proofs.Frames.{head-yes, sized-yes, readFrame-0, writab
 
 -- ---- a frame's bytes are read as its claims
 
-length-frameBytes : (cs : List Claim) → length (frameBytes cs) ≡ frameLength (length cs)
+pub length-frameBytes : (cs : List Claim) → length (frameBytes cs) ≡ frameLength (length cs)
 unfolding frameBytes headBytes
 length-frameBytes cs = let e : length (writeRun claim cs) ≡ claimSize * length cs = length-writeRun claim-faithful cs in omega arith
 

@@ -1,0 +1,82 @@
+-- A beat of a node in order, as src/sent.rt runs it on a lent run of words: what it returns, that its claims are read back from the words, pass 13 and fit the
+-- frames, and that the node stays in order. Assumes nothing.
+use Prim.Native.Nat.{ℕ, _+_, _*_, _/_, _≤_}
+use native.Mathlib.Omega.{arith}
+use mathlib.Core.Bool.{true}
+use mathlib.Core.List.{List, [], _∷_, _++_}
+use mathlib.Core.Path.{_≡_, ap, sym, _∙_, subst}
+use borrow.Author.Tests.{le-leb}
+use lib.ListN.{length, drop}
+use Rattle.claims.specs.declared.claim.Claim.{Claim}
+use Rattle.claims.specs.Store.{limit}
+use Rattle.claims.specs.Question.{firstNo}
+use Rattle.claims.proofs.Rising.{Rising}
+use Rattle.claims.proofs.Order.{inOrder-rising, inOrder-count, length-keysOf}
+use Rattle.rule.specs.declared.node.Node.{Node}
+use Rattle.rule.specs.declared.answer.Beaten.{Beaten}
+use Rattle.rule.specs.Table.{tableLimit, beatLimit, sending}
+use Rattle.rule.specs.Node.{nodeKeys, pendingOf, nodeInOrder}
+use Rattle.rule.specs.Call.{writtenOver, claimWords, beatQuestions}
+use Rattle.nodes.specs.Serving.{beatenIn, beatenInLent}
+use Rattle.rule.proofs.NodeLaws.{Ordered, nodeInOrder-ordered, ordered-nodeInOrder}
+use Rattle.rule.proofs.CallLaws.{beaten-done, beatenLent-done, ordered-beaten, length-pendingOf}
+use Rattle.nodes.proofs.ServeLaws.{beatenIn-beaten, beatenInLent-beatenLent}
+use Rattle.rule.proofs.TableLaws.{length-sending}
+use Rattle.rule.proofs.Words.{length-claimWords, length-writtenOver}
+use Rattle.wire.specs.Frame.{allPass}
+use Rattle.wire.specs.Image.{Shaped}
+use Rattle.wire.specs.Run.{readRun}
+use Rattle.host.specs.Frames.{framesBytes, framesLength, framesLimit, inWords}
+use Rattle.host.specs.Call.{nodeServed, framesSent}
+use Rattle.host.proofs.Grouping.{length-framesBytes, framesLength-limit}
+use Rattle.host.proofs.Passing.{sending-passes}
+use Rattle.host.proofs.Words.{readRun-claimWords}
+
+module _ (n : Node) (ordered : nodeInOrder n ≡ true) where
+  o : Ordered n
+  o = nodeInOrder-ordered n ordered
+
+  abbrev sent : List Claim
+  sent = sending (nodeKeys n) (pendingOf n)
+
+  pub nodeServed-ordered : nodeInOrder (nodeServed n) ≡ true
+  nodeServed-ordered = ordered-nodeInOrder (nodeServed n) (ordered-beaten n o (length-pendingOf n o))
+
+  sent-count : length sent ≤ beatLimit
+  sent-count = length-sending (nodeKeys n) (pendingOf n) (length-pendingOf n o)
+
+  pub length-framesSent : length (framesSent n) ≤ framesLimit
+  length-framesSent = rw (length-framesBytes sent) (framesLength-limit (length sent) sent-count)
+
+  -- r and words are what the beat returned and left in the run of words that it was lent
+  module _ (long : length (n .store .keys) ≡ limit) (lent : List ℕ) (room : length lent ≡ 4 * beatLimit) {r : Beaten} {words : List ℕ}
+      (beaten : r ≡ beatenIn n lent) (left : words ≡ beatenInLent n lent) where
+    asked : firstNo (beatQuestions n lent) ≡ 0
+    asked = rw (ordered, le-leb beatLimit (length lent / 4) (omega arith))
+
+    done : r ≡ record { number = 0; node = nodeServed n; written = length sent }
+    done = beaten ∙ (beatenIn-beaten n lent long o ∙ beaten-done n lent asked)
+
+    pub beat-node : r .node ≡ nodeServed n
+    beat-node = ap (λ (b : Beaten). b .node) done
+
+    beat-written : r .written ≡ length sent
+    beat-written = ap (λ (b : Beaten). b .written) done
+
+    beat-words : words ≡ writtenOver (claimWords sent) lent
+    beat-words = left ∙ (beatenInLent-beatenLent n lent long o ∙ beatenLent-done n lent asked)
+
+    -- the claims that were written are those that are sent
+    pub beat-read : readRun inWords (r .written) words ≡ sent
+    beat-read = rw (beat-written, beat-words) (readRun-claimWords sent (drop (length (claimWords sent)) lent))
+
+    pub beat-room : 4 * r .written ≤ length words
+    beat-room =
+        let m = length-claimWords sent in
+        let k = sent-count in
+        rw (beat-written, beat-words, length-writtenOver (claimWords sent) lent (omega arith)) (omega arith)
+
+    pub beat-pass : allPass (readRun inWords (r .written) words) ≡ true
+    beat-pass =
+        let short : length (nodeKeys n) ≤ limit = omega (arith, length-keysOf (n .store) long (o .store), inOrder-count (n .store) (o .store)) in
+        rw beat-read (sending-passes (nodeKeys n) (inOrder-rising (n .store) (o .store)) short (pendingOf n) (o .fit))

@@ -1,0 +1,180 @@
+-- The functions of src/sent.rt, one law for each way that the code goes. In order: a claim of a lent run; four of them; one frame; the frames. Assumes nothing.
+use Prim.Native.Nat.{ℕ, zero, suc, _+_, _-_, _*_, _≤_, _<_, min}
+use native.Mathlib.Nat.{zero-add}
+use native.Mathlib.Omega.{arith}
+use mathlib.Core.Bool.{true, _&&_}
+use mathlib.Core.List.{List, [], _∷_, _++_, append-nil}
+use mathlib.Core.Path.{_≡_, refl, ap, ap₂, sym, _∙_}
+use borrow.Author.Tests.{le-leb}
+use borrow.Rule.Slice.PartMut.{putMid, post-is}
+use lib.Dec.{eqb}
+use lib.ListN.{length, take, drop, getD, set, length-append, length-drop, length-take, drop-of-length-le}
+use lib.Seq.{drop-drop, getD-drop, take-all}
+use Rattle.claims.specs.declared.claim.Claim.{Claim}
+use Rattle.claims.specs.Store.{limit}
+use Rattle.claims.specs.Claim.{noClaim}
+use Rattle.claims.specs.Call.{judged}
+use Rattle.claims.specs.Question.{firstNo}
+use Rattle.claims.proofs.Tests.{and-left, and-right}
+use Rattle.claims.proofs.QuestionLaws.{passes, judged-firstNo}
+use Rattle.rule.specs.Node.{blanks}
+use Rattle.rule.specs.Call.{writtenOver}
+use Rattle.wire.specs.declared.answer.Length.{Length}
+use Rattle.wire.specs.Frame.{frameLimit, frameLength, frameBytes, countable, allPass, writeFrameQuestions, writeFrame, frameLent}
+use Rattle.wire.specs.Run.{readRun}
+use Rattle.wire.specs.Place.{putAt}
+use Rattle.wire.proofs.Frames.{countable-of, writable-0, writeFrame-0, frameLent-yes}
+use Rattle.wire.proofs.FrameTrips.{length-frameBytes}
+use Rattle.wire.proofs.Places.{length-putAt, putAt-nil, putAt-zero, putAt-append}
+use Rattle.wire.proofs.Runs.{length-readRun, set-readRun}
+use Rattle.rule.proofs.NodeLaws.{length-blanks}
+use Rattle.host.specs.Frames.{framesBytes, inWords}
+use Rattle.host.proofs.Words.{getD-readRun, readRun-part}
+use Rattle.host.proofs.Turns.{allPass-getD}
+use Rattle.host.proofs.Grouping.{framesBytes-turn, framesBytes-nil}
+
+-- ---- claims that pass
+
+allPass-take : (n : ℕ) (cs : List Claim) → allPass cs ≡ true → allPass (take n cs) ≡ true
+allPass-take zero [] p = refl
+allPass-take zero (c ∷ cs) p = refl
+allPass-take (suc n) [] p = refl
+allPass-take (suc n) (c ∷ cs) p =
+    rw (and-left (eqb (judged c) 0) (allPass cs) p) (allPass-take n cs (and-right (eqb (judged c) 0) (allPass cs) p))
+
+allPass-drop : (n : ℕ) (cs : List Claim) → allPass cs ≡ true → allPass (drop n cs) ≡ true
+allPass-drop zero cs p = p
+allPass-drop (suc n) [] p = refl
+allPass-drop (suc n) (c ∷ cs) p = allPass-drop n cs (and-right (eqb (judged c) 0) (allPass cs) p)
+
+-- ---- a claim of a lent run
+
+-- word by word, as the code reads it
+pub inWords-at : (ws : List ℕ) (at : ℕ)
+    → record { lo = getD ws (4 * at) 0; hi = getD ws (4 * at + 1) 0; sum = getD ws (4 * at + 2) 0; cnt = getD ws (4 * at + 3) 0 } ≡ inWords .read (drop (4 * at) ws)
+inWords-at ws at =
+    let e : 4 * at ≡ 4 * at + 0 = omega arith in
+    let first : getD ws (4 * at) 0 ≡ getD (drop (4 * at) ws) 0 0 = ap (λ (k : ℕ). getD ws k 0) e ∙ sym (getD-drop (4 * at) ws 0 0) in
+    λ i. record {
+      lo = first i;
+      hi = sym (getD-drop (4 * at) ws 1 0) i;
+      sum = sym (getD-drop (4 * at) ws 2 0) i;
+      cnt = sym (getD-drop (4 * at) ws 3 0) i;
+    }
+
+pub cnt-at : (ws : List ℕ) (at : ℕ) → getD ws (4 * at + 3) 0 ≡ inWords .read (drop (4 * at) ws) .cnt
+cnt-at ws at = ap (λ (c : Claim). c .cnt) (inWords-at ws at)
+
+-- ---- four of them
+
+module _ (ws : List ℕ) (at i : ℕ) where
+  place : drop (4 * i) (drop (4 * at) ws) ≡ drop (4 * (at + i)) ws
+  place = let e : 4 * at + 4 * i ≡ 4 * (at + i) = omega arith in rw (drop-drop, e)
+
+  -- a claim that passes has a small count
+  pub four-small : (n : ℕ) → allPass (readRun inWords n (drop (4 * at) ws)) ≡ true → i < n → inWords .read (drop (4 * (at + i)) ws) .cnt < 65536
+  four-small n p h =
+      let cs = readRun inWords n (drop (4 * at) ws) in
+      let e : getD cs i noClaim ≡ inWords .read (drop (4 * (at + i)) ws) = getD-readRun inWords n i (drop (4 * at) ws) noClaim h ∙ ap (inWords .read) place in
+      let j = allPass-getD cs i p (rw length-readRun h) in
+      let m : getD cs i noClaim .cnt ≤ limit = passes (getD cs i noClaim) (sym (judged-firstNo (getD cs i noClaim)) ∙ j) .at-most in
+      let f = ap (λ (c : Claim). c .cnt) e in
+      omega arith
+
+  pub four-turn : {out : List Claim} {x : Claim} → i < frameLimit → out ≡ writtenOver (readRun inWords i (drop (4 * at) ws)) (blanks frameLimit)
+      → x ≡ inWords .read (drop (4 * (at + i)) ws) → set out i x ≡ writtenOver (readRun inWords (i + 1) (drop (4 * at) ws)) (blanks frameLimit)
+  four-turn h e f =
+      let g : 4 * (at + i) ≡ 4 * at + 4 * i = omega arith in
+      set-readRun inWords (blanks frameLimit) ws (4 * at) i (rw (length-blanks frameLimit) h) e (f ∙ ap (λ (k : ℕ). inWords .read (drop k ws)) g)
+
+-- ---- one frame, written to the part of the buffer from a place on
+
+module _ (frames : List ℕ) (at n : ℕ) (cs : List Claim) (many : countable n ≡ true) (pass : allPass (take n cs) ≡ true) (room : at + frameLength n ≤ length frames) where
+  -- that part, as it is lent
+  abbrev part : List ℕ
+  part = take (length frames - at) (drop at frames)
+
+  part-is : part ≡ drop at frames
+  part-is = take-all (length frames - at) (drop at frames) (omega (arith, length-drop at frames))
+
+  part-yes : firstNo (writeFrameQuestions cs n (length part)) ≡ 0
+  part-yes = sym (writable-0 cs n (length part) many pass (rw part-is (omega (arith, length-drop at frames))))
+
+  pub frame-length : {w : Length} → w ≡ writeFrame cs n (length part) → w .length ≡ frameLength n
+  frame-length e = ap (λ (w : Length). w .length) (e ∙ sym (writeFrame-0 cs n (length part) part-yes))
+
+  pub frame-put : {new : List ℕ} → new ≡ frameLent cs n part → putMid at (length frames - at) frames new ≡ putAt frames at (frameBytes (take n cs))
+  unfolding putAt
+  frame-put {new} e =
+      let bs = frameBytes (take n cs) in
+      let g : new ≡ bs ++ drop (at + length bs) frames = e ∙ (frameLent-yes cs n part part-yes ∙ rw (part-is, drop-drop)) in
+      let all : length frames ≤ length frames = omega arith in
+      let past : drop (length frames) frames ≡ [] = drop-of-length-le frames all in
+      rw (post-is at (length frames) frames (omega arith), past, append-nil) (ap (λ (z : List ℕ). take at frames ++ z) g)
+
+-- ---- the frames: what is left to write makes up the whole
+
+pub record Written (cs : List Claim) (before frames : List ℕ) (i at : ℕ) : Type 0 where
+  pub whole : at + length (framesBytes (drop i cs)) ≡ length (framesBytes cs)
+  pub put : putAt frames at (framesBytes (drop i cs)) ≡ writtenOver (framesBytes cs) before
+  pub long : length frames ≡ length before
+
+module _ (cs : List Claim) (before : List ℕ) where
+  pub written-none : Written cs before before 0 0
+  written-none = record { whole = zero-add (length (framesBytes cs)); put = putAt-zero before (framesBytes cs); long = refl }
+
+  module _ (frames : List ℕ) (i at : ℕ) (so : Written cs before frames i at) where
+    pub written-all : length cs ≤ i → (at ≡ length (framesBytes cs)) × (frames ≡ writtenOver (framesBytes cs) before)
+    written-all h =
+        let none : framesBytes (drop i cs) ≡ [] = ap framesBytes (drop-of-length-le cs h) ∙ framesBytes-nil in
+        let w = so .whole in
+        let e : length (framesBytes (drop i cs)) ≡ 0 = ap length none in
+        (omega arith, sym (putAt-nil frames at) ∙ (ap (λ (bs : List ℕ). putAt frames at bs) (sym none) ∙ so .put))
+
+    -- the next frame: that of the n claims from i on
+    module _ (n : ℕ) (below : i < length cs) (most : n ≡ min (length cs - i) frameLimit) (fits : length (framesBytes cs) ≤ length before) where
+      left : length (drop i cs) ≡ length cs - i
+      left = length-drop i cs
+
+      pub turn-many : length (take n (drop i cs)) ≡ n
+      turn-many = let l = left in omega (arith, length-take n (drop i cs))
+
+      pub turn-countable : countable n ≡ true
+      turn-countable = countable-of n (omega arith) (omega arith)
+
+      turn-split : framesBytes (drop i cs) ≡ frameBytes (take n (drop i cs)) ++ framesBytes (drop (i + n) cs)
+      turn-split =
+          let l = left in
+          framesBytes-turn (drop i cs) n (omega arith) (rw left most) ∙ ap (λ (ds : List Claim). frameBytes (take n (drop i cs)) ++ framesBytes ds) (drop-drop n i cs)
+
+      turn-size : length (frameBytes (take n (drop i cs))) ≡ frameLength n
+      turn-size = length-frameBytes (take n (drop i cs)) ∙ ap (λ (k : ℕ). frameLength k) turn-many
+
+      turn-length : length (framesBytes (drop i cs)) ≡ frameLength n + length (framesBytes (drop (i + n) cs))
+      turn-length = ap length turn-split ∙ rw (length-append, turn-size)
+
+      pub turn-room : at + frameLength n ≤ length frames
+      turn-room =
+          let l = turn-length in
+          let w = so .whole in
+          let e = so .long in
+          omega arith
+
+      pub turn-written : {after : List ℕ} {next : ℕ} → next ≡ at + frameLength n → after ≡ putAt frames at (frameBytes (take n (drop i cs))) → Written cs before after (i + n) next
+      turn-written {after} {next} e f =
+          let l = turn-length in
+          let w = so .whole in
+          let size = turn-size in
+          let room = turn-room in
+          record {
+            whole = omega arith;
+            put =
+                rw (e, f)
+                (putAt-append frames at (frameBytes (take n (drop i cs))) (framesBytes (drop (i + n) cs)) (frameLength n) turn-size turn-room
+                ∙ (ap (λ (bs : List ℕ). putAt frames at bs) (sym turn-split) ∙ so .put));
+            long = rw f (length-putAt frames at (frameBytes (take n (drop i cs))) (omega arith) ∙ so .long);
+          }
+
+  -- the claims of the next frame pass, as all do
+  pub turn-pass : (i n : ℕ) → allPass cs ≡ true → allPass (take n (drop i cs)) ≡ true
+  turn-pass i n p = allPass-take n (drop i cs) (allPass-drop i cs p)

@@ -1,0 +1,67 @@
+-- `sent::claim_at` meets its contract: four words are read. Assumes nothing.
+use native.Mathlib.Omega.{arith}
+use borrow.Author.Needs.{needs}
+use Rattle.host.proofs.Sends.{inWords-at, cnt-at}
+use Rattle.host.proofs.sent.claim_at.Statement.{statement}
+use Rattle.host.proofs.sent.claim_at.Tie as tie
+
+mul-i : tie.Need-mul-i
+mul-i c = search needs
+
+mul-t4 : tie.Need-mul-t4
+mul-t4 c = search needs
+
+shared-slice-read-t6 : tie.Need-shared-slice-read-t6
+shared-slice-read-t6 c = search needs
+
+add-t7 : tie.Need-add-t7
+add-t7 c = search needs
+
+mul-t8 : tie.Need-mul-t8
+mul-t8 c = search needs
+
+shared-slice-read-t10 : tie.Need-shared-slice-read-t10
+shared-slice-read-t10 c = search needs
+
+add-t11 : tie.Need-add-t11
+add-t11 c = search needs
+
+mul-t12 : tie.Need-mul-t12
+mul-t12 c = search needs
+
+shared-slice-read-t14 : tie.Need-shared-slice-read-t14
+shared-slice-read-t14 c = search needs
+
+add-t15 : tie.Need-add-t15
+add-t15 c = search needs
+
+mul-t16 : tie.Need-mul-t16
+mul-t16 c = search needs
+
+shared-slice-read-t18 : tie.Need-shared-slice-read-t18
+shared-slice-read-t18 c = search needs
+
+cast-t19 : tie.Need-cast-t19
+cast-t19 c = let a = c .before .before .before .before .args in omega (arith, cnt-at (a .words .now) (a .at), c .before .before .before .before .pre .1)
+
+returns : tie.Need-returns
+returns c = let a = c .before .before .before .before .args in inWords-at (a .words .now) (a .at)
+
+pub claim-at-spec : {M : Type 1} → statement M
+claim-at-spec =
+    tie.close
+    (tie.spec
+    mul-i
+    mul-t4
+    shared-slice-read-t6
+    add-t7
+    mul-t8
+    shared-slice-read-t10
+    add-t11
+    mul-t12
+    shared-slice-read-t14
+    add-t15
+    mul-t16
+    shared-slice-read-t18
+    cast-t19
+    returns)

@@ -1,0 +1,70 @@
+-- `sent::four_at` meets its contract. The invariant: the claims passed, with zeros past them. Assumes nothing.
+use Prim.Native.Nat.{_+_, _-_, _*_, _≤_, _<_}
+use native.Mathlib.Omega.{arith}
+use mathlib.Core.Path.{_≡_, _∙_}
+use borrow.Author.Needs.{needs}
+use lib.ListN.{length, drop}
+use Rattle.rule.specs.Node.{blanks}
+use Rattle.rule.specs.Call.{writtenOver}
+use Rattle.wire.specs.Frame.{frameLimit}
+use Rattle.wire.specs.Run.{readRun}
+use Rattle.wire.proofs.Frames.{blanks-four, writtenOver-four}
+use Rattle.host.specs.Frames.{inWords}
+use Rattle.host.proofs.Sends.{four-small, four-turn}
+use Rattle.host.proofs.sent.four_at.Statement.{statement}
+use Rattle.host.proofs.sent.four_at.Tie as tie
+
+abbrev Inv-loop : tie.InvT-loop
+Inv-loop words at n claims₀ i₀ claims i = (i ≤ n) × (claims ≡ writtenOver (readRun inWords i (drop (4 * at) words)) (blanks frameLimit))
+
+abbrev μ-loop : tie.MeasureT-loop
+μ-loop words at n claims₀ i₀ claims i = n - i
+
+loop-holds : tie.Need-loop-holds Inv-loop μ-loop
+loop-holds c = (search needs, blanks-four)
+
+add-claim-at : tie.Need-add-claim-at Inv-loop μ-loop
+add-claim-at c = search needs
+
+claim-at-requires : tie.Need-claim-at-requires Inv-loop μ-loop
+claim-at-requires c κs = let s = c .before .before .before in (search needs, four-small (s .args .words .now) (s .args .at) (c .before .loop .i) (s .args .n) (s .pre .2) (c .loop-test .taken))
+
+mul-claims : tie.Need-mul-claims Inv-loop μ-loop
+mul-claims c = search needs
+
+array-set-from-claims : tie.Need-array-set-from-claims Inv-loop μ-loop
+array-set-from-claims c = search needs
+
+add-i : tie.Need-add-i Inv-loop μ-loop
+add-i c = search needs
+
+loop-less : tie.Need-loop-less Inv-loop μ-loop
+loop-less c = search needs
+
+loop-again : tie.Need-loop-again Inv-loop μ-loop
+loop-again c =
+    let l = c .before .before .loop in
+    let a = c .before .before .before .before .args in
+    (search needs, four-turn (a .words .now) (a .at) (l .i) (omega arith) (l .inv .1) (c .claim-at .ensures))
+
+returns : tie.Need-returns Inv-loop μ-loop
+returns c =
+    let a = c .before .before .before .args in
+    let e : c .before .loop .i ≡ a .n = omega arith in
+    rw (← e) (c .before .loop .inv .1 ∙ writtenOver-four (readRun inWords (c .before .loop .i) (drop (4 * a .at) (a .words .now))))
+
+pub four-at-spec : {M : Type 1} → statement M
+four-at-spec =
+    tie.close
+    (tie.spec
+    Inv-loop
+    μ-loop
+    loop-holds
+    add-claim-at
+    claim-at-requires
+    mul-claims
+    array-set-from-claims
+    add-i
+    loop-less
+    loop-again
+    returns)

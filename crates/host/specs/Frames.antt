@@ -1,0 +1,47 @@
+-- A beat's claims in frames (document 01, "Host calls"): "the claims to a second, four to a frame and the rest in a last one". Then how long the frames of so
+-- many claims are, and the claims in a lent run of words. Assumes nothing.
+use Prim.Native.Nat.{ℕ, zero, suc, _+_, _-_, _*_, _/_}
+use mathlib.Core.List.{List, [], _∷_, _++_}
+use lib.ListN.{length, take, drop, getD}
+use Rattle.claims.specs.declared.claim.Claim.{Claim}
+use Rattle.rule.specs.Table.{beatLimit}
+use Rattle.wire.specs.Claim.{claimSize}
+use Rattle.wire.specs.Frame.{frameLimit, headSize, frameBytes}
+use Rattle.wire.specs.Run.{Layout}
+
+-- groups of n, and the rest in a last one: at most `most` groups
+abbrev pub groups : {A : Type 0} → ℕ → ℕ → List A → List (List A)
+groups zero n xs = []
+groups (suc most) n [] = []
+groups (suc most) n (x ∷ xs) = take n (x ∷ xs) ∷ groups most n (drop n (x ∷ xs))
+
+-- "four to a frame and the rest in a last one". As many groups as claims are enough: `flatten-fours` of proofs/Grouping says that no claim is lost.
+unfoldable pub fours : List Claim → List (List Claim)
+fours cs = groups (length cs) frameLimit cs
+
+-- frames, one after the other
+abbrev pub inFrames : List (List Claim) → List ℕ
+inFrames [] = []
+inFrames (g ∷ gs) = frameBytes g ++ inFrames gs
+
+unfoldable pub framesBytes : List Claim → List ℕ
+framesBytes cs = inFrames (fours cs)
+
+-- how many frames m claims make, and how long they are
+abbrev pub framesFor : ℕ → ℕ
+framesFor m = (m + (frameLimit - 1)) / frameLimit
+
+abbrev pub framesLength : ℕ → ℕ
+framesLength m = headSize * framesFor m + claimSize * m
+
+-- "129 claims' worth (3,486 bytes)"
+abbrev pub framesLimit : ℕ
+framesLimit = framesLength beatLimit
+
+-- how a claim lies in a lent run of words: four to a claim
+abbrev pub inWords : Layout Claim
+inWords = record {
+  size = 4;
+  read = λ ws. record { lo = getD ws 0 0; hi = getD ws 1 0; sum = getD ws 2 0; cnt = getD ws 3 0 };
+  write = λ c. c .lo ∷ c .hi ∷ c .sum ∷ c .cnt ∷ [];
+}

@@ -1,0 +1,103 @@
+// A beat, and the claims that it sends in frames.
+use claims::Claim;
+use rounds::Node;
+use rounds::beat_in;
+use wire::Framed;
+use wire::write_frame;
+use wire::write_image_in;
+ghost use mathlib.Core.Path.{_≡_};
+ghost use mathlib.Core.Bool.{true};
+ghost use Prim.Native.Nat.{_+_, _*_, _≤_, _<_, min};
+ghost use lib.ListN.{length, take, drop};
+ghost use Rattle.rule.specs.Node.{nodeInOrder};
+ghost use Rattle.rule.specs.Call.{writtenOver};
+ghost use Rattle.wire.specs.Frame.{frameLimit, frameLength, frameBytes, countable, allPass, fourOf};
+ghost use Rattle.wire.specs.Image.{imageLimit, nodeBytes};
+ghost use Rattle.wire.specs.Run.{readRun};
+ghost use Rattle.wire.specs.Place.{putAt};
+ghost use Rattle.host.specs.Frames.{framesBytes, framesLimit, inWords};
+ghost use Rattle.host.specs.Call.{nodeServed, framesSent};
+
+// The length of the frames of as many claims as a beat may send.
+pub(crate) const FRAMES: usize = Framed::HEAD
+    * ((Node::BEAT + (Framed::CLAIMS - 1)) / Framed::CLAIMS)
+    + Framed::CLAIM * Node::BEAT;
+
+// The words of a claim in a lent run: lo, hi, sum, cnt.
+const WORDS: usize = 4;
+
+// The claim at a place of a lent run.
+fn claim_at(words: &[u64], at: usize) -> Claim
+    requires { ⌜ (4 * at + 4 ≤ length (now words)) × (inWords .read (drop (4 * at) (now words)) .cnt < 65536) ⌝ }
+    ensures { λ r. ⌜ r ≡ inWords .read (drop (4 * at) (now (words .entry))) ⌝ }
+{
+    let i = WORDS * at;
+    Claim {
+        lo: words[i],
+        hi: words[i + 1],
+        sum: words[i + 2],
+        cnt: words[i + 3] as u16,
+    }
+}
+
+// The n claims from a place of a lent run on, zeros past them.
+fn four_at(words: &[u64], at: usize, n: usize) -> [Claim; Framed::CLAIMS]
+    requires { ⌜ (n ≤ frameLimit) × (4 * at + 4 * n ≤ length (now words)) × (allPass (readRun inWords n (drop (4 * at) (now words))) ≡ true) ⌝ }
+    ensures { λ r. ⌜ r ≡ fourOf (readRun inWords n (drop (4 * at) (now (words .entry)))) ⌝ }
+{
+    let mut claims = [Claim {
+        lo: 0,
+        hi: 0,
+        sum: 0,
+        cnt: 0,
+    }; Framed::CLAIMS];
+    let mut i: usize = 0;
+    while i < n {
+        claims[i] = claim_at(words, at + i);
+        i += 1;
+    }
+    claims
+}
+
+// Writes the frame of the first n of four claims at a place, and returns the place after it.
+fn write_at(frames: &mut [u8], at: usize, claims: [Claim; Framed::CLAIMS], n: usize) -> usize
+    requires { ⌜ (countable n ≡ true) × (allPass (take n claims) ≡ true) × (at + frameLength n ≤ length (now frames)) ⌝ }
+    ensures { λ r. ⌜ (r ≡ at + frameLength n) × (now (frames .exit) ≡ putAt (now (frames .entry)) at (frameBytes (take n claims))) ⌝ }
+{
+    let written = write_frame(claims, n, &mut frames[at..]);
+    at + written.length
+}
+
+// The lesser of two numbers.
+fn capped(count: usize, most: usize) -> usize
+    ensures { λ r. ⌜ r ≡ min count most ⌝ }
+{
+    if count < most { count } else { most }
+}
+
+// Writes the first `count` claims of a lent run in frames, and returns their length.
+fn write_frames(words: &[u64], count: usize, frames: &mut [u8]) -> usize
+    requires { ⌜ (4 * count ≤ length (now words)) × (allPass (readRun inWords count (now words)) ≡ true) × (length (framesBytes (readRun inWords count (now words))) ≤ length (now frames)) ⌝ }
+    ensures { λ r. ⌜ (r ≡ length (framesBytes (readRun inWords count (now (words .entry))))) × (now (frames .exit) ≡ writtenOver (framesBytes (readRun inWords count (now (words .entry)))) (now (frames .entry))) ⌝ }
+{
+    let mut i: usize = 0;
+    let mut at: usize = 0;
+    while i < count {
+        let n = capped(count - i, Framed::CLAIMS);
+        let claims = four_at(words, i, n);
+        at = write_at(frames, at, claims, n);
+        i += n;
+    }
+    at
+}
+
+// Runs a beat of a node, and writes the image of the node afterwards and the frames of the claims that it sends, whose length it returns.
+pub(crate) fn send(node: Node, out: &mut [u8], frames: &mut [u8]) -> usize
+    requires { ⌜ (nodeInOrder node ≡ true) × (imageLimit ≤ length (now out)) × (framesLimit ≤ length (now frames)) ⌝ }
+    ensures { λ r. ⌜ (r ≡ length (framesSent node)) × (r ≤ framesLimit) × (now (out .exit) ≡ writtenOver (nodeBytes (nodeServed node)) (now (out .entry))) × (now (frames .exit) ≡ writtenOver (framesSent node) (now (frames .entry))) ⌝ }
+{
+    let mut words = [0; WORDS * Node::BEAT];
+    let beaten = beat_in(node, &mut words);
+    write_image_in(beaten.node, out);
+    write_frames(&words, beaten.written, frames)
+}
