@@ -8,6 +8,7 @@ use second::*;
 pub struct Rng(pub u64);
 
 impl Rng {
+    #[allow(clippy::should_implement_trait)] // Endless, and no loop runs over it.
     pub fn next(&mut self) -> u64 {
         self.0 = self.0.wrapping_add(0x9E37_79B9_7F4A_7C15);
         let mut z = self.0;
@@ -199,7 +200,7 @@ impl Rng {
                 Claim::new(lo, lo.saturating_add(width), sum, cnt)
             }
             7 => Claim::new(lo, hi, sum, 1),
-            8 => Claim::new(lo, lo, sum ^ self.next() % 2, 1),
+            8 => Claim::new(lo, lo, sum ^ (self.next() % 2), 1),
             9 => Claim::new(lo, hi, lo ^ hi ^ (self.next() % 2), 2),
             10 => Claim::new(0, u64::MAX, sum, self.pick(&[1, 2, 3, 1_024, 1_025])),
             _ => Claim::new(self.next(), self.next(), self.next(), self.next() as u16),

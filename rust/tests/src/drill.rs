@@ -80,9 +80,9 @@ impl Drill {
     }
 
     /// Many requests, written while the replies are read.
-    pub fn ask_all<'a>(&mut self, cards: &[(Call, &'a Card)]) -> Vec<Card> {
+    pub fn ask_all(&mut self, cards: &[(Call, &Card)]) -> Vec<Card> {
         let mut requests = self.requests.take().expect("the drill is running");
-        let replies = thread::scope(|scope| {
+        thread::scope(|scope| {
             let writer = scope.spawn(move || {
                 for (call, card) in cards {
                     requests
@@ -94,8 +94,7 @@ impl Drill {
             let replies: Vec<Card> = cards.iter().map(|(_, card)| self.hear(card)).collect();
             self.requests = Some(writer.join().expect("the writer ends"));
             replies
-        });
-        replies
+        })
     }
 
     /// Writes any bytes to the program.

@@ -256,8 +256,13 @@ fn meet(
             fooled || rounds <= differ,
             "{differ} keys differed, and {rounds} rounds were too few"
         );
+        let grew = world.kiosks != before;
+        assert!(
+            grew || false_match,
+            "no match was false, and no key came across"
+        );
         // With a match that is false two kiosks can stay apart for ever.
-        idle += usize::from(world.kiosks == before);
+        idle += usize::from(!grew);
         if idle == 6 {
             told.fooled_apart += 1;
             return;
