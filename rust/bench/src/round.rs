@@ -23,6 +23,9 @@ use second::{Delivery, RawStore};
 /// The turns of a run, each of all variants.
 const TURNS: usize = 12;
 
+/// A round that takes less of a request's time is lost in it.
+const LEAST_SHARE: f64 = 0.1;
+
 /// The number of the call and where its arguments and answers stand, as the
 /// head of drill's source says.
 const ROUND: u64 = 7;
@@ -181,9 +184,17 @@ impl Turn {
     }
 }
 
-/// How many deliveries the rounds have on average, and what one took both
-/// programs.
-fn compare(drill: &mut Drill, mut cases: Vec<Case>) -> io::Result<(f64, Compared)> {
+/// What was found out about the rounds of all variants.
+struct Measured {
+    /// How many deliveries one has on average.
+    deliveries: f64,
+    /// What one took both programs.
+    times: Compared,
+    /// How much of drill's whole time it is: if little, it can't be told.
+    share: f64,
+}
+
+fn compare(drill: &mut Drill, mut cases: Vec<Case>) -> io::Result<Measured> {
     let mut answer = Vec::new();
     let mut deliveries = 0;
     for case in &mut cases {
@@ -224,7 +235,11 @@ fn compare(drill: &mut Drill, mut cases: Vec<Case>) -> io::Result<(f64, Compared
         second: best[2] - best[3],
         spread,
     };
-    Ok((deliveries, times))
+    Ok(Measured {
+        deliveries,
+        share: times.rattle / best[0],
+        times,
+    })
 }
 
 /// Where `rt check drill` puts the program, or what `MINUTEFROST_DRILL` names.
@@ -245,13 +260,27 @@ pub fn print_round() {
             return;
         }
     };
+    println!(
+        "The archive has no call for a round, so the program `drill` makes it. The time is what a request took \
+         longer, on the processor, than the same request refused by 1: questions 8 and 9 and all deliveries, without \
+         reading, copying and writing. The second program is timed in the same way.\n"
+    );
     println!("| Union | Differing | Deliveries | {CELLS} |");
     println!("|---:|---:|---:|{RULE}|");
     for (union, differing) in differences() {
         let cases = (0..VARIANTS).map(|variant| Case::new(union, differing, variant));
         match compare(&mut drill, cases.collect()) {
-            Ok((deliveries, times)) => {
-                println!("| {union} | {differing} | {deliveries:.0} | {times} |");
+            Ok(Measured {
+                deliveries,
+                times,
+                share,
+            }) => {
+                let start = format!("| {union} | {differing} | {deliveries:.0} |");
+                if share < LEAST_SHARE {
+                    println!("{start} too short to tell | {:.0} | – | – |", times.second);
+                } else {
+                    println!("{start} {times} |");
+                }
             }
             Err(why) => {
                 println!("\nNot measured further: {why}");
