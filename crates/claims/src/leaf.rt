@@ -1,8 +1,8 @@
 // The loops, each over a lent run of keys.
 use crate::store::Store;
 ghost use mathlib.Core.Path.{_≡_};
-ghost use mathlib.Core.Bool.{Bool, true};
-ghost use Prim.Native.Nat.{_≤_, _<_};
+ghost use mathlib.Core.Bool.{Bool, true, cond};
+ghost use Prim.Native.Nat.{_≤_, _<_, _*_, _^_};
 ghost use lib.ListN.{length};
 ghost use Rattle.claims.specs.Store.{limit, rising, allZero};
 ghost use Rattle.claims.specs.Claim.{xorAll};
@@ -55,6 +55,21 @@ pub(crate) fn sum_of(keys: &[u64]) -> u64
     sum
 }
 
+// 1 for yes and 0 for no.
+fn bit(yes: bool) -> usize
+    ensures { λ r. ⌜ (r ≡ cond yes 1 0) × (r ≤ 1) ⌝ }
+{
+    yes as usize
+}
+
+// `half` times a bit. By a shift, which stays one: the compiler turns a product or an `if` into a branch, and no processor can foresee which way a search goes.
+fn times(half: usize, bit: usize) -> usize
+    requires { ⌜ (half < 2 ^ 63) × (bit ≤ 1) ⌝ }
+    ensures { λ r. ⌜ r ≡ half * bit ⌝ }
+{
+    (half << bit) - half
+}
+
 // The last of the first `count` keys that is at most `key`, if they rise; the first one if none is.
 pub(crate) fn halve(keys: &[u64], count: usize, key: u64) -> usize
     requires { ⌜ (0 < count) × (count ≤ length (now keys)) ⌝ }
@@ -65,9 +80,8 @@ pub(crate) fn halve(keys: &[u64], count: usize, key: u64) -> usize
     while 1 < size {
         let half = size / 2;
         let mid = base + half;
-        if keys[mid] <= key {
-            base = mid;
-        }
+        let up = bit(keys[mid] <= key);
+        base += times(half, up);
         size -= half;
     }
     base

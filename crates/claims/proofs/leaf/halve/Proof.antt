@@ -1,14 +1,14 @@
 -- `claims::leaf::halve` meets its contract. The invariant: halving what is left gives what halving all of it gives. Assumes nothing.
 use mathlib.Core.Path.{_≡_, refl, sym, _∙_}
-use mathlib.Core.List.{List}
-use Prim.Native.Nat.{ℕ, suc, _≤_, _<_, _+_, _-_}
+use mathlib.Core.Bool.{Bool, true, false, cond}
+use lib.Dec.{leb}
+use Prim.Native.Nat.{ℕ, _≤_, _<_, _+_, _-_, _*_, _/_}
 use native.Mathlib.Omega.{arith}
 use borrow.Author.Needs.{needs}
 use denote.Ref.{now}
-use lib.ListN.{length, drop, set}
-use mathlib.Core.Logic.{⊎-elim}
+use lib.ListN.{getD}
 use Rattle.claims.specs.Lent.{halved}
-use Rattle.claims.proofs.Halving.{halved-one, halved-up, halved-down}
+use Rattle.claims.proofs.Halving.{halved-one, halved-turn}
 use Rattle.claims.proofs.leaf.halve.Statement.{statement}
 use Rattle.claims.proofs.leaf.halve.Tie as tie
 
@@ -19,17 +19,50 @@ Inv-loop keys count key base₀ size₀ base size =
 abbrev μ-loop : tie.MeasureT-loop
 μ-loop keys count key base₀ size₀ base size = size
 
+-- a bit times half of what is left is where the half begins that is kept
+stepped : (t : Bool) (base half : ℕ) → base + half * cond t 1 0 ≡ cond t (base + half) base
+stepped true base half = omega arith
+stepped false base half = omega arith
+
+stepped-le : (t : Bool) (base half : ℕ) → cond t (base + half) base ≤ base + half
+stepped-le true base half = omega arith
+stepped-le false base half = omega arith
+
+abbrev found : tie.After-times Inv-loop μ-loop → Bool
+found c = let s = c .before .before .before .before in leb (getD (now (s .before .before .args .keys)) (s .loop .base + s .loop .size / 2) 0) (s .before .before .args .key)
+
+moved : (c : tie.After-times Inv-loop μ-loop) → let s = c .before .before .before .before in
+    s .loop .base + c .times .result ≡ cond (found c) (s .loop .base + s .loop .size / 2) (s .loop .base)
+moved c =
+    let s = c .before .before .before .before in
+    rw (c .times .ensures) (rw (c .before .bit .ensures .0) (stepped (found c) (s .loop .base) (s .loop .size / 2)))
+
+moved-le : (c : tie.After-times Inv-loop μ-loop) → let s = c .before .before .before .before in
+    s .loop .base + c .times .result ≤ s .loop .base + s .loop .size / 2
+moved-le c =
+    let s = c .before .before .before .before in
+    rw (moved c) (stepped-le (found c) (s .loop .base) (s .loop .size / 2))
+
 loop-holds : tie.Need-loop-holds Inv-loop μ-loop
 loop-holds c = (omega arith, omega arith, refl)
 
 add-mid : tie.Need-add-mid Inv-loop μ-loop
 add-mid c = search needs
 
-mul-if1 : tie.Need-mul-if1 Inv-loop μ-loop
-mul-if1 c = search needs
+mul-bit : tie.Need-mul-bit Inv-loop μ-loop
+mul-bit c = search needs
 
-shared-slice-read-if1 : tie.Need-shared-slice-read-if1 Inv-loop μ-loop
-shared-slice-read-if1 c = search needs
+shared-slice-read-bit : tie.Need-shared-slice-read-bit Inv-loop μ-loop
+shared-slice-read-bit c = search needs
+
+bit-requires : tie.Need-bit-requires Inv-loop μ-loop
+bit-requires c κs = search needs
+
+times-requires : tie.Need-times-requires Inv-loop μ-loop
+times-requires c κs = search needs
+
+add-base : tie.Need-add-base Inv-loop μ-loop
+add-base c = let l = moved-le c in search (needs, l)
 
 sub-size : tie.Need-sub-size Inv-loop μ-loop
 sub-size c = search needs
@@ -39,18 +72,16 @@ loop-less c = search needs
 
 loop-again : tie.Need-loop-again Inv-loop μ-loop
 loop-again c =
-    let s = c .before .before .before in
-    let keys = now (s .before .args .keys) in
-    let key = s .before .args .key in
-    ⊎-elim
-    (λ w. rw (w .1) (omega arith, omega arith, s .loop .inv .2 ∙ halved-up keys key (s .loop .base) (s .loop .size) (omega arith) (w .0 .taken)))
-    (λ w. rw (w .1) (omega arith, omega arith, s .loop .inv .2 ∙ halved-down keys key (s .loop .base) (s .loop .size) (omega arith) (w .0 .left)))
-    (c .if1 .came)
+    let s = c .before .before .before .before in (
+      omega arith,
+      omega (arith, moved-le c),
+      rw (moved c) (s .loop .inv .2 ∙ halved-turn (now (s .before .before .args .keys)) (s .before .before .args .key) (s .loop .base) (s .loop .size) (omega arith)),
+    )
 
 returns : tie.Need-returns Inv-loop μ-loop
 returns c =
     let s = c .before in
-    sym (s .loop .inv .2 ∙ halved-one (now (s .before .args .keys)) (s .before .args .key) (s .loop .size) (s .loop .base) (s .loop .size) (c .loop-test .left))
+    sym (s .loop .inv .2 ∙ halved-one (now (s .before .before .args .keys)) (s .before .before .args .key) (s .loop .size) (s .loop .base) (s .loop .size) (c .loop-test .left))
 
 pub halve-spec : {M : Type 1} → statement M
 halve-spec =
@@ -60,8 +91,11 @@ halve-spec =
     μ-loop
     loop-holds
     add-mid
-    mul-if1
-    shared-slice-read-if1
+    mul-bit
+    shared-slice-read-bit
+    bit-requires
+    times-requires
+    add-base
     sub-size
     loop-less
     loop-again
