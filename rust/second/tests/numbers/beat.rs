@@ -1,0 +1,211 @@
+//! Pending table and beat.
+
+use super::common::*;
+use second::*;
+
+/// 64 claims that a full store of step 1 helps with in two claims each.
+pub fn helped_in_two() -> Vec<Claim> {
+    (5..69).map(|hi| c(0, hi, hi, 2)).collect()
+}
+
+#[test]
+fn a_65th_claim_drops_the_last_in_order() {
+    let table = helped_in_two();
+    let node = RawNode::of(full(1), &table);
+    assert!(questions::q1_node_in_order(&node));
+
+    // Before all others.
+    let first = c(3, 3, 3, 1);
+    let taken = take(node.clone(), first);
+    let mut expected = vec![first];
+    expected.extend(&table[..63]);
+    assert_eq!(taken.number, 0);
+    assert_eq!(taken.node, RawNode::of(full(1), &expected));
+
+    // In the last place of 64.
+    let between = c(0, 68, 68, 2);
+    let mut gap = table.clone();
+    gap[63] = c(0, 70, 70, 2);
+    let taken = take(RawNode::of(full(1), &gap), between);
+    assert_eq!(taken.node, RawNode::of(full(1), &table));
+
+    // After all others: it is itself the last.
+    let taken = take(node.clone(), c(0, 69, 69, 2));
+    assert_eq!((taken.number, taken.node), (0, node.clone()));
+
+    // An equal one is pending.
+    for claim in [table[0], table[30], table[63]] {
+        let taken = take(node.clone(), claim);
+        assert_eq!((taken.number, taken.node), (0, node.clone()));
+    }
+}
+
+#[test]
+fn a_dropped_claim_leaves_its_ends() {
+    let keys: Vec<u64> = (0..100).collect();
+    let node = RawNode::of(RawStore::of(&keys), &helped_in_two());
+    let taken = take(node, c(200, 300, 7, 50));
+    let keys: Vec<u64> = (0..100).chain([200, 300]).collect();
+    assert_eq!(taken.number, 0);
+    assert_eq!(
+        taken.node,
+        RawNode::of(RawStore::of(&keys), &helped_in_two())
+    );
+}
+
+#[test]
+fn pending_claims_rise_by_cnt_then_lo_hi_sum() {
+    let in_order = [
+        c(90, 90, 90, 1),
+        c(0, 80, 3, 3),
+        c(0, 80, 4, 3),
+        c(0, 81, 1, 3),
+        c(1, 60, 0, 3),
+        c(0, 5, 0, 4),
+    ];
+    // Whatever order they come in.
+    for rotation in 0..in_order.len() {
+        let mut node = RawNode::empty();
+        let mut claims = in_order;
+        claims.rotate_left(rotation);
+        claims[1..].reverse();
+        for claim in claims {
+            let taken = take(node, claim);
+            assert_eq!(taken.number, 0);
+            node = taken.node;
+        }
+        assert_eq!(node.table(), in_order);
+        assert_eq!(node.store.held(), [0, 1, 5, 60, 80, 81, 90]);
+    }
+}
+
+#[test]
+fn nodes_out_of_order_get_1() {
+    let store = RawStore::of(&[1, 2, 3, 9]);
+    let good = [c(1, 2, 3, 2), c(1, 9, 0, 4)];
+    let node = |pending: &[Claim]| RawNode::of(store.clone(), pending);
+    assert!(questions::q1_node_in_order(&node(&good)));
+    let mut bad = vec![
+        // order, and strictly
+        node(&[good[1], good[0]]),
+        node(&[good[0], good[0]]),
+        node(&[c(1, 9, 1, 4), c(1, 9, 0, 4)]),
+        // questions 2 to 5
+        node(&[c(2, 1, 3, 2)]),
+        node(&[c(1, 2, 3, 0)]),
+        node(&[c(1, 9, 0, 1_025)]),
+        node(&[c(1, 2, 3, 3)]),
+        node(&[c(1, 1, 0, 1)]),
+        node(&[c(1, 2, 0, 2)]),
+        // ends in the store
+        node(&[c(4, 4, 4, 1)]),
+        node(&[c(0, 9, 9, 2)]),
+        node(&[c(1, 8, 9, 2)]),
+    ];
+    // unused places are zeros, and the count says which those are
+    for place in [2, 63] {
+        let mut one = node(&good);
+        one.pending[place].sum = 1;
+        bad.push(one);
+    }
+    for pending_count in [1, 3, 64, 65, 65_536, usize::MAX] {
+        bad.push(RawNode {
+            pending_count,
+            ..node(&good)
+        });
+    }
+    // A full table whose count says 65.
+    bad.push(RawNode {
+        pending_count: 65,
+        ..RawNode::of(full(1), &helped_in_two())
+    });
+    for node in bad {
+        let taken = take(node.clone(), c(9, 5, 0, 0));
+        assert_eq!((taken.number, &taken.node), (1, &node));
+        let beaten = beat(node.clone(), &mut []);
+        assert_eq!((beaten.number, beaten.written), (1, 0));
+        assert_eq!(beaten.node, node);
+        let written = write_image(&node, &mut []);
+        assert_eq!((written.number, written.length), (1, 0));
+    }
+}
+
+#[test]
+fn a_beat_needs_129_places_whatever_is_pending() {
+    assert_eq!(BEAT_PLACES, 129);
+    for node in [
+        RawNode::empty(),
+        RawNode::of(RawStore::of(&[5]), &[]),
+        RawNode::of(full(1), &helped_in_two()),
+    ] {
+        for words in [0, 4, 512, 515] {
+            let mut run = vec![7; words];
+            let beaten = beat(node.clone(), &mut run);
+            assert_eq!((beaten.number, beaten.written), (15, 0));
+            assert_eq!(beaten.node, node);
+            assert_eq!(run, vec![7; words]);
+        }
+        for words in [516, 517, 519, 520, 600] {
+            let mut run = vec![7; words];
+            let beaten = beat(node.clone(), &mut run);
+            assert_eq!(beaten.number, 0);
+            assert_eq!(
+                &run[4 * beaten.written..],
+                &vec![7; words - 4 * beaten.written]
+            );
+        }
+    }
+}
+
+/// The claims a beat writes, and the node after it.
+pub fn beats(node: RawNode) -> (Vec<Claim>, RawNode) {
+    let mut run = vec![0; 516];
+    let beaten = beat(node, &mut run);
+    assert_eq!(beaten.number, 0);
+    let claims = run[..4 * beaten.written]
+        .chunks(4)
+        .map(|words| c(words[0], words[1], words[2], words[3] as u16))
+        .collect();
+    (claims, beaten.node)
+}
+
+#[test]
+fn the_longest_beat_writes_129_claims() {
+    let (claims, node) = beats(RawNode::of(full(1), &helped_in_two()));
+    assert_eq!(claims.len(), 129);
+    assert_eq!(claims[0], c(0, 1_023, 0, 1_024));
+    assert_eq!(claims[1], claim_of(&[1, 2, 3]));
+    assert_eq!(claims[2], claim_of(&[4]));
+    assert_eq!(claims[3], claim_of(&[1, 2, 3]));
+    assert_eq!(claims[4], claim_of(&[4, 5]));
+    assert_eq!(node, RawNode::of(full(1), &[]));
+}
+
+#[test]
+fn what_a_beat_leaves_pending() {
+    let store = || RawStore::of(&[1, 2, 4, 8, 16]);
+    let matched = c(2, 4, 6, 2);
+    let helped = c(1, 8, 9, 2);
+    let asked = c(4, 16, 3, 4);
+    let asked_more = c(1, 16, 0, 9);
+    let node = RawNode::of(store(), &[helped, matched, asked, asked_more]);
+    let (claims, node) = beats(node);
+    assert_eq!(
+        claims,
+        [
+            c(1, 16, 31, 5),
+            // helped: one claim, 2 to 4
+            c(2, 4, 6, 2),
+            // asked: own
+            c(4, 16, 28, 3),
+            c(1, 16, 31, 5),
+        ]
+    );
+    assert_eq!(node, RawNode::of(store(), &[asked, asked_more]));
+    // Asked again at the next beat.
+    let (claims, again) = beats(node.clone());
+    assert_eq!(claims, [c(1, 16, 31, 5), c(4, 16, 28, 3), c(1, 16, 31, 5)]);
+    assert_eq!(again, node);
+    // "none if empty"
+    assert_eq!(beats(RawNode::empty()), (vec![], RawNode::empty()));
+}

@@ -1,0 +1,85 @@
+//! Claims.
+
+use super::MAX;
+use super::common::*;
+use second::*;
+
+#[test]
+fn claims_of_positions() {
+    let store = RawStore::of(&[1, 2, 4, 8, MAX]);
+    assert_eq!(make(&store, 0, 0).claim, c(1, 1, 1, 1));
+    assert_eq!(make(&store, 1, 3).claim, c(2, 8, 14, 3));
+    assert_eq!(make(&store, 4, 4).claim, c(MAX, MAX, MAX, 1));
+    assert_eq!(make(&store, 0, 4).claim, c(1, MAX, MAX ^ 15, 5));
+    assert_eq!(make(&full(1), 0, 1_023).claim, c(0, 1_023, 0, 1_024));
+    assert_eq!(
+        make(&full(1), 1_023, 1_023).claim,
+        c(1_023, 1_023, 1_023, 1)
+    );
+}
+
+#[test]
+fn positions_not_held_get_7() {
+    let store = RawStore::of(&[1, 2, 4]);
+    let refused = [
+        (1, 0),
+        (0, 3),
+        (3, 3),
+        (2, 1),
+        (0, 65_536),
+        (65_536, 65_536),
+        (65_536, 0),
+        (0, usize::MAX),
+        (usize::MAX, usize::MAX),
+    ];
+    for (first, last) in refused {
+        let made = make(&store, first, last);
+        assert_eq!((made.number, made.claim), (7, Claim::ZERO));
+    }
+    assert_eq!(make(&RawStore::empty(), 0, 0).number, 7);
+    assert_eq!(make(&full(1), 0, 1_024).number, 7);
+    assert_eq!(make(&full(1), 65_536, 65_536).number, 7);
+}
+
+#[test]
+fn questions_2_to_5() {
+    let cases = [
+        // 2 before 3, 4 and 5
+        (c(2, 1, 0, 0), 2),
+        (c(MAX, 0, 0, 2), 2),
+        // 3 before 4 and 5
+        (c(5, 5, 0, 0), 3),
+        (c(5, 5, 0, 1_025), 3),
+        (c(0, MAX, 0, 1_025), 3),
+        // 4 before 5
+        (c(5, 5, 0, 2), 4),
+        (c(5, 5, 5, 1_024), 4),
+        (c(5, 6, 0, 1), 4),
+        (c(5, 6, 5, 1), 4),
+        (c(0, 1_022, 0, 1_024), 4),
+        (c(MAX - 1, MAX, 1, 3), 4),
+        (c(0, MAX, 0, 1), 4),
+        // 5
+        (c(0, 0, 1, 1), 5),
+        (c(5, 6, 0, 2), 5),
+        (c(0, MAX, 0, 2), 5),
+        // none
+        (c(0, 0, 0, 1), 0),
+        (c(MAX, MAX, MAX, 1), 0),
+        (c(5, 6, 3, 2), 0),
+        (c(5, 7, 99, 3), 0),
+        (c(0, 1_023, 7, 1_024), 0),
+        (c(0, MAX, MAX, 2), 0),
+        (c(0, MAX, 0, 1_024), 0),
+        (c(MAX - 1_023, MAX, 0, 1_024), 0),
+    ];
+    for (claim, number) in cases {
+        assert_eq!(questions::of_claim(&claim).err().unwrap_or(0), number);
+        assert_eq!(reply(RawStore::empty(), claim).number, number);
+        assert_eq!(take(RawNode::empty(), claim).number, number);
+        let frame = frame_of(&[claim]);
+        let thirteen = if number == 0 { 0 } else { 13 };
+        assert_eq!(read_frame(&frame).number, thirteen);
+        assert_eq!(write_frame(&[claim], &mut [0; 108]).number, thirteen);
+    }
+}

@@ -1,0 +1,146 @@
+//! Host calls.
+
+use super::beat::{beats, helped_in_two};
+use super::common::*;
+use second::*;
+
+#[test]
+fn taking_a_frame_into_an_image() {
+    let image = image_of(&[1, 9], &[c(1, 9, 8, 2)]);
+    let frame = frame_of(&[c(4, 4, 4, 1), c(1, 9, 0, 5), c(4, 4, 4, 1)]);
+    let mut out = vec![0x55; 9_900];
+    let length = host::take_frame(&image, &frame, &mut out);
+    let expected = image_of(&[1, 4, 9], &[c(4, 4, 4, 1), c(1, 9, 8, 2), c(1, 9, 0, 5)]);
+    assert_eq!(length, expected.len() as i64);
+    assert_eq!(out[..expected.len()], expected);
+    assert!(out[expected.len()..].iter().all(|&byte| byte == 0x55));
+}
+
+#[test]
+fn taking_a_frame_asks_14_1_10_to_13_6_15() {
+    let good_image = image_of_keys(&[1, 2]);
+    let cut_image = &good_image[..good_image.len() - 1];
+    let bad_image = image_of_keys(&[2, 1]);
+    let full_image = image_of_keys(&full(2).keys[..]);
+    let good_frame = frame_of(&[c(3, 3, 3, 1)]);
+    let mut version = good_frame.clone();
+    version[2] = 0;
+    let bad_claim = frame_of(&[c(3, 3, 0, 1)]);
+    let check = |image: &[u8], frame: &[u8], length: usize, answer: i64| {
+        let mut out = vec![0x55; length];
+        assert_eq!(host::take_frame(image, frame, &mut out), answer);
+        if answer < 0 {
+            assert_eq!(out, vec![0x55; length]);
+        }
+        let number = questions::of_host_take_frame(image, frame, length);
+        assert_eq!(number.err().map_or(0, i64::from), (-answer).max(0));
+    };
+    check(cut_image, &[], 0, -14);
+    check(&bad_image, &[], 0, -1);
+    check(&good_image, &[], 0, -10);
+    check(&good_image, &version[..4], 0, -11);
+    check(&good_image, &good_frame[..29], 0, -12);
+    check(&full_image, &bad_claim, 0, -13);
+    check(&full_image, &good_frame, 0, -6);
+    // "the frame host call needs 9,860"
+    check(&good_image, &good_frame, 9_859, -15);
+    check(&good_image, &good_frame, 9_860, 4 + 3 * 8 + 26);
+}
+
+#[test]
+fn in_a_frame_6_is_put_claim_by_claim() {
+    let all = full(2).keys;
+    let held = c(0, 2, 2, 2);
+    let two_new = c(1, 3, 2, 2);
+    let one_new = c(5, 5, 5, 1);
+    let mut out = vec![0x55; 9_860];
+    // The no comes at the first, second, third and fourth claim.
+    for at in 0..4 {
+        let mut claims = [held; 4];
+        claims[at] = two_new;
+        let image = image_of_keys(&all[..1_023]);
+        assert_eq!(host::take_frame(&image, &frame_of(&claims), &mut out), -6);
+        assert!(out.iter().all(|&byte| byte == 0x55));
+    }
+    // Each would fit alone: the second finds the first one's keys there.
+    let image = image_of_keys(&all[..1_022]);
+    let frame = frame_of(&[two_new, one_new]);
+    assert_eq!(host::take_frame(&image, &frame, &mut out), -6);
+    let frame = frame_of(&[one_new, two_new]);
+    assert_eq!(host::take_frame(&image, &frame, &mut out), -6);
+    assert!(out.iter().all(|&byte| byte == 0x55));
+    // The same new keys again are missing no longer.
+    let frame = frame_of(&[two_new; 4]);
+    let length = host::take_frame(&image, &frame, &mut out);
+    assert_eq!(length, (4 + 8 * 1_024 + 26) as i64);
+    let read = read_image(&out[..length as usize]);
+    assert_eq!(read.node.table(), [two_new]);
+    assert_eq!(read.node.store.count, 1_024);
+}
+
+#[test]
+fn beating_an_image() {
+    let node = RawNode::of(full(1), &helped_in_two());
+    let mut image = vec![0; 9_860];
+    write_image(&node, &mut image);
+    let mut out = vec![0x55; 9_870];
+    let mut frames = vec![0x66; 3_490];
+    // "129 claims' worth (3,486 bytes)": 32 frames of four and one of one.
+    assert_eq!(host::BEAT_FRAMES, 32 * 108 + 30);
+    assert_eq!(host::beat(&image, &mut out, &mut frames), 3_486);
+    assert!(frames[3_486..].iter().all(|&byte| byte == 0x66));
+    let (claims, node) = beats(node);
+    let mut expected = Vec::new();
+    for four in claims.chunks(4) {
+        expected.extend(frame_of(four));
+    }
+    assert_eq!(frames[..3_486], expected);
+    let length = image_length(&out).length;
+    assert_eq!(length, 4 + 8 * 1_024);
+    assert_eq!(read_image(&out[..length]).node, node);
+    assert!(out[length..].iter().all(|&byte| byte == 0x55));
+}
+
+#[test]
+fn beats_of_few_claims() {
+    let mut out = vec![0; 9_860];
+    let mut frames = vec![0x66; 3_486];
+    // No claim, no frame; the image is the empty one.
+    assert_eq!(host::beat(&[0, 0, 0, 0], &mut out, &mut frames), 0);
+    assert_eq!(out[..4], [0, 0, 0, 0]);
+    assert!(frames.iter().all(|&byte| byte == 0x66));
+    // Four claims are one frame and no more.
+    let image = image_of(&[1, 9], &[c(1, 9, 0, 3), c(1, 9, 0, 4), c(1, 9, 0, 5)]);
+    assert_eq!(host::beat(&image, &mut out, &mut frames), 108);
+    assert_eq!(frames[..108], frame_of(&[c(1, 9, 8, 2); 4]));
+    assert_eq!(out[..image.len()], image);
+    // Five are one of four and one of one.
+    let image = image_of(
+        &[1, 9],
+        &[c(1, 9, 0, 3), c(1, 9, 0, 4), c(1, 9, 0, 5), c(1, 9, 0, 6)],
+    );
+    assert_eq!(host::beat(&image, &mut out, &mut frames), 138);
+    assert_eq!(frames[108..138], frame_of(&[c(1, 9, 8, 2)]));
+}
+
+#[test]
+fn beating_an_image_asks_14_1_15() {
+    let good = image_of_keys(&[1, 2]);
+    let bad = image_of_keys(&[2, 1]);
+    let check = |image: &[u8], out: usize, frames: usize, answer: i64| {
+        let (mut new, mut beat) = (vec![0x55; out], vec![0x66; frames]);
+        assert_eq!(host::beat(image, &mut new, &mut beat), answer);
+        if answer < 0 {
+            assert_eq!(new, vec![0x55; out]);
+            assert_eq!(beat, vec![0x66; frames]);
+        }
+        let number = questions::of_host_beat(image, out, frames);
+        assert_eq!(number.err().map_or(0, i64::from), (-answer).max(0));
+    };
+    check(&good[..19], 0, 0, -14);
+    check(&bad, 0, 0, -1);
+    check(&good, 9_859, 3_486, -15);
+    check(&good, 9_860, 3_485, -15);
+    check(&good, 0, 0, -15);
+    check(&good, 9_860, 3_486, 30);
+}

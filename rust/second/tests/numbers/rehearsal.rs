@@ -1,0 +1,61 @@
+//! The rehearsal program.
+
+use super::MAX;
+use super::common::*;
+use second::*;
+
+#[test]
+fn rehearsals_refused() {
+    let good = image_of_keys(&[1, 2]);
+    let bad = image_of_keys(&[2, 1]);
+    let many: Vec<u64> = (0..1_025).collect();
+    let join = |parts: &[&[u8]]| rehearse(&parts.concat());
+    // No input, and input that stops anywhere in the first.
+    for length in 0..good.len() {
+        assert_eq!(rehearse(&good[..length]), "refused 14\n");
+    }
+    // The rest is the second: none, cut, too long.
+    assert_eq!(rehearse(&good), "refused 14\n");
+    assert_eq!(join(&[&good, &good[..19]]), "refused 14\n");
+    assert_eq!(join(&[&good, &good, &[0]]), "refused 14\n");
+    assert_eq!(join(&[&good, &good, &good]), "refused 14\n");
+    // The first is judged by 14 and 1 before the second.
+    assert_eq!(join(&[&bad, &good]), "refused 1\n");
+    assert_eq!(join(&[&bad, &good[..5]]), "refused 1\n");
+    assert_eq!(rehearse(&bad), "refused 1\n");
+    assert_eq!(join(&[&good, &bad]), "refused 1\n");
+    assert_eq!(join(&[&image_of_keys(&many), &bad]), "refused 14\n");
+    // A table out of order is an image out of order.
+    let table = image_of(&[1, 2], &[c(1, 2, 0, 2)]);
+    assert_eq!(join(&[&good, &table]), "refused 1\n");
+    assert_eq!(join(&[&table, &good]), "refused 1\n");
+    // A union of 1,025.
+    let full = image_of_keys(&many[..1_024]);
+    assert_eq!(join(&[&full, &image_of_keys(&[1_024])]), "refused 8\n");
+    assert_eq!(
+        join(&[&full, &full]),
+        "L 0 1023 0 1024\nR 0 1023 0 1024\nleft 1024 right 1024 claims 2\n"
+    );
+}
+
+#[test]
+fn rehearsals_without_deliveries_and_with_tables() {
+    let empty: &[u8] = &[0, 0, 0, 0];
+    assert_eq!(
+        rehearse(&[empty, empty].concat()),
+        "left 0 right 0 claims 0\n"
+    );
+    // Only stores take part.
+    let table = image_of(&[1, 2], &[c(1, 2, 3, 2)]);
+    assert_eq!(
+        rehearse(&[&table, empty].concat()),
+        "L 1 2 3 2\nR 1 2 3 2\nleft 2 right 2 claims 2\n"
+    );
+    // Base ten, all 64 bits.
+    let largest = image_of_keys(&[MAX]);
+    assert_eq!(
+        rehearse(&[empty, &largest].concat()),
+        "R 18446744073709551615 18446744073709551615 18446744073709551615 1\n\
+         left 1 right 1 claims 1\n"
+    );
+}

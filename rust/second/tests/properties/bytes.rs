@@ -1,0 +1,102 @@
+//! Frames, images and the host calls on them.
+
+use super::common::*;
+use super::number;
+use second::*;
+
+#[test]
+fn frames_round_trip() {
+    for_seeds(400, |rng| {
+        let density = rng.density();
+        let claims: Vec<Claim> = (0..rng.below(6)).map(|_| rng.claim(&[], density)).collect();
+        let mut out = vec![0x55; 4 + 26 * claims.len() + rng.below(4)];
+        if rng.one_in(5) {
+            out.pop();
+        }
+        let written = write_frame(&claims, &mut out);
+        assert_eq!(
+            written.number,
+            number(questions::of_write_frame(&claims, out.len()))
+        );
+        if written.number == 0 {
+            let frame = &out[..written.length];
+            assert_eq!(frame, frame_of(&claims));
+            let read = read_frame(frame);
+            assert_eq!((read.number, read.count), (0, claims.len()));
+            assert_eq!(read.claims[..read.count], claims);
+        }
+        assert!(out[written.length..].iter().all(|&byte| byte == 0x55));
+    });
+}
+
+#[test]
+fn images_round_trip() {
+    for_seeds(150, |rng| {
+        let node = rng.node();
+        let mut out = vec![0x55; 9_860 + rng.below(5)];
+        let written = write_image(&node, &mut out);
+        assert_eq!(written.number, 0);
+        let image = &out[..written.length];
+        assert_eq!(image, image_of(node.store.held(), node.table()));
+        assert!(out[written.length..].iter().all(|&byte| byte == 0x55));
+        assert_eq!(image_length(&out).length, written.length);
+        assert_eq!(read_image(image), ImageRead { number: 0, node });
+    });
+}
+
+#[test]
+fn host_calls_are_the_calls_on_nodes() {
+    for_seeds(250, |rng| {
+        let mut node = rng.node();
+        let image = image_of(node.store.held(), node.table());
+        let density = rng.density();
+        let held = node.store.held().to_vec();
+        let claims: Vec<Claim> = (0..1 + rng.below(4))
+            .map(|_| rng.claim(&held, density))
+            .filter(|claim| questions::of_claim(claim).is_ok())
+            .collect();
+        let room = *rng.pick(&[9_860, 9_860, 9_860, 9_861, 9_859, 0]);
+        let mut out = vec![0x55; room];
+        let answer = host::take_frame(&image, &frame_of(&claims), &mut out);
+
+        let mut refused = if claims.is_empty() { 12 } else { 0 };
+        for claim in &claims {
+            let taken = take(node, *claim);
+            node = taken.node;
+            refused = taken.number;
+            if refused != 0 {
+                break;
+            }
+        }
+        if refused == 0 && room < 9_860 {
+            refused = 15;
+        }
+        if refused != 0 {
+            assert_eq!(answer, -i64::from(refused));
+            assert!(out.iter().all(|&byte| byte == 0x55));
+            return;
+        }
+        let expected = image_of(node.store.held(), node.table());
+        assert_eq!(answer, expected.len() as i64);
+        assert_eq!(out[..expected.len()], expected);
+        assert!(out[expected.len()..].iter().all(|&byte| byte == 0x55));
+
+        // And a beat of what came of it.
+        let mut new = vec![0x44; 9_860 + rng.below(3)];
+        let mut frames = vec![0x66; 3_486 + rng.below(3)];
+        let length = host::beat(&expected, &mut new, &mut frames);
+        let mut run = vec![0; 516];
+        let beaten = beat(node, &mut run);
+        let claims: Vec<Claim> = run[..4 * beaten.written]
+            .chunks(4)
+            .map(|words| c(words[0], words[1], words[2], words[3] as u16))
+            .collect();
+        let expected: Vec<u8> = claims.chunks(4).flat_map(frame_of).collect();
+        assert_eq!(length, expected.len() as i64);
+        assert_eq!(frames[..expected.len()], expected);
+        assert!(frames[expected.len()..].iter().all(|&byte| byte == 0x66));
+        let expected = image_of(beaten.node.store.held(), beaten.node.table());
+        assert_eq!(new[..expected.len()], expected);
+        assert!(new[expected.len()..].iter().all(|&byte| byte == 0x44));
+    });
+}

@@ -1,0 +1,142 @@
+//! Entering, claims, replies, taking and beats.
+
+use std::collections::BTreeSet;
+
+use super::common::*;
+use super::number;
+use super::sets::{reply_of_set, set, store_of};
+use second::*;
+
+#[test]
+fn entering_is_that_of_sets() {
+    for_seeds(300, |rng| {
+        let density = rng.density();
+        let mut model = set(&rng.keys(1_024, density));
+        let mut store = store_of(&model);
+        for _ in 0..40 {
+            let key = rng.key(density);
+            let entered = enter(store.clone(), key);
+            if model.len() == 1_024 && !model.contains(&key) {
+                assert_eq!((entered.number, &entered.store), (6, &store));
+            } else {
+                model.insert(key);
+                assert_eq!(entered.number, 0);
+            }
+            assert_eq!(entered.store, store_of(&model));
+            store = entered.store;
+        }
+    });
+}
+
+#[test]
+fn claims_made_pass_2_to_5_and_match_at_home() {
+    for_seeds(300, |rng| {
+        let density = rng.density();
+        let keys = rng.keys(1_024, density);
+        let store = RawStore::of(&keys);
+        for _ in 0..10 {
+            let (first, last) = (rng.below(1_030), rng.below(1_030));
+            let made = make(&store, first, last);
+            if first > last || last >= keys.len() {
+                assert_eq!((made.number, made.claim), (7, Claim::ZERO));
+                continue;
+            }
+            assert_eq!(
+                (made.number, made.claim),
+                (0, claim_of(&keys[first..=last]))
+            );
+            assert_eq!(questions::of_claim(&made.claim), Ok(()));
+            let replied = reply(store.clone(), made.claim);
+            assert_eq!(replied.reply, Some(Reply::Match));
+            assert_eq!(replied.store, store);
+        }
+    });
+}
+
+#[test]
+fn replies_are_those_of_sets() {
+    for_seeds(600, |rng| {
+        let density = rng.density();
+        let keys = rng.keys(1_024, density);
+        let store = RawStore::of(&keys);
+        for _ in 0..20 {
+            let claim = rng.claim(&keys, density);
+            let replied = reply(store.clone(), claim);
+            assert_eq!(replied.number, number(questions::of_reply(&store, &claim)));
+            let (count, claims) = replied.claims();
+            if replied.number != 0 {
+                assert_eq!((replied.reply, &replied.store), (None, &store));
+                assert_eq!((count, claims), (0, [Claim::ZERO; 2]));
+                continue;
+            }
+            let mut model = set(&keys);
+            let (asks, expected) = reply_of_set(&mut model, claim);
+            assert_eq!(replied.store, store_of(&model));
+            assert_eq!(claims[..count], expected);
+            assert_eq!(matches!(replied.reply, Some(Reply::Ask(_))), asks);
+            // What is sent would pass its receiver's questions.
+            assert!(
+                expected
+                    .iter()
+                    .all(|made| questions::of_claim(made).is_ok())
+            );
+        }
+    });
+}
+
+#[test]
+fn taking_and_beating_are_those_of_sets() {
+    for_seeds(150, |rng| {
+        let density = rng.density();
+        let mut keys = set(&rng.keys(1_024, density));
+        let mut table = BTreeSet::new();
+        let mut node = RawNode::of(store_of(&keys), &[]);
+        for _ in 0..120 {
+            let held: Vec<u64> = keys.iter().copied().collect();
+            if rng.one_in(60) {
+                let mut run = vec![7; 516 + rng.below(9)];
+                let beaten = beat(node, &mut run);
+                let mut expected = Vec::new();
+                if !held.is_empty() {
+                    expected.push(claim_of(&held));
+                }
+                let before = keys.clone();
+                table.retain(|&(cnt, lo, hi, sum)| {
+                    let (asks, claims) = reply_of_set(&mut keys, c(lo, hi, sum, cnt));
+                    expected.extend(claims);
+                    asks
+                });
+                assert_eq!(keys, before, "a beat adds no key");
+                assert_eq!((beaten.number, beaten.written), (0, expected.len()));
+                let (written, kept) = run.split_at(4 * beaten.written);
+                for (words, claim) in written.chunks(4).zip(&expected) {
+                    let cnt = u64::from(claim.cnt);
+                    assert_eq!(words, [claim.lo, claim.hi, claim.sum, cnt]);
+                }
+                assert!(kept.iter().all(|&word| word == 7));
+                node = beaten.node;
+            } else {
+                let claim = rng.claim(&held, density);
+                let before = node.clone();
+                let taken = take(node, claim);
+                assert_eq!(taken.number, number(questions::of_take(&before, &claim)));
+                if taken.number == 0 {
+                    keys.extend([claim.lo, claim.hi]);
+                    table.insert(claim.rank());
+                    if table.len() == 65 {
+                        table.pop_last();
+                    }
+                } else {
+                    assert_eq!(taken.node, before);
+                }
+                node = taken.node;
+            }
+            let pending: Vec<Claim> = table
+                .iter()
+                .map(|&(cnt, lo, hi, sum)| c(lo, hi, sum, cnt))
+                .collect();
+            assert_eq!(node, RawNode::of(store_of(&keys), &pending));
+            assert!(questions::q1_node_in_order(&node));
+        }
+    });
+}

@@ -1,0 +1,182 @@
+//! Bytes, stores and nodes of any content are answered.
+
+use std::collections::BTreeSet;
+
+use super::common::*;
+use super::number;
+use second::*;
+
+#[test]
+fn damaged_bytes_are_answered() {
+    let seen = std::cell::RefCell::new(BTreeSet::new());
+    for_seeds(1_500, |rng| {
+        let density = rng.density();
+        let node = rng.node();
+        let held = node.store.held().to_vec();
+        let mut image = image_of(&held, node.table());
+        let claims: Vec<Claim> = (0..1 + rng.below(4))
+            .map(|_| rng.claim(&held, density))
+            .collect();
+        let mut frame = frame_of(&claims);
+        let mut input = [image.clone(), image_of_keys(&rng.keys(200, density))].concat();
+        for bytes in [&mut image, &mut frame, &mut input] {
+            for _ in 0..rng.below(3) {
+                rng.damage(bytes);
+            }
+        }
+
+        let mut seen = seen.borrow_mut();
+        let read = read_frame(&frame);
+        assert_eq!(read.number, number(questions::of_read_frame(&frame)));
+        if read.number == 0 {
+            assert_eq!(frame_of(&read.claims[..read.count]), frame);
+        }
+        seen.insert(("read_frame", read.number));
+
+        let read = read_image(&image);
+        assert_eq!(read.number, number(questions::of_read_image(&image)));
+        if read.number == 0 {
+            assert!(questions::q1_node_in_order(&read.node));
+            assert_eq!(image_of(read.node.store.held(), read.node.table()), image);
+        }
+        seen.insert(("read_image", read.number));
+        let told = image_length(&image);
+        assert!(told.length <= image.len());
+        assert_eq!(told.number, number(questions::of_image_length(&image)));
+        assert_eq!(
+            told.length == image.len() && told.number == 0,
+            questions::q14_length_told(&image)
+        );
+        seen.insert(("image_length", told.number));
+
+        let room = *rng.pick(&[9_860, 9_860, 9_859]);
+        let mut out = vec![0x55; room];
+        let answer = host::take_frame(&image, &frame, &mut out);
+        let no = number(questions::of_host_take_frame(&image, &frame, room));
+        assert_eq!((-answer).max(0), i64::from(no));
+        seen.insert(("host::take_frame", no));
+        if no != 0 {
+            assert!(out.iter().all(|&byte| byte == 0x55));
+        } else {
+            assert_eq!(read_image(&out[..answer as usize]).number, 0);
+        }
+
+        let mut out = vec![0x55; room];
+        let frames_room = *rng.pick(&[3_486, 3_486, 3_485]);
+        let mut frames = vec![0x66; frames_room];
+        let answer = host::beat(&image, &mut out, &mut frames);
+        let no = number(questions::of_host_beat(&image, room, frames_room));
+        assert_eq!((-answer).max(0), i64::from(no));
+        seen.insert(("host::beat", no));
+        if no != 0 {
+            assert!(out.iter().all(|&byte| byte == 0x55));
+            assert!(frames.iter().all(|&byte| byte == 0x66));
+        }
+
+        let no = number(questions::of_rehearse(&input));
+        let output = rehearse(&input);
+        assert_eq!(output == format!("refused {no}\n"), no != 0);
+        seen.insert(("rehearse", no));
+    });
+    if std::env::var("SECOND_SEED").is_ok() {
+        return;
+    }
+    // Each answer was seen.
+    let seen = seen.into_inner();
+    for (call, numbers) in [
+        ("read_frame", &[0, 10, 11, 12, 13][..]),
+        ("read_image", &[0, 1, 14]),
+        ("image_length", &[0, 14]),
+        ("host::take_frame", &[0, 1, 6, 10, 11, 12, 13, 14, 15]),
+        ("host::beat", &[0, 1, 14, 15]),
+        ("rehearse", &[0, 1, 8, 14]),
+    ] {
+        for &number in numbers {
+            assert!(seen.contains(&(call, number)), "{call} never {number}");
+        }
+    }
+}
+
+#[test]
+fn any_bytes_are_answered() {
+    for_seeds(2_000, |rng| {
+        let length = rng.below(300);
+        let mut bytes: Vec<u8> = (0..length).map(|_| rng.next() as u8).collect();
+        // Small counts and a right mark, so that the reader gets further.
+        if rng.one_in(2) {
+            for (place, byte) in bytes.iter_mut().zip([0x4C, 0x43, 1, 2]) {
+                *place = byte;
+            }
+        } else if rng.one_in(2) {
+            for (place, byte) in bytes.iter_mut().zip([0, 2]) {
+                *place = byte;
+            }
+        }
+        let good = image_of_keys(&[1, 2]);
+        let mut out = vec![0; 9_860];
+        let mut frames = vec![0; 3_486];
+        read_frame(&bytes);
+        read_image(&bytes);
+        image_length(&bytes);
+        rehearse(&bytes);
+        rehearse(&[good.as_slice(), &bytes].concat());
+        host::take_frame(&bytes, &bytes, &mut out);
+        host::take_frame(&good, &bytes, &mut out);
+        host::beat(&bytes, &mut out, &mut frames);
+    });
+}
+
+#[test]
+fn stores_and_nodes_of_any_content_are_answered() {
+    for_seeds(400, |rng| {
+        let density = rng.density();
+        let mut node = rng.node();
+        for _ in 0..rng.below(3) {
+            match rng.below(6) {
+                0 => node.store.count = rng.below(1_030),
+                1 => node.store.count = rng.next() as usize,
+                2 => node.store.keys[rng.below(1_024)] = rng.key(density),
+                3 => node.pending_count = rng.below(70),
+                4 => node.pending_count = rng.next() as usize,
+                _ => node.pending[rng.below(64)] = rng.claim(&[], density),
+            }
+        }
+        let store = node.store.clone();
+        let claim = rng.claim(&[], density);
+        let key = rng.key(density);
+
+        let entered = enter(store.clone(), key);
+        assert_eq!(entered.number, number(questions::of_enter(&store, key)));
+        assert!(entered.number == 0 || entered.store == store);
+        let last = rng.below(20);
+        let made = make(&store, 0, last);
+        assert_eq!(made.number, number(questions::of_make(&store, 0, last)));
+        let replied = reply(store.clone(), claim);
+        assert_eq!(replied.number, number(questions::of_reply(&store, &claim)));
+        assert!(replied.number == 0 || replied.store == store);
+        let taken = take(node.clone(), claim);
+        assert_eq!(taken.number, number(questions::of_take(&node, &claim)));
+        assert!(taken.number == 0 || taken.node == node);
+        assert!(taken.number != 0 || questions::q1_node_in_order(&taken.node));
+        let words = *rng.pick(&[515, 516]);
+        let mut run = vec![7; words];
+        let beaten = beat(node.clone(), &mut run);
+        assert_eq!(beaten.number, number(questions::of_beat(&node, words / 4)));
+        assert!(beaten.number == 0 || (beaten.node == node && run == vec![7; words]));
+        assert!(beaten.number != 0 || questions::q1_node_in_order(&beaten.node));
+        let mut out = vec![0x55; rng.below(9_861)];
+        let written = write_image(&node, &mut out);
+        assert_eq!(
+            written.number,
+            number(questions::of_write_image(&node, out.len()))
+        );
+        let other = RawStore::of(&rng.keys(100, density));
+        let mut records = vec![Delivery::default(); 2_048];
+        let rounded = round(store.clone(), other.clone(), &mut records);
+        assert_eq!(
+            rounded.number,
+            number(questions::of_round(&store, &other, 2_048))
+        );
+        assert!(rounded.number == 0 || (rounded.left == store && rounded.right == other));
+    });
+}

@@ -1,0 +1,66 @@
+//! Replies and rounds told by sets of keys.
+
+use std::collections::BTreeSet;
+
+use super::common::*;
+use second::*;
+
+pub fn set(keys: &[u64]) -> BTreeSet<u64> {
+    keys.iter().copied().collect()
+}
+
+pub fn store_of(keys: &BTreeSet<u64>) -> RawStore {
+    RawStore::of(&keys.iter().copied().collect::<Vec<_>>())
+}
+
+/// The reply read off a set of keys, word by word.
+pub fn reply_of_set(keys: &mut BTreeSet<u64>, claim: Claim) -> (bool, Vec<Claim>) {
+    keys.extend([claim.lo, claim.hi]);
+    let span: Vec<u64> = keys.range(claim.lo..=claim.hi).copied().collect();
+    let own = claim_of(&span);
+    if own == claim {
+        return (false, vec![]);
+    }
+    if claim.cnt > own.cnt {
+        return (true, vec![own]);
+    }
+    let inner = &span[1..span.len() - 1];
+    if inner.len() <= 3 {
+        return (false, vec![claim_of(inner)]);
+    }
+    // a to a + z are z + 1 keys.
+    let (lower, upper) = inner.split_at(inner.len() / 2 + 1);
+    (false, vec![claim_of(lower), claim_of(upper)])
+}
+
+/// The transcript of a round told by sets, with the places of its false
+/// matches.
+pub fn round_of_sets(stores: &mut [BTreeSet<u64>; 2]) -> (Vec<(u8, Claim)>, Vec<usize>) {
+    let mut told = Vec::new();
+    let mut false_matches = Vec::new();
+    for opener in 0..2 {
+        if stores[opener].is_empty() {
+            continue;
+        }
+        let all: Vec<u64> = stores[opener].iter().copied().collect();
+        // Claims wait in one list that is never cut, each with what its
+        // sender held when it was made.
+        let mut waiting = vec![(opener, claim_of(&all), stores[opener].clone())];
+        let mut next = 0;
+        while next < waiting.len() {
+            let (sender, claim, then) = waiting[next].clone();
+            next += 1;
+            let receiver = 1 - sender;
+            let (_, claims) = reply_of_set(&mut stores[receiver], claim);
+            let ends = claim.lo..=claim.hi;
+            if claims.is_empty() && !then.range(ends.clone()).eq(stores[receiver].range(ends)) {
+                false_matches.push(told.len());
+            }
+            told.push((sender as u8, claim));
+            for claim in claims {
+                waiting.push((receiver, claim, stores[receiver].clone()));
+            }
+        }
+    }
+    (told, false_matches)
+}
