@@ -16,25 +16,23 @@ use Rattle.claims.specs.declared.lent.Heard.{Heard}
 use Rattle.claims.specs.declared.lent.Place.{Place}
 use Rattle.claims.specs.declared.store.Store.{Store}
 use Rattle.claims.specs.Store.{limit, storeOf, position, insertAll}
-use Rattle.claims.specs.Claim.{noClaim}
 use Rattle.claims.specs.Question.{firstNo, question6, claimQuestions}
 use Rattle.claims.specs.Reply.{ends, hear, same}
 use Rattle.claims.specs.Call.{judged}
 use Rattle.claims.specs.Lent.{lacking, room, noRoom, heardAt, addOne, keysOne, putIn, raised, addTwo, keysTwo, placeIn, hearIn, keysHearing}
-use Rattle.claims.proofs.Tests.{and-left, and-right, lt-or-le, eq-or-ne}
+use Rattle.claims.proofs.Tests.{lt-or-le, eq-or-ne}
 use Rattle.claims.proofs.Rising.{Rising}
 use Rattle.claims.proofs.Order.{inOrder-rising, length-keysOf, storeOf-keysOf, count-storeOf}
 use Rattle.claims.proofs.QuestionLaws.{Passes, passes, firstNo-yes, firstNo-no, firstNo-append-zero, firstNo-append-no, claimQuestions-numbered, judged-firstNo}
-use Rattle.claims.proofs.ClaimLaws.{same-claim}
 use Rattle.claims.proofs.LentLaws.{hearIn-fits, hearIn-full, keysHearing-fits}
 use Rattle.rule.specs.declared.node.Node.{Node}
 use Rattle.rule.specs.declared.answer.Taken.{Taken}
 use Rattle.rule.specs.Table.{tableLimit, before, insertClaim, tableWith}
-use Rattle.rule.specs.Node.{blanks, pendingOf, nodeKeys, nodeOf, allUnused, nodeInOrder}
+use Rattle.rule.specs.Node.{blanks, pendingOf, nodeKeys, nodeOf, nodeInOrder}
 use Rattle.rule.specs.Question.{nodeQuestion1}
 use Rattle.rule.specs.Call.{writtenOver, takeQuestions, taken}
 use Rattle.nodes.specs.Lent.{nodeFrom, placeAmong, isAt, placedAt, placedIn, tableIn, Enlisted, takenAfter, takenNext}
-use Rattle.rule.proofs.NodeLaws.{Ordered, ordered-nodeInOrder}
+use Rattle.rule.proofs.NodeLaws.{Ordered, ordered-nodeInOrder, blanks-allUnused}
 use Rattle.rule.proofs.CallLaws.{takeQuestions-yes, taken-done, taken-refused, ordered-taken, length-pendingOf}
 use Rattle.nodes.proofs.Placing.{tableIn-tableWith}
 
@@ -164,15 +162,6 @@ module _ (n : Node) (c : Claim) where
       rw (ordered, first, ne-eqb m 0 f)
 
 -- ---- a node in order
-
--- unused places are blanks
-pub blanks-allUnused : (t : List Claim) → allUnused t ≡ true → t ≡ blanks (length t)
-unfolding blanks
-blanks-allUnused [] h = refl
-blanks-allUnused (c ∷ cs) h =
-    let e : c ≡ noClaim = same-claim c noClaim (and-left (same c noClaim) (allUnused cs) h) in
-    let p : cs ≡ blanks (length cs) = blanks-allUnused cs (and-right (same c noClaim) (allUnused cs) h) in
-    cc
 
 pub drop-blanks : (k m : ℕ) → drop k (blanks m) ≡ blanks (m - k)
 unfolding blanks

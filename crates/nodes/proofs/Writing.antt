@@ -1,13 +1,13 @@
 -- Claims written to lent words (specs/Serving, `wroteAt`): claims as words; a run of claims right after a run of claims; what is written from the first
 -- place on. Then one law for each way that the code of src/beats.rt goes that writes a claim, an answer's claims, or the whole claim. Assumes nothing.
 use mathlib.Core.Path.{_≡_, refl, sym, _∙_, ap}
-use mathlib.Core.List.{List, [], _∷_, _++_, map}
+use mathlib.Core.List.{List, [], _∷_, _++_}
 use Prim.Native.Nat.{ℕ, suc, _+_, _*_, _-_, _≤_}
 use native.Mathlib.Nat.{zero-add, add-zero}
 use native.Mathlib.Numerals.{add-one}
 use native.Mathlib.Omega.{arith}
 use borrow.Author.Tests.{eq-eqb, ne-eqb}
-use lib.ListN.{length, drop, set, length-map}
+use lib.ListN.{length, drop, set}
 use lib.Seq.{sets, length-sets, sets-eq}
 use Rattle.claims.specs.declared.claim.Claim.{Claim}
 use Rattle.claims.specs.declared.answer.Answer.{Answer}
@@ -30,10 +30,6 @@ module _ {A : Type 0} where
   -- from the beginning on, that is what `writtenOver` says
   pub sets-writtenOver : (l xs : List A) → length xs ≤ length l → sets l 0 xs ≡ writtenOver xs l
   sets-writtenOver l xs h = let e : 0 + length xs ≡ length xs = zero-add (length xs) in sets-eq xs l 0 (omega arith) ∙ ap (λ (n : ℕ). xs ++ drop n l) e
-
--- an array's list has as many elements as what the machine holds of it
-pub length-mapped : {A B : Type 0} (f : A → B) (l : List A) (n : ℕ) → length (map f l) ≡ n → length l ≡ n
-length-mapped f l n e = sym (length-map l f) ∙ e
 
 -- ---- claims written
 

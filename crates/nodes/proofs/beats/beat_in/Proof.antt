@@ -4,7 +4,7 @@ use denote.Ref.{now}
 use mathlib.Core.Path.{_≡_}
 use lib.ListN.{length}
 use Rattle.rule.specs.Table.{tableLimit}
-use Rattle.nodes.proofs.Writing.{length-mapped}
+use Rattle.nodes.proofs.TakeLaws.{length-mapped}
 use Rattle.nodes.proofs.Beating.{beatIn-many, beatIn-short, beatIn-room, beatIn-done}
 use Rattle.nodes.proofs.beats.beat_in.Statement.{statement}
 use Rattle.nodes.proofs.beats.beat_in.Tie as tie
