@@ -14,9 +14,9 @@ use Rattle.claims.specs.declared.lent.Heard.{Heard}
 use Rattle.claims.specs.declared.lent.Place.{Place}
 use Rattle.claims.specs.declared.lent.Told.{Told}
 use Rattle.claims.specs.Store.{limit}
-use Rattle.claims.specs.Lent.{halved, placeAt, placeIn, lacking, putIn, heardAt, noRoom, addOne, keysOne, raised, addTwo, keysTwo, addIn, keysAdding, hearIn, keysHearing, answerIn, toldAfter, replyIn}
+use Rattle.claims.specs.Lent.{quartered, placeAt, placeIn, lacking, putIn, heardAt, noRoom, addOne, keysOne, raised, addTwo, keysTwo, addIn, keysAdding, hearIn, keysHearing, answerIn, toldAfter, replyIn}
 use Rattle.claims.proofs.Tests.{and-left, and-right}
-use Rattle.claims.proofs.Lending.{halved-lt}
+use Rattle.claims.proofs.Quartering.{quartered-lt}
 
 pub lacking-le : (p : Place) → lacking p ≤ 1
 lacking-le p = go (p .held)
@@ -38,11 +38,11 @@ unfolding placeIn
 placeIn-le keys count key = go (ltb 0 count && leb count (length keys)) refl
   where
     go : (t : Bool) → (ltb 0 count && leb count (length keys)) ≡ t
-        → (cond t (placeAt (halved count keys key 0 count) (getD keys (halved count keys key 0 count) 0) key) (record { at = 0; held = false })) .at ≤ count
+        → (cond t (placeAt (quartered count keys key 0 count) (getD keys (quartered count keys key 0 count) 0) key) (record { at = 0; held = false })) .at ≤ count
     go true e =
         let some : 0 < count = ltb-true 0 count (and-left (ltb 0 count) (leb count (length keys)) e) in
-        let l : halved count keys key 0 count < 0 + count = halved-lt count keys key 0 count some in
-        placeAt-le (halved count keys key 0 count) (getD keys (halved count keys key 0 count) 0) key count (omega arith)
+        let l : quartered count keys key 0 count < 0 + count = quartered-lt count keys key 0 count some in
+        placeAt-le (quartered count keys key 0 count) (getD keys (quartered count keys key 0 count) 0) key count (omega arith)
     go false e = omega arith
 
 -- where there is room, a missing key's place is below the limit

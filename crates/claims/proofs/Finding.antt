@@ -1,11 +1,11 @@
--- What halving finds among rising keys (specs/Lent, `halved`, `placeIn`): the last key that is at most the one looked for, and from it the position of
--- that one and whether it is held. The idea: every key past what is left is greater, and the first one left is not, unless it is the first of all.
--- Assumes nothing.
+-- What quartering and halving find among rising keys (specs/Lent, `quartered`, `halved`, `placeIn`): the last key that is at most the one looked for,
+-- and from it the position of that one and whether it is held. The idea: every key past what is left is greater, and the first one left is not, unless
+-- it is the first of all. Assumes nothing.
 use mathlib.Core.Path.{_≡_, refl, sym, _∙_, ap}
 use mathlib.Core.Bool.{Bool, true, false, cond, _&&_}
 use mathlib.Core.Logic.{_⊎_, inl, inr, ⊎-elim}
 use mathlib.Core.List.{List, [], _∷_, _++_}
-use Prim.Native.Nat.{ℕ, zero, suc, _+_, _-_, _/_, _≤_, _<_}
+use Prim.Native.Nat.{ℕ, zero, suc, _+_, _-_, _*_, _/_, _≤_, _<_}
 use native.Mathlib.Numerals.{add-one}
 use native.Mathlib.Omega.{arith}
 use borrow.Author.Tests.{lt-ltb, le-ltb, le-leb, ne-eqb, leb-true, leb-false}
@@ -13,17 +13,23 @@ use lib.Dec.{ltb, leb, eqb}
 use lib.ListN.{length, getD, length-append, List·getD-append}
 use Rattle.claims.specs.declared.lent.Place.{Place}
 use Rattle.claims.specs.Store.{position, holds}
-use Rattle.claims.specs.Lent.{halved, placeAt, placeIn}
+use Rattle.claims.specs.Lent.{halved, quarterOf, quartered, placeAt, placeIn}
 use Rattle.claims.proofs.Tests.{lt-or-le}
 use Rattle.claims.proofs.Rising.{Rising, rising-getD, rising-getD-le}
 use Rattle.claims.proofs.Position.{position-is, holds-position}
 use Rattle.claims.proofs.Halving.{halved-one}
+use Rattle.claims.proofs.Quartering.{keptFrom, kept-end, quartered-few, quartered-many}
 
 -- b is where the last key that is at most `key` stands, or 0 where there is none
 pub record Found (l : List ℕ) (key b : ℕ) : Type 0 where
   pub inside : b < length l
   pub past : (j : ℕ) → b < j → j < length l → key < getD l j 0
   pub at-most : (b ≡ 0) ⊎ (getD l b 0 ≤ key)
+
+-- of four quarters, the one kept begins with a key that is at most `key`, unless it is the first, and the next with a greater one, unless it is the last
+record Kept (l : List ℕ) (key base width up : ℕ) : Type 0 where
+  from : (up ≡ 0) ⊎ (getD l (base + width * up) 0 ≤ key)
+  to : (up ≡ 3) ⊎ (key < getD l (base + width * up + width) 0)
 
 module _ (l : List ℕ) (key : ℕ) (rise : Rising l) where
   pub halved-found : (n base size : ℕ) → size ≤ n → 0 < size → base + size ≤ length l
@@ -55,9 +61,62 @@ module _ (l : List ℕ) (key : ℕ) (rise : Rising l) where
           omega arith)
           low
 
-  -- all of the keys, halved
-  pub halved-all : 0 < length l → Found l key (halved (length l) l key 0 (length l))
-  halved-all h = halved-found (length l) 0 (length l) (omega arith) h (omega arith) (λ j p q. absurd (omega arith)) (inl refl)
+  -- of rising keys, those that are at most `key` come first
+  kept-rising : (base width : ℕ) → base + width + width + width < length l → Kept l key base width (quarterOf l key base width)
+  kept-rising base width fits = go (leb (getD l (base + width) 0) key) refl (leb (getD l (base + width + width) 0) key) refl (leb (getD l (base + width + width + width) 0) key) refl
+    where
+      third : getD l (base + width) 0 ≤ getD l (base + width + width) 0
+      third = rising-getD-le l rise (base + width) (base + width + width) (omega arith) (omega arith)
+
+      fourth : getD l (base + width + width) 0 ≤ getD l (base + width + width + width) 0
+      fourth = rising-getD-le l rise (base + width + width) (base + width + width + width) (omega arith) fits
+
+      go : (a : Bool) → leb (getD l (base + width) 0) key ≡ a → (b : Bool) → leb (getD l (base + width + width) 0) key ≡ b → (c : Bool) → leb (getD l (base + width + width + width) 0) key ≡ c
+          → Kept l key base width (cond a 1 0 + cond b 1 0 + cond c 1 0)
+      go false e false f false g =
+          let to : base + width * 0 + width ≡ base + width = omega arith in
+          record { from = inl refl; to = inr (rw to (leb-false (getD l (base + width) 0) key e)) }
+      go true e false f false g =
+          let from : base + width * 1 ≡ base + width = omega arith in
+          record { from = inr (rw from (leb-true (getD l (base + width) 0) key e)); to = inr (rw from (leb-false (getD l (base + width + width) 0) key f)) }
+      go true e true f false g =
+          let from : base + width * 2 ≡ base + width + width = omega arith in
+          record { from = inr (rw from (leb-true (getD l (base + width + width) 0) key f)); to = inr (rw from (leb-false (getD l (base + width + width + width) 0) key g)) }
+      go true e true f true g =
+          let from : base + width * 3 ≡ base + width + width + width = omega arith in
+          record { from = inr (rw from (leb-true (getD l (base + width + width + width) 0) key g)); to = inl refl }
+      go false e true f c g = absurd (omega (arith, third, leb-false (getD l (base + width) 0) key e, leb-true (getD l (base + width + width) 0) key f))
+      go a e false f true g = absurd (omega (arith, fourth, leb-false (getD l (base + width + width) 0) key f, leb-true (getD l (base + width + width + width) 0) key g))
+
+  pub quartered-found : (n base size : ℕ) → 0 < size → base + size ≤ length l
+      → ((j : ℕ) → base + size ≤ j → j < length l → key < getD l j 0)
+      → (base ≡ 0) ⊎ (getD l base 0 ≤ key)
+      → Found l key (quartered n l key base size)
+  quartered-found zero base size g f past low = halved-found size base size (omega arith) g f past low
+  quartered-found (suc n) base size g f past low = ⊎-elim {C = Found l key (quartered (suc n) l key base size)}
+      (λ (few : size < 4). rw (quartered-few l key (suc n) base size few) (halved-found size base size (omega arith) g f past low))
+      (λ (many : 4 ≤ size).
+      let kept : Kept l key base (size / 4) (quarterOf l key base (size / 4)) = kept-rising base (size / 4) (omega arith) in
+      rw (quartered-many l key n base size many)
+      (quartered-found n (keptFrom l key base size) (size - 3 * (size / 4)) (omega arith) (omega (arith, kept-end l key base size))
+      (later many (quarterOf l key base (size / 4)) (kept .to))
+      (sooner (quarterOf l key base (size / 4)) (kept .from))))
+      (lt-or-le size 4)
+    where
+      later : 4 ≤ size → (up : ℕ) → (up ≡ 3) ⊎ (key < getD l (base + size / 4 * up + size / 4) 0)
+          → (j : ℕ) → base + size / 4 * up + (size - 3 * (size / 4)) ≤ j → j < length l → key < getD l j 0
+      later many up (inl e) j p q = let w : size / 4 * up ≡ 3 * (size / 4) = rw e (omega arith) in past j (omega arith) q
+      later many up (inr h) j p q =
+          let r : getD l (base + size / 4 * up + size / 4) 0 ≤ getD l j 0 = rising-getD-le l rise (base + size / 4 * up + size / 4) j (omega arith) q in
+          omega arith
+
+      sooner : (up : ℕ) → (up ≡ 0) ⊎ (getD l (base + size / 4 * up) 0 ≤ key) → (base + size / 4 * up ≡ 0) ⊎ (getD l (base + size / 4 * up) 0 ≤ key)
+      sooner up (inl e) = let w : base + size / 4 * up ≡ base = rw e (omega arith) in rw w low
+      sooner up (inr h) = inr h
+
+  -- all of the keys, quartered
+  pub quartered-all : 0 < length l → Found l key (quartered (length l) l key 0 (length l))
+  quartered-all h = quartered-found (length l) 0 (length l) h (omega arith) (λ j p q. absurd (omega arith)) (inl refl)
 
   -- from the key found to the position: the place of the key
   module _ (b : ℕ) (found : Found l key b) where
@@ -116,6 +175,26 @@ halved-agree (suc n) a b key base size m h g f =
     go true again = again (base + size / 2) (omega arith)
     go false again = again base (omega arith)
 
+-- which quarter is kept depends only on the keys that the quarters begin with
+quarterOf-agree : (a b : List ℕ) (key base width m : ℕ) → base + width + width + width < m → ((i : ℕ) → i < m → getD a i 0 ≡ getD b i 0)
+    → quarterOf a key base width ≡ quarterOf b key base width
+quarterOf-agree a b key base width m h f =
+    rw (f (base + width) (omega arith), f (base + width + width) (omega arith), f (base + width + width + width) (omega arith))
+
+-- and so does quartering
+pub quartered-agree : (n : ℕ) (a b : List ℕ) (key base size m : ℕ) → 0 < size → base + size ≤ m → ((i : ℕ) → i < m → getD a i 0 ≡ getD b i 0)
+    → quartered n a key base size ≡ quartered n b key base size
+quartered-agree zero a b key base size m h g f = halved-agree size a b key base size m h g f
+quartered-agree (suc n) a b key base size m h g f = ⊎-elim {C = quartered (suc n) a key base size ≡ quartered (suc n) b key base size}
+    (λ (few : size < 4).
+    quartered-few a key (suc n) base size few ∙ halved-agree size a b key base size m h g f ∙ sym (quartered-few b key (suc n) base size few))
+    (λ (many : 4 ≤ size).
+    quartered-many a key n base size many
+    ∙ ap (λ (up : ℕ). quartered n a key (base + size / 4 * up) (size - 3 * (size / 4))) (quarterOf-agree a b key base (size / 4) m (omega arith) f)
+    ∙ quartered-agree n a b key (keptFrom b key base size) (size - 3 * (size / 4)) m (omega arith) (omega (arith, kept-end b key base size)) f
+    ∙ sym (quartered-many b key n base size many))
+    (lt-or-le size 4)
+
 -- the place of a key among rising keys at the front of a run: its position, and whether it is held
 pub placeIn-front : (l rest : List ℕ) (key : ℕ) → Rising l → placeIn (l ++ rest) (length l) key ≡ record { at = position key l; held = holds key l }
 unfolding placeIn
@@ -124,10 +203,10 @@ placeIn-front (k ∷ ks) rest key r =
     let l : List ℕ = k ∷ ks in
     let some : 0 < length l = omega arith in
     let long : length l ≤ length (l ++ rest) = omega (arith, length-append l rest) in
-    let found : Found l key (halved (length l) l key 0 (length l)) = halved-all l key r some in
-    let same-b : halved (length l) (l ++ rest) key 0 (length l) ≡ halved (length l) l key 0 (length l) =
-    halved-agree (length l) (l ++ rest) l key 0 (length l) (length l) some (omega arith) (λ i h. List·getD-append l rest 0 i h) in
-    let same-key : getD (l ++ rest) (halved (length l) l key 0 (length l)) 0 ≡ getD l (halved (length l) l key 0 (length l)) 0 =
-    List·getD-append l rest 0 (halved (length l) l key 0 (length l)) (found .inside) in
+    let found : Found l key (quartered (length l) l key 0 (length l)) = quartered-all l key r some in
+    let same-b : quartered (length l) (l ++ rest) key 0 (length l) ≡ quartered (length l) l key 0 (length l) =
+    quartered-agree (length l) (l ++ rest) l key 0 (length l) (length l) some (omega arith) (λ i h. List·getD-append l rest 0 i h) in
+    let same-key : getD (l ++ rest) (quartered (length l) l key 0 (length l)) 0 ≡ getD l (quartered (length l) l key 0 (length l)) 0 =
+    List·getD-append l rest 0 (quartered (length l) l key 0 (length l)) (found .inside) in
     rw (lt-ltb 0 (length l) some, le-leb (length l) (length (l ++ rest)) long, same-b, same-key)
-    (placeAt-found l key r (halved (length l) l key 0 (length l)) found)
+    (placeAt-found l key r (quartered (length l) l key 0 (length l)) found)

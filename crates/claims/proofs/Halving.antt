@@ -1,5 +1,5 @@
--- Halving, by which a key is found (specs/Lent, `halved`): a turn of the loop, and that the fuel is enough. What halving finds among rising keys is
--- in Finding. Assumes nothing.
+-- Halving, by which the last few keys are searched (specs/Lent, `halved`): a turn of the loop, that the fuel is enough, and that one of the keys is found.
+-- What halving finds among rising keys is in Finding. Assumes nothing.
 use mathlib.Core.Path.{_≡_, refl, sym, _∙_, ap}
 use mathlib.Core.Bool.{Bool, true, false, cond}
 use mathlib.Core.Logic.{_⊎_, ⊎-elim}
@@ -59,3 +59,14 @@ module _ (keys : List ℕ) (key : ℕ) where
   pub halved-down : (base size : ℕ) → 1 < size → key < getD keys (base + size / 2) 0
       → halved size keys key base size ≡ halved (size - size / 2) keys key base (size - size / 2)
   halved-down base size h g = halved-turn base size h ∙ rw (lt-leb (getD keys (base + size / 2) 0) key g)
+
+-- what halving finds is one of the keys
+pub halved-lt : (n : ℕ) (keys : List ℕ) (key base size : ℕ) → 0 < size → halved n keys key base size < base + size
+halved-lt zero keys key base size h = omega arith
+halved-lt (suc n) keys key base size h =
+    go (leb (getD keys (base + size / 2) 0) key) (λ b. halved-lt n keys key b (size - size / 2) (omega arith))
+  where
+    go : (t : Bool) → ((b : ℕ) → halved n keys key b (size - size / 2) < b + (size - size / 2))
+        → halved n keys key (cond t (base + size / 2) base) (size - size / 2) < base + size
+    go true f = omega (arith, f (base + size / 2))
+    go false f = omega (arith, f base)

@@ -1,9 +1,9 @@
 -- The calls on a lent run (src/lent.rt): one law for each way that the code goes, over the definitions of specs/Lent. What these mean where the run is
 -- a store in order is in LentLaws. Assumes nothing.
 use mathlib.Core.Path.{_≡_, refl, sym, _∙_, ap}
-use mathlib.Core.Bool.{Bool, true, false, cond, _&&_}
+use mathlib.Core.Bool.{true, false, _&&_}
 use mathlib.Core.List.{List}
-use Prim.Native.Nat.{ℕ, zero, suc, _+_, _-_, _/_, _≤_, _<_}
+use Prim.Native.Nat.{ℕ, _+_, _-_, _≤_, _<_}
 use native.Mathlib.Omega.{arith}
 use borrow.Author.Tests.{lt-ltb, le-ltb, le-leb, lt-leb, ltb-true, leb-true}
 use lib.Dec.{leb, ltb, eqb}
@@ -15,8 +15,9 @@ use Rattle.claims.specs.declared.lent.Place.{Place}
 use Rattle.claims.specs.Store.{limit, rising, allZero}
 use Rattle.claims.specs.Claim.{claimOf, noClaim}
 use Rattle.claims.specs.Reply.{decide}
-use Rattle.claims.specs.Lent.{orderedIn, halved, placeIn, putAt, putIn, within, Positions, makeIn, helpIn, answerIn}
+use Rattle.claims.specs.Lent.{orderedIn, quartered, placeIn, putAt, putIn, within, Positions, makeIn, helpIn, answerIn}
 use Rattle.claims.proofs.Tests.{and-left, and-right}
+use Rattle.claims.proofs.Quartering.{quartered-lt}
 
 -- `ordered_in`
 
@@ -43,17 +44,6 @@ module _ (keys : List ℕ) (count : ℕ) where
 
 -- `place_in`
 
--- what halving finds is one of the keys
-pub halved-lt : (n : ℕ) (keys : List ℕ) (key base size : ℕ) → 0 < size → halved n keys key base size < base + size
-halved-lt zero keys key base size h = omega arith
-halved-lt (suc n) keys key base size h =
-    go (leb (getD keys (base + size / 2) 0) key) (λ b. halved-lt n keys key b (size - size / 2) (omega arith))
-  where
-    go : (t : Bool) → ((b : ℕ) → halved n keys key b (size - size / 2) < b + (size - size / 2))
-        → halved n keys key (cond t (base + size / 2) base) (size - size / 2) < base + size
-    go true f = omega (arith, f (base + size / 2))
-    go false f = omega (arith, f base)
-
 abbrev pub nowhere : Place
 nowhere = record { at = 0; held = false }
 
@@ -66,9 +56,9 @@ module _ (keys : List ℕ) (count key : ℕ) where
   unfolding placeIn
   place-short f h = rw (lt-ltb 0 count (omega arith), lt-leb count (length keys) h)
 
-  module _ (some : count ≡ 0 → ⊥) (fits : count ≤ length keys) (at : ℕ) (found : at ≡ halved count keys key 0 count) where
+  module _ (some : count ≡ 0 → ⊥) (fits : count ≤ length keys) (at : ℕ) (found : at ≡ quartered count keys key 0 count) where
     pub place-lt : at < count
-    place-lt = omega (arith, halved-lt count keys key 0 count (omega arith))
+    place-lt = omega (arith, quartered-lt count keys key 0 count (omega arith))
 
     pub place-after : getD keys at 0 < key → record { at = at + 1; held = false } ≡ placeIn keys count key
     unfolding placeIn

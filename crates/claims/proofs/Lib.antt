@@ -12,7 +12,7 @@
 --   ReplyLaws     what a reply says; a match that is not false
 --   Cases         the twelve lettered cases
 -- The laws of the code. Not cited from outside, but for LentLaws.
---   Loops, Halving, Putting     one loop each
+--   Loops, Halving, Quartering, Putting     one loop each
 --   Judging, Lending, Adding, HalfSums     each way that the code of src/claim.rt and src/lent.rt goes
 --   LentLaws      what the calls on a lent run mean where the run is a store in order
 pub mod Tests
@@ -29,6 +29,7 @@ pub mod ReplyLaws
 pub mod Cases
 mod Loops
 mod Halving
+mod Quartering
 mod Putting
 mod Judging
 mod HalfSums

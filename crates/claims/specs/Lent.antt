@@ -2,7 +2,7 @@
 -- question 1 again at each step. They are given a run of keys and a count, and no store: question 1 is not theirs, and they are no rule of document 01.
 -- What they mean where the run is a store in order is said by laws (proofs/LentLaws), by the definitions of Store, Claim and Reply. Assumes nothing.
 use mathlib.Core.Path.{_≡_}
-use Prim.Native.Nat.{ℕ, zero, suc, _+_, _-_, _/_, _≤_, _<_}
+use Prim.Native.Nat.{ℕ, zero, suc, _+_, _-_, _*_, _/_, _≤_, _<_}
 use mathlib.Core.Bool.{Bool, true, false, cond, _&&_}
 use mathlib.Core.List.{List, [], _∷_, _++_}
 use lib.Dec.{ltb, leb, eqb}
@@ -28,7 +28,23 @@ halved zero keys key base size = base
 halved (suc n) keys key base size =
     halved n keys key (cond (leb (getD keys (base + size / 2) 0) key) (base + size / 2) base) (size - size / 2)
 
--- where a key stands, or would stand, from the key found by halving
+-- which of four quarters is kept, of `width` keys each from `base` on: as many of the last three as begin with a key that is at most `key`
+abbrev pub quarterOf : List ℕ → ℕ → ℕ → ℕ → ℕ
+quarterOf keys key base width =
+    cond (leb (getD keys (base + width) 0) key) 1 0
+    + cond (leb (getD keys (base + width + width) 0) key) 1 0
+    + cond (leb (getD keys (base + width + width + width) 0) key) 1 0
+
+-- Quartering: of the `size` keys from `base` on, the quarter in which the last key that is at most `key` stands; n times over, and halving where fewer
+-- than four are left. A quarter is kept with as many keys as the fourth one has, to which the remainder belongs.
+abbrev pub quartered : ℕ → List ℕ → ℕ → ℕ → ℕ → ℕ
+quartered zero keys key base size = halved size keys key base size
+quartered (suc n) keys key base size =
+    cond (ltb size 4)
+    (halved size keys key base size)
+    (quartered n keys key (base + size / 4 * quarterOf keys key base (size / 4)) (size - 3 * (size / 4)))
+
+-- where a key stands, or would stand, from the key found by quartering
 abbrev pub placeAt : ℕ → ℕ → ℕ → Place
 placeAt at found key = cond (ltb found key) (record { at = at + 1; held = false }) (record { at = at; held = eqb found key })
 
@@ -36,7 +52,7 @@ placeAt at found key = cond (ltb found key) (record { at = at + 1; held = false 
 unfoldable pub placeIn : List ℕ → ℕ → ℕ → Place
 placeIn keys count key =
     cond (ltb 0 count && leb count (length keys))
-    (placeAt (halved count keys key 0 count) (getD keys (halved count keys key 0 count) 0) key)
+    (placeAt (quartered count keys key 0 count) (getD keys (quartered count keys key 0 count) 0) key)
     (record { at = 0; held = false })
 
 -- the run with `key` put in at a place, and the keys from there to the count moved up by one

@@ -2,11 +2,11 @@
 use crate::store::Store;
 ghost use mathlib.Core.Path.{_≡_};
 ghost use mathlib.Core.Bool.{Bool, true, cond};
-ghost use Prim.Native.Nat.{_≤_, _<_, _*_, _^_};
+ghost use Prim.Native.Nat.{_≤_, _<_, _+_, _*_, _^_};
 ghost use lib.ListN.{length};
 ghost use Rattle.claims.specs.Store.{limit, rising, allZero};
 ghost use Rattle.claims.specs.Claim.{xorAll};
-ghost use Rattle.claims.specs.Lent.{halved, putAt};
+ghost use Rattle.claims.specs.Lent.{halved, quarterOf, quartered, putAt};
 
 // Whether the keys rise strictly.
 pub(crate) fn rises(keys: &[u64]) -> bool
@@ -70,12 +70,12 @@ fn times(half: usize, bit: usize) -> usize
     (half << bit) - half
 }
 
-// The last of the first `count` keys that is at most `key`, if they rise; the first one if none is.
-pub(crate) fn halve(keys: &[u64], count: usize, key: u64) -> usize
-    requires { ⌜ (0 < count) × (count ≤ length (now keys)) ⌝ }
-    ensures { λ r. ⌜ r ≡ halved count (now (keys .entry)) key 0 count ⌝ }
+// The last of the `count` keys from `first` on that is at most `key`, if they rise; the first one if none is.
+fn halve(keys: &[u64], first: usize, count: usize, key: u64) -> usize
+    requires { ⌜ (0 < count) × (first + count ≤ length (now keys)) ⌝ }
+    ensures { λ r. ⌜ r ≡ halved count (now (keys .entry)) key first count ⌝ }
 {
-    let mut base = 0;
+    let mut base = first;
     let mut size = count;
     while 1 < size {
         let half = size / 2;
@@ -85,6 +85,34 @@ pub(crate) fn halve(keys: &[u64], count: usize, key: u64) -> usize
         size -= half;
     }
     base
+}
+
+// Which of four quarters is kept, of `width` keys each from `base` on: as many of the last three as begin with a key that is at most `key`.
+fn quarter_of(keys: &[u64], base: usize, width: usize, key: u64) -> usize
+    requires { ⌜ base + width + width + width < length (now keys) ⌝ }
+    ensures { λ r. ⌜ (r ≡ quarterOf (now (keys .entry)) key base width) × (r ≤ 3) ⌝ }
+{
+    let second = base + width;
+    let third = second + width;
+    let fourth = third + width;
+    bit(keys[second] <= key) + bit(keys[third] <= key) + bit(keys[fourth] <= key)
+}
+
+// The last of the first `count` keys that is at most `key`, if they rise; the first one if none is. Four ways at a time: the three keys of a turn are
+// read without waiting for each other, so there are half as many turns that wait as by halving alone. The product stays one, since `up` is no bit.
+pub(crate) fn quarter(keys: &[u64], count: usize, key: u64) -> usize
+    requires { ⌜ (0 < count) × (count ≤ length (now keys)) ⌝ }
+    ensures { λ r. ⌜ r ≡ quartered count (now (keys .entry)) key 0 count ⌝ }
+{
+    let mut base = 0;
+    let mut size = count;
+    while 3 < size {
+        let width = size / 4;
+        let up = quarter_of(keys, base, width, key);
+        base += width * up;
+        size -= 3 * width;
+    }
+    halve(keys, base, size, key)
 }
 
 // Puts `key` in at a place: the keys from there to the count move up by one, the last one first.

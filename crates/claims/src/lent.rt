@@ -5,8 +5,8 @@ use crate::answer::Made;
 use crate::claim::Claim;
 use crate::claim::alike;
 use crate::leaf::blank;
-use crate::leaf::halve;
 use crate::leaf::put;
+use crate::leaf::quarter;
 use crate::leaf::rises;
 use crate::leaf::sum_of;
 use crate::store::Store;
@@ -63,7 +63,7 @@ pub fn place_in(keys: &[u64], count: usize, key: u64) -> Place
     if keys.len() < count {
         return Place { at: 0, held: false };
     }
-    let at = halve(keys, count, key);
+    let at = quarter(keys, count, key);
     let found = keys[at];
     if found < key {
         Place {

@@ -13,11 +13,11 @@ use Rattle.claims.proofs.leaf.halve.Statement.{statement}
 use Rattle.claims.proofs.leaf.halve.Tie as tie
 
 abbrev Inv-loop : tie.InvT-loop
-Inv-loop keys count key base₀ size₀ base size =
-    (0 < size) × (base + size ≤ count) × (halved count keys key 0 count ≡ halved size keys key base size)
+Inv-loop keys first count key base₀ size₀ base size =
+    (0 < size) × (base + size ≤ first + count) × (halved count keys key first count ≡ halved size keys key base size)
 
 abbrev μ-loop : tie.MeasureT-loop
-μ-loop keys count key base₀ size₀ base size = size
+μ-loop keys first count key base₀ size₀ base size = size
 
 -- a bit times half of what is left is where the half begins that is kept
 stepped : (t : Bool) (base half : ℕ) → base + half * cond t 1 0 ≡ cond t (base + half) base

@@ -7,10 +7,10 @@ use Rattle.claims.proofs.Lending.{place-none, place-short, place-lt, pl
 use Rattle.claims.proofs.lent.place_in.Statement.{statement}
 use Rattle.claims.proofs.lent.place_in.Tie as tie
 
-found-lt : (c : tie.After-halve) → c .halve .result < c .before .before .before .before .args .count
+found-lt : (c : tie.After-quarter) → c .quarter .result < c .before .before .before .before .args .count
 found-lt c =
     let s = c .before .before .before .before in
-    place-lt (now (s .args .keys)) (s .args .count) (s .args .key) (c .before .before .if1 .left) (c .before .if2 .left) (c .halve .result) (c .halve .ensures)
+    place-lt (now (s .args .keys)) (s .args .count) (s .args .key) (c .before .before .if1 .left) (c .before .if2 .left) (c .quarter .result) (c .quarter .ensures)
 
 returns : tie.Need-returns
 returns c = place-none (now (c .before .before .args .keys)) (c .before .before .args .count) (c .before .before .args .key) (c .if1 .taken)
@@ -18,8 +18,8 @@ returns c = place-none (now (c .before .before .args .keys)) (c .before .before 
 returns-2 : tie.Need-returns-2
 returns-2 c = place-short (now (c .before .before .before .args .keys)) (c .before .before .before .args .count) (c .before .before .before .args .key) (c .before .if1 .left) (c .if2 .taken)
 
-halve-requires : tie.Need-halve-requires
-halve-requires c κs = search needs
+quarter-requires : tie.Need-quarter-requires
+quarter-requires c κs = search needs
 
 mul-found : tie.Need-mul-found
 mul-found c =
@@ -39,12 +39,12 @@ add-t11 c =
 returns-3 : tie.Need-returns-3
 returns-3 c =
     let s = c .before .before .before .before .before .before in
-    place-after (now (s .args .keys)) (s .args .count) (s .args .key) (c .before .before .before .before .if1 .left) (c .before .before .before .if2 .left) (c .before .before .halve .result) (c .before .before .halve .ensures) (c .if3 .taken)
+    place-after (now (s .args .keys)) (s .args .count) (s .args .key) (c .before .before .before .before .if1 .left) (c .before .before .before .if2 .left) (c .before .before .quarter .result) (c .before .before .quarter .ensures) (c .if3 .taken)
 
 returns-4 : tie.Need-returns-4
 returns-4 c =
     let s = c .before .before .before .before .before .before in
-    place-at (now (s .args .keys)) (s .args .count) (s .args .key) (c .before .before .before .before .if1 .left) (c .before .before .before .if2 .left) (c .before .before .halve .result) (c .before .before .halve .ensures) (c .if3 .left)
+    place-at (now (s .args .keys)) (s .args .count) (s .args .key) (c .before .before .before .before .if1 .left) (c .before .before .before .if2 .left) (c .before .before .quarter .result) (c .before .before .quarter .ensures) (c .if3 .left)
 
 pub place-in-spec : {M : Type 1} → statement M
 place-in-spec =
@@ -52,7 +52,7 @@ place-in-spec =
     (tie.spec
     returns
     returns-2
-    halve-requires
+    quarter-requires
     mul-found
     shared-slice-read-found
     add-t11
