@@ -14,12 +14,14 @@ use Rattle.claims.specs.Store.{limit}
 use Rattle.claims.specs.Question.{Question, firstNo, settle}
 use Rattle.claims.proofs.QuestionLaws.{Numbered, firstNo-yes, firstNo-no, firstNo-append-zero, firstNo-append-no, settle-done, settle-refused}
 use Rattle.rule.specs.declared.node.Node.{Node}
+use Rattle.rule.specs.declared.answer.Rest.{Rest}
 use Rattle.rule.specs.declared.answer.Taken.{Taken}
 use Rattle.rule.specs.Node.{nodeInOrder, nodeKeys}
 use Rattle.rule.specs.Question.{question15}
 use Rattle.rule.specs.Table.{tableLimit}
 use Rattle.rule.specs.Call.{writtenOver}
 use Rattle.rule.proofs.NodeLaws.{nodeInOrder-ordered, ordered-nodeInOrder}
+use Rattle.nodes.specs.Lent.{nodeWith, takenWith}
 use Rattle.wire.specs.declared.answer.Framed.{Framed}
 use Rattle.wire.specs.declared.answer.Imaged.{Imaged}
 use Rattle.wire.specs.Run.{claim}
@@ -27,7 +29,7 @@ use Rattle.wire.specs.Frame.{frameLimit, headSize, frameCount, frameClaims, all
 use Rattle.wire.specs.Image.{imageLimit, keySection, claimSection, sectionLength, nodeBytes, Shaped, readImageQuestions, readImage}
 use Rattle.wire.specs.Lent.{writeImageIn, imageInLent}
 use Rattle.wire.proofs.Frames.{head-yes, sized-yes, take-fourOf, readFrame-number, readFrame-yes, readFrame-0}
-use Rattle.wire.proofs.Images.{readImage-number, readImage-yes, readImage-0, ordered-counts, length-nodeBytes, writeImageIn-0}
+use Rattle.wire.proofs.Images.{readImage-number, readImage-yes, readImage-0, ordered-counts, length-nodeBytes, ordered-countable, writeImageIn-0}
 use Rattle.wire.proofs.Runs.{length-readRun}
 use Rattle.host.specs.Taking.{questions6, takenInTurn, takenUntil}
 use Rattle.host.specs.Frames.{framesLimit}
@@ -68,9 +70,8 @@ module _ (n : Node) (shaped : Shaped n) (ordered : nodeInOrder n ≡ true) where
   pub writeImageIn-room : (out : List ℕ) → imageLimit ≤ length out
       → (record { number = 0; length = length (nodeBytes n) } ≡ writeImageIn n (length out)) × (writtenOver (nodeBytes n) out ≡ imageInLent n out)
   writeImageIn-room out h =
-      let (few, several) = ordered-counts n ordered in
       let l = length-image in
-      writeImageIn-0 n out few several (omega arith)
+      writeImageIn-0 n out (ordered-countable n out (shaped .keys) ordered) (omega arith)
 
 -- ---- taking a frame: the questions before 15
 
@@ -95,7 +96,7 @@ module _ (image frame : List ℕ) where
       (numbered-append (readFrameQuestions frame) (six image frame) frame-numbered
       (questions6-numbered (frameClaims frame) (nodeKeys (nodeIn image))))
 
-  pub takenFrom-image : {r : Taken} → r .number ≡ readImage image .number → (r .number ≡ 0 → ⊥) → TakenFrom image frame r
+  pub takenFrom-image : {keys : List ℕ} {r : Rest} → r .number ≡ readImage image .number → (r .number ≡ 0 → ⊥) → TakenFrom image frame keys r
   takenFrom-image e f =
       let q : readImage image .number ≡ firstNo (readImageQuestions image) = readImage-number image in
       record {
@@ -103,13 +104,14 @@ module _ (image frame : List ℕ) where
             e ∙ (q ∙ sym (firstNo-append-no (readImageQuestions image) (readFrameQuestions frame ++ six image frame) (λ z. f (e ∙ (q ∙ z)))));
         node = λ z. absurd (f z);
         ordered = λ z. absurd (f z);
+        long = λ z. absurd (f z);
       }
 
   module _ (read : readImage image .number ≡ 0) where
     past-image : firstNo (takingQuestions image frame) ≡ firstNo (readFrameQuestions frame ++ six image frame)
     past-image = firstNo-append-zero (readImageQuestions image) (readFrameQuestions frame ++ six image frame) (image-numbered image) (sym (readImage-number image) ∙ read)
 
-    pub takenFrom-frame : {r : Taken} → r .number ≡ readFrame frame .number → (r .number ≡ 0 → ⊥) → TakenFrom image frame r
+    pub takenFrom-frame : {keys : List ℕ} {r : Rest} → r .number ≡ readFrame frame .number → (r .number ≡ 0 → ⊥) → TakenFrom image frame keys r
     takenFrom-frame e f =
         let q : readFrame frame .number ≡ firstNo (readFrameQuestions frame) = readFrame-number frame in
         record {
@@ -117,26 +119,34 @@ module _ (image frame : List ℕ) where
               e ∙ (q ∙ (sym (firstNo-append-no (readFrameQuestions frame) (six image frame) (λ z. f (e ∙ (q ∙ z)))) ∙ sym past-image));
           node = λ z. absurd (f z);
           ordered = λ z. absurd (f z);
+          long = λ z. absurd (f z);
         }
 
-    pub takenFrom-turns : readFrame frame .number ≡ 0 → {r : Taken} → r ≡ takenUntil (nodeIn image) (frameClaims frame) → TakenFrom image frame r
-    takenFrom-turns framed e =
+    pub takenFrom-turns : readFrame frame .number ≡ 0 → (keys : List ℕ) (r : Rest) → takenWith keys r ≡ takenUntil (nodeIn image) (frameClaims frame) → length keys ≡ limit → TakenFrom image frame keys r
+    takenFrom-turns framed keys r e whole =
         let o = nodeInOrder-ordered (nodeIn image) (readImage-ordered image read) in
         let pass = readFrame-yes frame (sym (readFrame-number frame) ∙ framed) .1 in
         let past : firstNo (takingQuestions image frame) ≡ firstNo (six image frame) =
         past-image ∙ firstNo-append-zero (readFrameQuestions frame) (six image frame) frame-numbered (sym (readFrame-number frame) ∙ framed) in
         let number = takenUntil-number (nodeIn image) (frameClaims frame) o pass in
         let node = takenUntil-node (nodeIn image) (frameClaims frame) in
-        subst (TakenFrom image frame) (sym e)
-        (record {
-          number = number ∙ sym past;
-          node = node;
-          ordered = λ z. rw (node z) (ordered-nodeInOrder (nodeAfter image frame) (ordered-takenInTurn (nodeIn image) (frameClaims frame) o pass (sym number ∙ z)));
-        })
+        let numbered : r .number ≡ firstNo (six image frame) = ap (λ (t : Taken). t .number) e ∙ number in
+        let after : r .number ≡ 0 → nodeWith keys (r .held) (r .table) (r .count) ≡ nodeAfter image frame =
+        λ z. ap (λ (t : Taken). t .node) e ∙ node (sym (ap (λ (t : Taken). t .number) e) ∙ z) in
+        record {
+          number = numbered ∙ sym past;
+          node = after;
+          ordered = λ z. rw (after z) (ordered-nodeInOrder (nodeAfter image frame) (ordered-takenInTurn (nodeIn image) (frameClaims frame) o pass (sym numbered ∙ z)));
+          long = λ z. whole;
+        }
 
 -- ---- taking a frame: the call
 
-module _ (image frame out : List ℕ) {r : Taken} (from : TakenFrom image frame r) where
+module _ (image frame out : List ℕ) {keys : List ℕ} {r : Rest} (from : TakenFrom image frame keys r) where
+  -- the node once the frame is taken
+  abbrev pub node : Node
+  node = nodeWith keys (r .held) (r .table) (r .count)
+
   pub frameTaken-before : (r .number ≡ 0 → ⊥) → (minus (r .number) ≡ frameTaken image frame (length out)) × (out ≡ frameTakenOut image frame out)
   unfolding frameTaken frameTakenOut
   frameTaken-before f =
@@ -159,12 +169,13 @@ module _ (image frame out : List ℕ) {r : Taken} (from : TakenFrom image frame 
         (rw q, rw q)
 
     pub frameTaken-0 : imageLimit ≤ length out
-        → (pos (length (nodeBytes (r .node))) ≡ frameTaken image frame (length out)) × (writtenOver (nodeBytes (r .node)) out ≡ frameTakenOut image frame out)
+        → (pos (length (nodeBytes node)) ≡ frameTaken image frame (length out)) × (writtenOver (nodeBytes node) out ≡ frameTakenOut image frame out)
     unfolding frameTaken frameTakenOut
     frameTaken-0 h =
         let q : firstNo (takeFrameQuestions image frame (length out)) ≡ 0 =
         past-taking ∙ firstNo-yes (question15 (length out) imageLimit) [] (le-leb imageLimit (length out) h) in
-        (rw (q, from .node taken), rw (q, from .node taken))
+        let e : node ≡ nodeAfter image frame = from .node taken in
+        (rw (q, ← e), rw (q, ← e))
 
 -- ---- a beat
 

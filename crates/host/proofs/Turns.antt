@@ -5,6 +5,7 @@ use native.Mathlib.Omega.{arith}
 use native.Mathlib.Numerals.{add-one}
 use mathlib.Core.Bool.{Bool, true, false, cond, _&&_}
 use mathlib.Core.List.{List, [], _∷_, _++_}
+use mathlib.Core.Logic.{_⊎_, ⊎-elim}
 use mathlib.Core.Path.{_≡_, refl, ap, sym, _∙_, subst}
 use borrow.Author.Tests.{eqb-true, eqb-false, eq-eqb, ne-eqb}
 use lib.Dec.{eqb}
@@ -15,7 +16,9 @@ use Rattle.claims.specs.Claim.{noClaim}
 use Rattle.claims.specs.Call.{judged}
 use Rattle.claims.specs.Question.{firstNo, question6, claimQuestions}
 use Rattle.claims.specs.Reply.{ends, hear}
-use Rattle.claims.proofs.Tests.{and-left, and-right}
+use Rattle.claims.specs.Store.{limit}
+use Rattle.claims.proofs.Order.{length-keys-storeOf}
+use Rattle.claims.proofs.Tests.{and-left, and-right, eq-or-ne}
 use Rattle.claims.proofs.QuestionLaws.{Numbered, firstNo-yes, firstNo-no, firstNo-append-zero, claimQuestions-numbered, judged-firstNo}
 use Rattle.rule.specs.declared.node.Node.{Node}
 use Rattle.rule.specs.declared.answer.Taken.{Taken}
@@ -24,7 +27,7 @@ use Rattle.rule.specs.Table.{tableWith}
 use Rattle.rule.specs.Question.{nodeQuestion1}
 use Rattle.rule.specs.Call.{takeQuestions, taken}
 use Rattle.nodes.specs.Lent.{takenNext}
-use Rattle.rule.proofs.NodeLaws.{Ordered, nodeInOrder-ordered, ordered-nodeInOrder, nodeKeys-nodeOf}
+use Rattle.rule.proofs.NodeLaws.{Ordered, nodeInOrder-ordered, ordered-nodeInOrder, nodeKeys-nodeOf, store-nodeOf}
 use Rattle.rule.proofs.CallLaws.{takeQuestions-yes, taken-done, taken-refused, ordered-taken}
 use Rattle.nodes.proofs.TakeLaws.{takenNext-taken, ordered-takenNext}
 use Rattle.wire.specs.Frame.{allPass}
@@ -54,6 +57,16 @@ module _ (n : Node) (cs : List Claim) (i : ℕ) {r : Taken} (below : i < length 
       subst (λ (t : Taken). nodeInOrder (t .node) ≡ true) (sym next)
       (ordered-nodeInOrder (takenNext n (getD cs i noClaim) .node)
       (ordered-takenNext n (shaped .pending) (nodeInOrder-ordered n ordered) (getD cs i noClaim) (shaped .keys) (allPass-getD cs i pass below)))
+
+  -- the run of keys keeps its places
+  pub turn-long : length (r .node .store .keys) ≡ limit
+  turn-long =
+      let c = getD cs i noClaim in
+      ⊎-elim {C = length (r .node .store .keys) ≡ limit}
+      (λ (e : firstNo (takeQuestions n c) ≡ 0).
+      rw (turn-taken ∙ taken-done n c e, store-nodeOf (hear c (nodeKeys n)) (tableWith c (pendingOf n))) (length-keys-storeOf (hear c (nodeKeys n)) (takeQuestions-yes n c e .room)))
+      (λ (f : firstNo (takeQuestions n c) ≡ 0 → ⊥). rw (turn-taken ∙ taken-refused n c f) (shaped .keys))
+      (eq-or-ne (firstNo (takeQuestions n c)) 0)
 
 -- none is left
 pub takenUntil-end : (r : Taken) (cs : List Claim) (i : ℕ) → length cs ≤ i → r .number ≡ 0 → takenUntil (r .node) (drop i cs) ≡ r

@@ -1,43 +1,46 @@
 // What the kiosk daemon links: two calls on images and frames (document 01, "Host calls").
+mod load;
 mod reply;
 mod sent;
 mod turn;
 
+use crate::load::load;
 use crate::reply::refusal;
 use crate::reply::size;
 use crate::sent::FRAMES;
 use crate::sent::send;
 use crate::turn::take_in_turn;
-use rounds::Taken;
+use claims::Store;
+use rounds::Rest;
 use wire::Imaged;
 use wire::read_frame;
-use wire::read_image;
 use wire::write_image_in;
 ghost use mathlib.Core.Path.{_≡_};
 ghost use lib.ListN.{length};
+ghost use Rattle.claims.specs.Store.{limit, zeros};
 ghost use Rattle.host.specs.Call.{frameTaken, frameTakenOut, TakenFrom, imageBeaten, imageBeatenOut, imageBeatenFrames};
 
-// The node of an image with the claims of a frame taken, in turn. Asks 14, 1, 10 to 13, and 6 claim by claim.
-fn taken_from(image: &[u8], frame: &[u8]) -> Taken
-    ensures { λ r. ⌜ TakenFrom (now (image .entry)) (now (frame .entry)) r ⌝ }
+// The node of an image with the claims of a frame taken, in turn, its keys in a lent run of zeros. Asks 14, 1, 10 to 13, and 6 claim by claim.
+fn taken_from(image: &[u8], frame: &[u8], keys: &mut [u64; Store::LIMIT]) -> Rest
+    requires { ⌜ now keys ≡ zeros limit ⌝ }
+    ensures { λ r. ⌜ TakenFrom (now (image .entry)) (now (frame .entry)) (now (keys .exit)) r ⌝ }
 {
-    let read = read_image(image);
-    let node = read.node;
+    let read = load(image, keys);
     if read.number != 0 {
-        return Taken {
-            number: read.number,
-            node,
-        };
+        return read;
     }
     let framed = read_frame(frame);
+    let table = read.table;
     if framed.number != 0 {
-        return Taken {
+        return Rest {
             number: framed.number,
-            node,
+            held: read.held,
+            table,
+            count: read.count,
         };
     }
     let claims = framed.claims;
-    take_in_turn(node, claims, framed.count)
+    take_in_turn(keys, read.held, table, read.count, claims, framed.count)
 }
 
 // Takes an image and a frame, takes each claim in turn, writes the new image to the front of `out` and returns its length; or minus the number of the
@@ -46,14 +49,16 @@ fn taken_from(image: &[u8], frame: &[u8]) -> Taken
 pub extern "C" fn minutefrost_take_frame(image: &[u8], frame: &[u8], out: &mut [u8]) -> i64
     ensures { λ r. ⌜ (r ≡ frameTaken (now (image .entry)) (now (frame .entry)) (length (now (out .entry)))) × (now (out .exit) ≡ frameTakenOut (now (image .entry)) (now (frame .entry)) (now (out .entry))) ⌝ }
 {
-    let taken = taken_from(image, frame);
+    let mut keys = [0; Store::LIMIT];
+    let taken = taken_from(image, frame, &mut keys);
     if taken.number != 0 {
         return refusal(taken.number);
     }
     if out.len() < Imaged::LENGTH {
         return refusal(15);
     }
-    let written = write_image_in(taken.node, out);
+    let table = taken.table;
+    let written = write_image_in(&keys, taken.held, table, taken.count, out);
     size(written.length)
 }
 
@@ -63,7 +68,8 @@ pub extern "C" fn minutefrost_take_frame(image: &[u8], frame: &[u8], out: &mut [
 pub extern "C" fn minutefrost_beat(image: &[u8], out: &mut [u8], frames: &mut [u8]) -> i64
     ensures { λ r. ⌜ (r ≡ imageBeaten (now (image .entry)) (length (now (out .entry))) (length (now (frames .entry)))) × (now (out .exit) ≡ imageBeatenOut (now (image .entry)) (now (out .entry)) (length (now (frames .entry)))) × (now (frames .exit) ≡ imageBeatenFrames (now (image .entry)) (length (now (out .entry))) (now (frames .entry))) ⌝ }
 {
-    let read = read_image(image);
+    let mut keys = [0; Store::LIMIT];
+    let read = load(image, &mut keys);
     if read.number != 0 {
         return refusal(read.number);
     }
@@ -73,5 +79,6 @@ pub extern "C" fn minutefrost_beat(image: &[u8], out: &mut [u8], frames: &mut [u
     if frames.len() < FRAMES {
         return refusal(15);
     }
-    size(send(read.node, out, frames))
+    let table = read.table;
+    size(send(&keys, read.held, table, read.count, out, frames))
 }

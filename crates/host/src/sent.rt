@@ -9,7 +9,9 @@ ghost use mathlib.Core.Path.{_≡_};
 ghost use mathlib.Core.Bool.{true};
 ghost use Prim.Native.Nat.{_+_, _*_, _≤_, _<_, min};
 ghost use lib.ListN.{length, take, drop};
+ghost use Rattle.claims.specs.Store.{limit};
 ghost use Rattle.rule.specs.Node.{nodeInOrder};
+ghost use Rattle.nodes.specs.Lent.{nodeWith};
 ghost use Rattle.rule.specs.Call.{writtenOver};
 ghost use Rattle.wire.specs.Frame.{frameLimit, frameLength, frameBytes, countable, allPass, fourOf};
 ghost use Rattle.wire.specs.Image.{imageLimit, nodeBytes};
@@ -91,13 +93,21 @@ fn write_frames(words: &[u64], count: usize, frames: &mut [u8]) -> usize
     at
 }
 
-// Runs a beat of a node, and writes the image of the node afterwards and the frames of the claims that it sends, whose length it returns.
-pub(crate) fn send(node: Node, out: &mut [u8], frames: &mut [u8]) -> usize
-    requires { ⌜ (nodeInOrder node ≡ true) × (imageLimit ≤ length (now out)) × (framesLimit ≤ length (now frames)) ⌝ }
-    ensures { λ r. ⌜ (r ≡ length (framesSent node)) × (r ≤ framesLimit) × (now (out .exit) ≡ writtenOver (nodeBytes (nodeServed node)) (now (out .entry))) × (now (frames .exit) ≡ writtenOver (framesSent node) (now (frames .entry))) ⌝ }
+// Runs a beat of a node whose keys are lent, and writes the image of the node afterwards and the frames of the claims that it sends, whose length it returns.
+pub(crate) fn send(
+    keys: &[u64],
+    held: usize,
+    table: [Claim; Node::TABLE],
+    count: usize,
+    out: &mut [u8],
+    frames: &mut [u8],
+) -> usize
+    requires { ⌜ (length (now keys) ≡ limit) × (nodeInOrder (nodeWith (now keys) held table count) ≡ true) × (imageLimit ≤ length (now out)) × (framesLimit ≤ length (now frames)) ⌝ }
+    ensures { λ r. ⌜ (r ≡ length (framesSent (nodeWith (now (keys .entry)) held table count))) × (r ≤ framesLimit) × (now (out .exit) ≡ writtenOver (nodeBytes (nodeServed (nodeWith (now (keys .entry)) held table count))) (now (out .entry))) × (now (frames .exit) ≡ writtenOver (framesSent (nodeWith (now (keys .entry)) held table count)) (now (frames .entry))) ⌝ }
 {
     let mut words = [0; WORDS * Node::BEAT];
-    let beaten = beat_in(node, &mut words);
-    write_image_in(beaten.node, out);
-    write_frames(&words, beaten.written, frames)
+    let kept = beat_in(keys, held, table, count, &mut words);
+    let places = kept.table;
+    write_image_in(keys, held, places, kept.count, out);
+    write_frames(&words, kept.written, frames)
 }

@@ -16,7 +16,7 @@ use Rattle.nodes.specs.declared.beats.Kept.{Kept}
 use Rattle.rule.specs.Table.{tableLimit, beatLimit}
 use Rattle.rule.specs.Node.{pendingOf, nodeInOrder}
 use Rattle.rule.specs.Call.{writtenOver, claimWords, beaten, beatenLent}
-use Rattle.nodes.specs.Serving.{keptWith, wholeIn, wroteAt, servedBy, sentBy, beatenIn, beatenInLent}
+use Rattle.nodes.specs.Serving.{keptWith, wholeIn, wroteAt, servedBy, sentBy, beatenWith, beatenIn, beatenInLent}
 use Rattle.rule.proofs.NodeLaws.{nodeInOrder-ordered}
 use Rattle.nodes.proofs.Writing.{wroteAt-append, wroteAt-writtenOver}
 use Rattle.nodes.proofs.Serve.{length-sentIn}
@@ -34,15 +34,15 @@ length-wholeIn keys count = go (eqb count 0)
     go false = omega arith
 
 module _ (n : Node) (lent : List ℕ) where
-  -- what it returns, and the words then
-  abbrev pub BeatIn : Beaten → List ℕ → Type 0
-  BeatIn r after = (r ≡ beatenIn n lent) × (after ≡ beatenInLent n lent)
+  -- what it returns, beside the keys that it was lent, and the words then
+  abbrev pub BeatIn : Kept → List ℕ → Type 0
+  BeatIn r after = (beatenWith (n .store .keys) (n .store .count) r ≡ beatenIn n lent) × (after ≡ beatenInLent n lent)
 
-  pub beatIn-many : tableLimit < n .count → BeatIn (record { number = 1; node = n; written = 0 }) lent
+  pub beatIn-many : tableLimit < n .count → BeatIn (record { number = 1; table = n .pending; count = n .count; written = 0 }) lent
   unfolding beatenIn beatenInLent
   beatIn-many h = rw (lt-leb (n .count) tableLimit h) (refl, refl)
 
-  pub beatIn-short : n .count ≤ tableLimit → length lent / 4 < beatLimit → BeatIn (record { number = 15; node = n; written = 0 }) lent
+  pub beatIn-short : n .count ≤ tableLimit → length lent / 4 < beatLimit → BeatIn (record { number = 15; table = n .pending; count = n .count; written = 0 }) lent
   unfolding beatenIn beatenInLent
   beatIn-short h g = rw (le-leb (n .count) tableLimit h, lt-leb beatLimit (length lent / 4) g) (refl, refl)
 
@@ -69,12 +69,12 @@ module _ (n : Node) (lent : List ℕ) where
           let next : at ≡ 0 + length whole = omega arith in
           rw (after-is, whole-half, next) (sym (wroteAt-append 0 whole (servedBy n .sent) lent)) ∙ wroteAt-writtenOver (sentBy n) lent fits
 
-      pub beatIn-done : BeatIn (record { number = 0; node = record { store = n .store; pending = kept .table; count = kept .count }; written = kept .written }) after
+      pub beatIn-done : BeatIn kept after
       unfolding beatenIn beatenInLent keptWith
       beatIn-done =
           let w : kept .written ≡ length (sentBy n) = ap (λ (k : Kept). k .written) kept-is ∙ (ap (λ (m : ℕ). m + length (servedBy n .sent)) whole-at ∙ sym (length-append (wholeIn (n .store .keys) (n .store .count)) (servedBy n .sent))) in
           rw (le-leb (n .count) tableLimit h, le-leb beatLimit (length lent / 4) g)
-          (λ i. record { number = 0; node = record { store = n .store; pending = kept-is i .table; count = kept-is i .count }; written = w i }, words)
+          (λ i. record { number = kept-is i .number; node = record { store = n .store; pending = kept-is i .table; count = kept-is i .count }; written = w i }, words)
 
 -- ---- `beat`
 
@@ -87,7 +87,7 @@ module _ (n : Node) (lent : List ℕ) where
   unfolding beaten beatenLent
   beat-1 e = rw e (refl, refl)
 
-  pub beat-ordered : length (n .store .keys) ≡ limit → nodeInOrder n ≡ true → (r : Beaten) (after : List ℕ) → BeatIn n lent r after → Beat r after
-  beat-ordered long e r after (p, q) =
+  pub beat-ordered : length (n .store .keys) ≡ limit → nodeInOrder n ≡ true → (k : Kept) (after : List ℕ) → BeatIn n lent k after → Beat (beatenWith (n .store .keys) (n .store .count) k) after
+  beat-ordered long e k after (p, q) =
       let o = nodeInOrder-ordered n e in
       (p ∙ beatenIn-beaten n lent long o, q ∙ beatenInLent-beatenLent n lent long o)

@@ -24,7 +24,7 @@ use Rattle.claims.proofs.Order.{inOrder-rising, length-keysOf, storeOf-keysOf}
 use Rattle.claims.proofs.LentLaws.{orderedIn-inOrder, placeIn-store}
 use Rattle.rule.specs.Table.{tableLimit, before, climbsFrom, climbs}
 use Rattle.rule.specs.Node.{holdsAll, allFit, allUnused, nodeInOrder}
-use Rattle.nodes.specs.Lent.{nodeFrom}
+use Rattle.nodes.specs.Lent.{nodeWith}
 use Rattle.rule.proofs.TableLaws.{before-total}
 
 -- ---- two claims compared
@@ -180,16 +180,16 @@ unused-all table count i left h = rw (left, drop-of-length-le table)
 -- ---- the node
 
 module _ (keys : List ℕ) (held : ℕ) (table : List Claim) (count : ℕ) (long : length keys ≡ limit) where
-  pub ordered-store : orderedIn keys held ≡ false → false ≡ nodeInOrder (nodeFrom keys held table count)
+  pub ordered-store : orderedIn keys held ≡ false → false ≡ nodeInOrder (nodeWith keys held table count)
   unfolding nodeInOrder
   ordered-store e = rw (← orderedIn-inOrder (record { keys = keys; count = held }) long, e)
 
   module _ (yes : orderedIn keys held ≡ true) where
-    pub ordered-count : tableLimit < count → false ≡ nodeInOrder (nodeFrom keys held table count)
+    pub ordered-count : tableLimit < count → false ≡ nodeInOrder (nodeWith keys held table count)
     unfolding nodeInOrder
     ordered-count h = rw (← orderedIn-inOrder (record { keys = keys; count = held }) long, yes, lt-leb count tableLimit h)
 
-    pub ordered-pending : count ≤ tableLimit → pending (take count table) (take held keys) ≡ false → false ≡ nodeInOrder (nodeFrom keys held table count)
+    pub ordered-pending : count ≤ tableLimit → pending (take count table) (take held keys) ≡ false → false ≡ nodeInOrder (nodeWith keys held table count)
     unfolding nodeInOrder
     ordered-pending h e =
         rw (
@@ -201,7 +201,7 @@ module _ (keys : List ℕ) (held : ℕ) (table : List Claim) (count : ℕ) (long
         )
 
     pub ordered-unused : count ≤ tableLimit → pending (take count table) (take held keys) ≡ true
-        → allUnused (drop count table) ≡ nodeInOrder (nodeFrom keys held table count)
+        → allUnused (drop count table) ≡ nodeInOrder (nodeWith keys held table count)
     unfolding nodeInOrder
     ordered-unused h e =
         rw (

@@ -125,7 +125,7 @@ module _ (keys : List ℕ) (count : ℕ) (t : List Claim) (at : ℕ) (lent₀ : 
 
   -- the end
   pub left-none : length t ≤ tableLimit → (i next : ℕ) (lent : List ℕ) (n : ℕ) (kept : List Claim) → Left i next lent n kept → length t ≤ i
-      → (record { table = kept; count = n; written = next } ≡ keptWith at (serveIn keys count t)) × (lent ≡ wroteAt at (serveIn keys count t .sent) lent₀)
+      → (record { number = 0; table = kept; count = n; written = next } ≡ keptWith at (serveIn keys count t)) × (lent ≡ wroteAt at (serveIn keys count t .sent) lent₀)
   unfolding keptWith
   left-none short i next lent n kept left h =
       let none : drop i t ≡ [] = drop-of-length-le t h in
@@ -133,4 +133,4 @@ module _ (keys : List ℕ) (count : ℕ) (t : List Claim) (at : ℕ) (lent₀ : 
       = (rw none at (left .table)) ∙ sets-blanks (serveIn keys count t .kept) (omega (arith, length-keptIn keys count t)) in
       let count-is : n ≡ length (serveIn keys count t .kept) = omega (arith, rw none at (left .stayed)) in
       let written-is : next ≡ at + length (serveIn keys count t .sent) = omega (arith, rw none at (left .written)) in
-      (λ j. record { table = table j; count = count-is j; written = written-is j }, rw none at (left .words))
+      (λ j. record { number = 0; table = table j; count = count-is j; written = written-is j }, rw none at (left .words))

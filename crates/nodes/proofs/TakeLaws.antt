@@ -31,7 +31,7 @@ use Rattle.rule.specs.Table.{tableLimit, before, insertClaim, tableWith}
 use Rattle.rule.specs.Node.{blanks, pendingOf, nodeKeys, nodeOf, nodeInOrder}
 use Rattle.rule.specs.Question.{nodeQuestion1}
 use Rattle.rule.specs.Call.{writtenOver, takeQuestions, taken}
-use Rattle.nodes.specs.Lent.{nodeFrom, placeAmong, isAt, placedAt, placedIn, tableIn, Enlisted, takenAfter, takenNext}
+use Rattle.nodes.specs.Lent.{nodeWith, placeAmong, isAt, placedAt, placedIn, tableIn, Enlisted, takenAfter, takenNext}
 use Rattle.rule.proofs.NodeLaws.{Ordered, ordered-nodeInOrder, blanks-allUnused}
 use Rattle.rule.proofs.CallLaws.{takeQuestions-yes, taken-done, taken-refused, ordered-taken, length-pendingOf}
 use Rattle.nodes.proofs.Placing.{tableIn-tableWith}
@@ -122,25 +122,25 @@ module _ (keys : List ℕ) (held : ℕ) where
 
 module _ (n : Node) (c : Claim) (h : Heard) (after : List ℕ) (heard : h ≡ hearIn (n .store .keys) (n .store .count) c)
     (put : after ≡ keysHearing (n .store .keys) (n .store .count) c) where
-  pub takenNext-refused : (h .number ≡ 0 → ⊥) → record { number = h .number; node = nodeFrom after (n .store .count) (n .pending) (n .count) } ≡ takenNext n c
+  pub takenNext-refused : (h .number ≡ 0 → ⊥) → record { number = h .number; node = nodeWith after (n .store .count) (n .pending) (n .count) } ≡ takenNext n c
   unfolding takenNext
   takenNext-refused f =
       let kept : after ≡ n .store .keys = put ∙ keysHearing-refused (n .store .keys) (n .store .count) c (λ e. f (ap (λ (x : Heard). x .number) heard ∙ e)) in
-      (λ i. record { number = h .number; node = nodeFrom (kept i) (n .store .count) (n .pending) (n .count) })
+      (λ i. record { number = h .number; node = nodeWith (kept i) (n .store .count) (n .pending) (n .count) })
       ∙ (sym (takenAfter-refused h f) ∙ ap₂ (λ (x : Heard) (keys : List ℕ). takenAfter x keys n c) heard put)
     where
       takenAfter-refused : (x : Heard) → (x .number ≡ 0 → ⊥) → takenAfter x after n c ≡ record { number = x .number; node = n }
       takenAfter-refused x g = rw (ne-eqb (x .number) 0 g)
 
   pub takenNext-done : h .number ≡ 0 → (new : List Claim) (m : ℕ) → Enlisted (n .pending) (tableIn c (pendingOf n)) new m
-      → record { number = 0; node = nodeFrom after (h .count) new m } ≡ takenNext n c
+      → record { number = 0; node = nodeWith after (h .count) new m } ≡ takenNext n c
   unfolding takenNext
   takenNext-done e new m listed =
-      (λ i. record { number = 0; node = nodeFrom after (h .count) (listed .places i) (listed .many i) })
+      (λ i. record { number = 0; node = nodeWith after (h .count) (listed .places i) (listed .many i) })
       ∙ (sym (takenAfter-done h e) ∙ ap₂ (λ (x : Heard) (keys : List ℕ). takenAfter x keys n c) heard put)
     where
       takenAfter-done : (x : Heard) → x .number ≡ 0
-          → takenAfter x after n c ≡ record { number = 0; node = nodeFrom after (x .count) (writtenOver (tableIn c (pendingOf n)) (n .pending)) (length (tableIn c (pendingOf n))) }
+          → takenAfter x after n c ≡ record { number = 0; node = nodeWith after (x .count) (writtenOver (tableIn c (pendingOf n)) (n .pending)) (length (tableIn c (pendingOf n))) }
       takenAfter-done x z = rw (eq-eqb (x .number) 0 z)
 
 -- ---- the refusals of `take`
@@ -235,8 +235,8 @@ module _ (n : Node) (whole : length (n .pending) ≡ tableLimit) (o : Ordered n)
         let yes : firstNo (takeQuestions n c) ≡ 0 =
         only-6 ∙ firstNo-yes (question6 (ends c) l) [] (lt-ltb (length (insertAll (ends c) l)) (limit + 1) (omega arith)) in
         ap₂ (λ (x : Heard) (keys : List ℕ). takenAfter x keys n c) h k
-        ∙ (ap (λ (u : List Claim). record { number = 0; node = nodeFrom (storeOf (hear c l) .keys) (length (hear c l)) (writtenOver u (n .pending)) (length u) }) table-is
-        ∙ ((λ i. record { number = 0; node = nodeFrom (storeOf (hear c l) .keys) (sym (count-storeOf (hear c l)) i) (places-are i) (length t) })
+        ∙ (ap (λ (u : List Claim). record { number = 0; node = nodeWith (storeOf (hear c l) .keys) (length (hear c l)) (writtenOver u (n .pending)) (length u) }) table-is
+        ∙ ((λ i. record { number = 0; node = nodeWith (storeOf (hear c l) .keys) (sym (count-storeOf (hear c l)) i) (places-are i) (length t) })
         ∙ sym (taken-done n c yes)))
 
     takenNext-full : limit < length (hear c (nodeKeys n)) → takenNext n c ≡ taken n c

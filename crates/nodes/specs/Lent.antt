@@ -10,16 +10,22 @@ use lib.ListN.{length, take, drop, getD}
 use Rattle.claims.specs.declared.claim.Claim.{Claim}
 use Rattle.claims.specs.declared.lent.Heard.{Heard}
 use Rattle.claims.specs.Claim.{noClaim}
+use Rattle.claims.specs.Store.{limit}
 use Rattle.claims.specs.Lent.{hearIn, keysHearing}
 use Rattle.rule.specs.declared.node.Node.{Node}
+use Rattle.rule.specs.declared.answer.Rest.{Rest}
 use Rattle.rule.specs.declared.answer.Taken.{Taken}
 use Rattle.rule.specs.Table.{tableLimit, before}
-use Rattle.rule.specs.Node.{pendingOf}
+use Rattle.rule.specs.Node.{pendingOf, nodeInOrder}
 use Rattle.rule.specs.Call.{writtenOver}
 
 -- the node of these parts: a run of keys and how many are held, a table and how many are pending
-abbrev pub nodeFrom : List ℕ → ℕ → List Claim → ℕ → Node
-nodeFrom keys held table count = record { store = record { keys = keys; count = held }; pending = table; count = count }
+abbrev pub nodeWith : List ℕ → ℕ → List Claim → ℕ → Node
+nodeWith keys held table count = record { store = record { keys = keys; count = held }; pending = table; count = count }
+
+-- `ordered_lent`: is the run of keys a store's, and the node of these parts in order?
+abbrev pub lentInOrder : List ℕ → ℕ → List Claim → ℕ → Bool
+lentInOrder keys held table count = eqb (length keys) limit && nodeInOrder (nodeWith keys held table count)
 
 -- Halving: of the `size` claims from `base` on, the half in which the first one stands that does not come before c; n times over.
 abbrev pub halvedTo : ℕ → List Claim → Claim → ℕ → ℕ → ℕ
@@ -58,8 +64,12 @@ pub record Enlisted (table t new : List Claim) (count : ℕ) : Type 0 where
 abbrev pub takenAfter : Heard → List ℕ → Node → Claim → Taken
 takenAfter h keys n c =
     cond (eqb (h .number) 0)
-    (record { number = 0; node = nodeFrom keys (h .count) (writtenOver (tableIn c (pendingOf n)) (n .pending)) (length (tableIn c (pendingOf n))) })
+    (record { number = 0; node = nodeWith keys (h .count) (writtenOver (tableIn c (pendingOf n)) (n .pending)) (length (tableIn c (pendingOf n))) })
     (record { number = h .number; node = n })
+
+-- what is taken, of a run of keys and the rest of the node
+abbrev pub takenWith : List ℕ → Rest → Taken
+takenWith keys r = record { number = r .number; node = nodeWith keys (r .held) (r .table) (r .count) }
 
 -- `take_next`: a claim is heard and put into the table; where there is no room for its ends, refused with 6
 unfoldable pub takenNext : Node → Claim → Taken

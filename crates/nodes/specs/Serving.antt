@@ -19,6 +19,7 @@ use Rattle.rule.specs.Table.{tableLimit, beatLimit, Served, remains}
 use Rattle.rule.specs.Node.{blanks, pendingOf}
 use Rattle.rule.specs.Question.{question15}
 use Rattle.rule.specs.Call.{claimWords, writtenOver}
+use Rattle.nodes.specs.Lent.{nodeWith}
 
 -- the answer to a claim by a run of keys in which its lo and hi are sought; none is added
 unfoldable pub answerTo : List ℕ → ℕ → Claim → Answer
@@ -34,7 +35,7 @@ serveIn keys count (c ∷ cs) = record {
 
 -- what is kept of a served table, then zeros; how many claims that is; and the place after those sent, if they are written from the place `at` on
 unfoldable pub keptWith : ℕ → Served → Kept
-keptWith at s = record { table = s .kept ++ blanks (tableLimit - length (s .kept)); count = length (s .kept); written = at + length (s .sent) }
+keptWith at s = record { number = 0; table = s .kept ++ blanks (tableLimit - length (s .kept)); count = length (s .kept); written = at + length (s .sent) }
 
 -- the whole claim of a run of keys, none where the count is 0
 unfoldable pub wholeIn : List ℕ → ℕ → List Claim
@@ -54,6 +55,10 @@ servedBy n = serveIn (n .store .keys) (n .store .count) (pendingOf n)
 
 abbrev pub sentBy : Node → List Claim
 sentBy n = sendingIn (n .store .keys) (n .store .count) (pendingOf n)
+
+-- what a beat returns, of a run of keys and what is kept
+abbrev pub beatenWith : List ℕ → ℕ → Kept → Beaten
+beatenWith keys held k = record { number = k .number; node = nodeWith keys held (k .table) (k .count); written = k .written }
 
 -- `beat_in` asks whether the count of pending claims is that of a table, which is a part of question 1, and 15.
 abbrev pub beatInQuestions : Node → List ℕ → List Question

@@ -14,7 +14,8 @@ ghost use lib.ListN.{length, take};
 ghost use Rattle.claims.specs.Reply.{claimsOf};
 ghost use Rattle.rule.specs.Table.{tableLimit, remains};
 ghost use Rattle.rule.specs.Call.{beaten, beatenLent};
-ghost use Rattle.nodes.specs.Serving.{answerTo, serveIn, wholeIn, wroteAt, keptWith, beatenIn, beatenInLent};
+ghost use Rattle.nodes.specs.Lent.{nodeWith};
+ghost use Rattle.nodes.specs.Serving.{answerTo, serveIn, wholeIn, wroteAt, keptWith, beatenWith, beatenIn, beatenInLent};
 
 // The words of a claim in a lent run: lo, hi, sum, cnt.
 const WORDS: usize = 4;
@@ -77,11 +78,13 @@ fn stays(answer: Answer) -> bool
     }
 }
 
-// A table once it is served: the claims that stay, then zeros; how many stay; the place after what was written.
-struct Kept {
-    table: [Claim; Node::TABLE],
-    count: usize,
-    written: usize,
+// A table once it is served: the claims that stay, then zeros; how many stay; the place after what was written. Or the number of the first question
+// answered no, and the table as it was.
+pub struct Kept {
+    pub number: u8,
+    pub table: [Claim; Node::TABLE],
+    pub count: usize,
+    pub written: usize,
 }
 
 // Serves the pending claims in table order, and writes the claims of their answers from a place on.
@@ -116,6 +119,7 @@ fn serve_table(
         i += 1;
     }
     Kept {
+        number: 0,
         table: kept,
         count: n,
         written,
@@ -135,38 +139,34 @@ fn write_whole(keys: &[u64], count: usize, lent: &mut [u64]) -> usize
     1
 }
 
-// The beat of a node, for any content: question 1 is not put, but a table that could not be read is refused with its number. Asks 15.
-pub fn beat_in(node: Node, lent: &mut [u64]) -> Beaten
-    ensures { λ r. ⌜ (r ≡ beatenIn node (now (lent .entry))) × (now (lent .exit) ≡ beatenInLent node (now (lent .entry))) ⌝ }
+// The beat of a node whose keys are lent, for any content: question 1 is not put, but a table that could not be read is refused with its number. Asks 15.
+pub fn beat_in(
+    keys: &[u64],
+    held: usize,
+    table: [Claim; Node::TABLE],
+    count: usize,
+    lent: &mut [u64],
+) -> Kept
+    ensures { λ r. ⌜ (beatenWith (now (keys .entry)) held r ≡ beatenIn (nodeWith (now (keys .entry)) held table count) (now (lent .entry))) × (now (lent .exit) ≡ beatenInLent (nodeWith (now (keys .entry)) held table count) (now (lent .entry))) ⌝ }
 {
-    let mut n = node;
-    let pending = n.count;
-    if Node::TABLE < pending {
-        return Beaten {
+    if Node::TABLE < count {
+        return Kept {
             number: 1,
-            node: n,
+            table,
+            count,
             written: 0,
         };
     }
     if lent.len() / WORDS < Node::BEAT {
-        return Beaten {
+        return Kept {
             number: 15,
-            node: n,
+            table,
+            count,
             written: 0,
         };
     }
-    let held = n.store.count;
-    let at = write_whole(&n.store.keys, held, lent);
-    let table = n.pending;
-    let kept = serve_table(&n.store.keys, held, table, pending, lent, at);
-    let rest = kept.table;
-    n.pending = rest;
-    n.count = kept.count;
-    Beaten {
-        number: 0,
-        node: n,
-        written: kept.written,
-    }
+    let at = write_whole(keys, held, lent);
+    serve_table(keys, held, table, count, lent, at)
 }
 
 // The beat of a node: the whole claim and the claims of the replies to the pending ones are written, four words to a claim. Asks 1 and 15.
@@ -180,5 +180,15 @@ pub fn beat(node: Node, lent: &mut [u64]) -> Beaten
             written: 0,
         };
     }
-    beat_in(node, lent)
+    let mut n = node;
+    let pending = n.pending;
+    let kept = beat_in(&n.store.keys, n.store.count, pending, n.count, lent);
+    let places = kept.table;
+    n.pending = places;
+    n.count = kept.count;
+    Beaten {
+        number: kept.number,
+        node: n,
+        written: kept.written,
+    }
 }

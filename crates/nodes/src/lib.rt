@@ -4,8 +4,10 @@ mod beats;
 mod order;
 mod taking;
 
+pub use beats::Kept;
 pub use beats::beat;
 pub use beats::beat_in;
 pub use order::ordered;
+pub use order::ordered_lent;
 pub use taking::take;
 pub use taking::take_next;

@@ -1,5 +1,6 @@
 // Question 1 of a node: whether it is in order.
 use claims::Claim;
+use claims::Store;
 use claims::judge;
 use claims::ordered_in;
 use claims::place_in;
@@ -16,7 +17,7 @@ ghost use Rattle.claims.specs.Call.{judged};
 ghost use Rattle.claims.specs.Lent.{orderedIn};
 ghost use Rattle.rule.specs.Table.{tableLimit, before, climbs};
 ghost use Rattle.rule.specs.Node.{holdsAll, allFit, allUnused, nodeInOrder};
-ghost use Rattle.nodes.specs.Lent.{nodeFrom};
+ghost use Rattle.nodes.specs.Lent.{nodeWith, lentInOrder};
 
 // Whether one claim comes before another in a table: by cnt, then lo, hi, sum.
 pub(crate) fn precedes(one: Claim, other: Claim) -> bool
@@ -97,15 +98,10 @@ fn unused(table: [Claim; Node::TABLE], count: usize) -> bool
     true
 }
 
-// Whether the node of these parts is in order: a lent run of keys and how many are held, a table and how many are pending.
-pub(crate) fn ordered_parts(
-    keys: &[u64],
-    held: usize,
-    table: [Claim; Node::TABLE],
-    count: usize,
-) -> bool
+// Whether the node of these parts is in order: a whole run of keys and how many are held, a table and how many are pending.
+fn ordered_parts(keys: &[u64], held: usize, table: [Claim; Node::TABLE], count: usize) -> bool
     requires { ⌜ length (now keys) ≡ limit ⌝ }
-    ensures { λ r. ⌜ r ≡ nodeInOrder (nodeFrom (now (keys .entry)) held table count) ⌝ }
+    ensures { λ r. ⌜ r ≡ nodeInOrder (nodeWith (now (keys .entry)) held table count) ⌝ }
 {
     if !ordered_in(keys, held) {
         return false;
@@ -117,6 +113,16 @@ pub(crate) fn ordered_parts(
         return false;
     }
     unused(table, count)
+}
+
+// Whether a node whose keys are lent is in order.
+pub fn ordered_lent(keys: &[u64], held: usize, table: [Claim; Node::TABLE], count: usize) -> bool
+    ensures { λ r. ⌜ r ≡ lentInOrder (now (keys .entry)) held table count ⌝ }
+{
+    if keys.len() != Store::LIMIT {
+        return false;
+    }
+    ordered_parts(keys, held, table, count)
 }
 
 // Whether a node is in order.

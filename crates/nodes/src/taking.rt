@@ -1,17 +1,19 @@
 // Taking a claim: its ends are added to the store, and it goes into the table in its place.
-use crate::order::ordered_parts;
+use crate::order::ordered;
 use crate::order::precedes;
 use claims::Claim;
+use claims::Store;
 use claims::hear_in;
 use claims::judge;
 use rule::Node;
+use rule::Rest;
 use rule::Taken;
 ghost use mathlib.Core.Path.{_≡_};
 ghost use Prim.Native.Nat.{_≤_, _<_, min};
 ghost use lib.ListN.{take};
 ghost use Rattle.rule.specs.Table.{tableLimit};
 ghost use Rattle.rule.specs.Call.{writtenOver, taken};
-ghost use Rattle.nodes.specs.Lent.{placeAmong, isAt, placedAt, placedIn, tableIn, Enlisted, takenNext};
+ghost use Rattle.nodes.specs.Lent.{placeAmong, isAt, placedAt, placedIn, tableIn, Enlisted, nodeWith, takenWith, takenNext};
 
 // A table, and how many claims are pending in it.
 struct Listed {
@@ -100,38 +102,57 @@ fn enlist(table: [Claim; Node::TABLE], count: usize, claim: Claim) -> Listed
     enlist_at(table, known, at, claim)
 }
 
-// Takes a claim that passes questions 2 to 5 into a node that was found in order. Asks 6.
-pub fn take_next(node: Node, claim: Claim) -> Taken
-    ensures { λ r. ⌜ r ≡ takenNext node claim ⌝ }
+// Takes a claim that passes questions 2 to 5 into a node that was found in order, and whose keys are lent. Asks 6.
+pub fn take_next(
+    keys: &mut [u64; Store::LIMIT],
+    held: usize,
+    table: [Claim; Node::TABLE],
+    count: usize,
+    claim: Claim,
+) -> Rest
+    ensures { λ r. ⌜ takenWith (now (keys .exit)) r ≡ takenNext (nodeWith (now (keys .entry)) held table count) claim ⌝ }
 {
-    let mut n = node;
-    let held = n.store.count;
-    let heard = hear_in(&mut n.store.keys, held, claim);
+    let heard = hear_in(keys, held, claim);
     if heard.number != 0 {
-        return Taken {
+        return Rest {
             number: heard.number,
-            node: n,
+            held,
+            table,
+            count,
         };
     }
-    let pending = n.pending;
-    let listed = enlist(pending, n.count, claim);
-    let table = listed.table;
-    n.store.count = heard.count;
-    n.pending = table;
-    n.count = listed.count;
-    Taken { number: 0, node: n }
+    let listed = enlist(table, count, claim);
+    let places = listed.table;
+    Rest {
+        number: 0,
+        held: heard.count,
+        table: places,
+        count: listed.count,
+    }
 }
 
 // Takes a claim. Asks 1, 2 to 5 and 6.
 pub fn take(node: Node, claim: Claim) -> Taken
     ensures { λ r. ⌜ r ≡ taken node claim ⌝ }
 {
-    if !ordered_parts(&node.store.keys, node.store.count, node.pending, node.count) {
+    if !ordered(node) {
         return Taken { number: 1, node };
     }
     let number = judge(claim);
     if number != 0 {
         return Taken { number, node };
     }
-    take_next(node, claim)
+    let mut n = node;
+    let held = n.store.count;
+    let pending = n.pending;
+    let count = n.count;
+    let next = take_next(&mut n.store.keys, held, pending, count, claim);
+    let places = next.table;
+    n.store.count = next.held;
+    n.pending = places;
+    n.count = next.count;
+    Taken {
+        number: next.number,
+        node: n,
+    }
 }

@@ -6,6 +6,7 @@ mod node;
 
 pub use answer::Beaten;
 pub use answer::Met;
+pub use answer::Rest;
 pub use answer::Taken;
 pub use delivery::Delivery;
 pub use node::Node;

@@ -4,13 +4,12 @@ use Prim.Native.Nat.{ℕ, _+_, _-_, _*_, _≤_, _<_}
 use native.Mathlib.Omega.{arith}
 use mathlib.Core.Bool.{Bool, true, false, _&&_}
 use mathlib.Core.List.{List, [], _∷_, _++_, append-assoc}
-use mathlib.Core.Path.{_≡_, refl, sym, _∙_}
+use mathlib.Core.Path.{_≡_, refl, ap, sym, _∙_}
 use borrow.Author.Tests.{le-leb, lt-leb, leb-true, eqb-true, eq-eqb, ne-eqb}
 use lib.Dec.{leb, eqb, lit<}
 use lib.ListN.{length, drop, replicate, length-append}
 use lib.Seq.{drop-drop, length-take-le}
 use Rattle.claims.specs.declared.claim.Claim.{Claim}
-use Rattle.claims.specs.declared.store.Store.{Store}
 use Rattle.claims.specs.Claim.{noClaim}
 use Rattle.claims.specs.Store.{limit, zeros, storeOf, emptyStore}
 use Rattle.claims.specs.Question.{firstNo}
@@ -19,10 +18,12 @@ use Rattle.claims.proofs.Tests.{and-left, and-right}
 use Rattle.claims.proofs.QuestionLaws.{firstNo-zero}
 use Rattle.rule.specs.Table.{tableLimit}
 use Rattle.rule.specs.declared.node.Node.{Node}
+use Rattle.rule.specs.declared.answer.Rest.{Rest}
 use Rattle.rule.specs.Node.{blanks, nodeOf, nodeInOrder, nodeKeys, pendingOf}
 use Rattle.rule.specs.Question.{nodeQuestion1, question15}
 use Rattle.rule.specs.Call.{writtenOver}
 use Rattle.rule.proofs.NodeLaws.{nodeInOrder-ordered}
+use Rattle.nodes.specs.Lent.{nodeWith, lentInOrder}
 use Rattle.wire.specs.declared.answer.Length.{Length}
 use Rattle.wire.specs.declared.answer.Imaged.{Imaged}
 use Rattle.wire.specs.declared.image.Part.{Part}
@@ -33,8 +34,8 @@ use Rattle.wire.specs.Claim.{keyWidth, countWidth, claimSize}
 use Rattle.wire.specs.Length.{noLength}
 use Rattle.wire.specs.Image.{keySection, claimSection, sections, sectionLength, imageLimit, countOf, behind, countFits, countsFit, toldLength, imageLength, parse, nodeFrom, question14, readImageQuestions, noImage, readImage, imageBytes, sectionBytes, nodeBytes, Shaped, writeImageQuestions, writeImage, imageLent}
 use Rattle.wire.specs.Run.{key, claim, readRun, writeRun}
-use Rattle.wire.specs.Told.{partOf, toldOf, nodeAt, AsTold, HasRoom}
-use Rattle.wire.specs.Lent.{writeImageIn, imageInLent}
+use Rattle.wire.specs.Told.{partOf, toldOf, AsTold}
+use Rattle.wire.specs.Lent.{restOf, noRest, readIn, readInLent, countable, writeImageIn, imageInLent}
 use Rattle.wire.proofs.Places.{putAt-zero, putAt-writtenOver, writtenOver-replicate}
 use Rattle.wire.proofs.Questions.{settle-number}
 use Rattle.wire.proofs.Runs.{length-readRun, length-writeRun, key-faithful, claim-faithful}
@@ -169,21 +170,6 @@ module _ (bs : List ℕ) {t : Told} (e : t ≡ toldOf bs) where
 
 -- ---- reading
 
--- the node that the code puts together: the keys over the empty store's, the claims over zeros
-pub nodeAt-laid : (bs : List ℕ) (n m : ℕ) {s : Store} {ks : List ℕ} {cs : List Claim} → s ≡ emptyStore
-    → ks ≡ writtenOver (readRun key n (drop countWidth bs)) (s .keys)
-    → cs ≡ writtenOver (readRun claim m (drop (sectionLength keySection n + countWidth) bs)) (blanks tableLimit)
-    → record { store = record { keys = ks; count = n }; pending = cs; count = m } ≡ nodeAt bs n m
-unfolding nodeAt nodeOf storeOf emptyStore zeros blanks
-nodeAt-laid bs n m {s} {ks} {cs} e f g =
-    let k = readRun key n (drop countWidth bs) in
-    let t = readRun claim m (drop (sectionLength keySection n + countWidth) bs) in
-    let p : ks ≡ k ++ replicate (limit - length k) 0 = f ∙ (rw e (writtenOver-replicate k limit 0)) in
-    let q : cs ≡ t ++ replicate (tableLimit - length t) noClaim = g ∙ writtenOver-replicate t tableLimit noClaim in
-    let u : n ≡ length k = sym (length-readRun key n (drop countWidth bs)) in
-    let v : m ≡ length t = sym (length-readRun claim m (drop (sectionLength keySection n + countWidth) bs)) in
-    λ i. record { store = record { keys = p i; count = u i }; pending = q i; count = v i }
-
 module _ {bs : List ℕ} {n m : ℕ} (told : AsTold bs n m) where
   keys-told : countFits limit bs ≡ true
   unfolding countsFit
@@ -203,31 +189,47 @@ module _ {bs : List ℕ} {n m : ℕ} (told : AsTold bs n m) where
       let w = told .whole in
       (rw k p, rw l q, rw (k, l, w) (omega arith))
 
-  pub nodeAt-parse : nodeAt bs n m ≡ nodeFrom (parse bs)
-  unfolding nodeAt parse
-  nodeAt-parse = rw (told .keys, told .pending, ← drop-drop countWidth (sectionLength keySection (countOf bs)) bs)
-
   pub whole-told : question14 bs .yes ≡ true
   whole-told = rw (told .counts) (eq-eqb (length bs) (toldLength sections bs) (told .whole))
 
-  pub readImage-1 : nodeInOrder (nodeFrom (parse bs)) ≡ false → noImage 1 ≡ readImage bs
-  unfolding readImage
-  readImage-1 e = rw (whole-told, e)
+  -- what stands where the code reads is the contents
+  keys-parsed : readRun key n (drop countWidth bs) ≡ parse bs .keys
+  unfolding parse
+  keys-parsed = rw (told .keys)
+
+  pending-parsed : readRun claim m (drop (sectionLength keySection n + countWidth) bs) ≡ parse bs .pending
+  unfolding parse
+  pending-parsed = rw (told .keys, told .pending, ← drop-drop countWidth (sectionLength keySection (countOf bs)) bs)
+
+  pub readIn-0 : {cs : List Claim} → cs ≡ writtenOver (readRun claim m (drop (sectionLength keySection n + countWidth) bs)) (blanks tableLimit)
+      → record { number = 0; held = n; table = cs; count = m } ≡ readIn bs
+  unfolding readIn nodeOf storeOf blanks
+  readIn-0 {cs} e =
+      let t = parse bs .pending in
+      let q : cs ≡ t ++ replicate (tableLimit - length t) noClaim = e ∙ rw pending-parsed (writtenOver-replicate t tableLimit noClaim) in
+      let u : n ≡ length (parse bs .keys) = sym (length-readRun key n (drop countWidth bs)) ∙ ap length keys-parsed in
+      let v : m ≡ length t = sym (length-readRun claim m (drop (sectionLength keySection n + countWidth) bs)) ∙ ap length pending-parsed in
+      (λ i. record { number = 0; held = u i; table = q i; count = v i }) ∙ rw whole-told
+
+  pub readInLent-0 : (keys : List ℕ) {ks : List ℕ} → ks ≡ writtenOver (readRun key n (drop countWidth bs)) keys → ks ≡ readInLent bs keys
+  unfolding readInLent
+  readInLent-0 keys e = e ∙ (ap (λ (l : List ℕ). writtenOver l keys) keys-parsed ∙ rw whole-told)
 
   pub readImage-0 : nodeInOrder (nodeFrom (parse bs)) ≡ true → record { number = 0; node = nodeFrom (parse bs) } ≡ readImage bs
   unfolding readImage
   readImage-0 e = rw (whole-told, e)
 
 module _ (bs : List ℕ) {t : Told} (e : t ≡ toldOf bs) where
-  pub readImage-counts : t .fits ≡ false → noImage 14 ≡ readImage bs
-  unfolding readImage
-  readImage-counts h = rw (counts bs e ∙ h)
+  pub readIn-counts : t .fits ≡ false → (keys : List ℕ) → (noRest 14 ≡ readIn bs) × (keys ≡ readInLent bs keys)
+  unfolding readIn readInLent
+  readIn-counts h keys = (rw (counts bs e ∙ h), rw (counts bs e ∙ h))
 
-  pub readImage-length : t .fits ≡ true → (length bs ≡ t .length → ⊥) → noImage 14 ≡ readImage bs
-  unfolding readImage
-  readImage-length h f =
+  pub readIn-length : t .fits ≡ true → (length bs ≡ t .length → ⊥) → (keys : List ℕ) → (noRest 14 ≡ readIn bs) × (keys ≡ readInLent bs keys)
+  unfolding readIn readInLent
+  readIn-length h f keys =
       let y = counts bs e ∙ h in
-      rw (y, ne-eqb (length bs) (toldLength sections bs) (λ z. f (z ∙ sym (lengths bs e y))))
+      let no = ne-eqb (length bs) (toldLength sections bs) (λ z. f (z ∙ sym (lengths bs e y))) in
+      (rw (y, no), rw (y, no))
 
   pub told-as : t .fits ≡ true → length bs ≡ t .length → AsTold bs (t .keys) (t .pending)
   told-as h w =
@@ -247,7 +249,61 @@ module _ (bs : List ℕ) where
       let w = eqb-true (length bs) (toldLength sections bs) (and-right (countsFit sections bs) (eqb (length bs) (toldLength sections bs)) y) in
       (record { counts = c; whole = w; keys = refl; pending = refl }, firstNo-zero (nodeQuestion1 (nodeFrom (parse bs))) [] (lit< tt) h₁ .0)
 
+-- ---- an image read where the keys are lent
+
+module _ (bs : List ℕ) {r : Rest} (e : r ≡ readIn bs) where
+  readIn-number : r .number ≡ firstNo (question14 bs ∷ [])
+  unfolding readIn
+  readIn-number = ap (λ (x : Rest). x .number) e ∙ settle-number (λ (x : Rest). x .number) (firstNo (question14 bs ∷ [])) _ noRest refl (λ (k : ℕ). refl)
+
+  -- refused with 14
+  pub readIn-refused : (r .number ≡ 0 → ⊥) → noImage (r .number) ≡ readImage bs
+  unfolding readImage
+  readIn-refused f = go (question14 bs .yes) refl
+    where
+      go : (t : Bool) → question14 bs .yes ≡ t → noImage (r .number) ≡ readImage bs
+      go true y = absurd (f (readIn-number ∙ rw y))
+      go false y = rw (readIn-number, y)
+
+  -- read into the places of the empty store
+  module _ (done : r .number ≡ 0) {ks : List ℕ} (k : ks ≡ readInLent bs (emptyStore .keys)) where
+    passed : question14 bs .yes ≡ true
+    passed = firstNo-zero (question14 bs) [] (lit< tt) (sym readIn-number ∙ done) .0
+
+    -- the node of both
+    abbrev pub readNode : Node
+    readNode = nodeWith ks (r .held) (r .table) (r .count)
+
+    pub readIn-node : readNode ≡ nodeFrom (parse bs)
+    unfolding readIn readInLent nodeOf storeOf emptyStore zeros
+    readIn-node =
+        let l = parse bs .keys in
+        let rest : r ≡ restOf (nodeFrom (parse bs)) = e ∙ rw passed in
+        let p : ks ≡ l ++ replicate (limit - length l) 0 = k ∙ rw passed (writtenOver-replicate l limit 0) in
+        λ i. record { store = record { keys = p i; count = rest i .held }; pending = rest i .table; count = rest i .count }
+
+    -- what question 1 then decides
+    module _ (long : length ks ≡ limit) where
+      tested : nodeInOrder (nodeFrom (parse bs)) ≡ lentInOrder ks (r .held) (r .table) (r .count)
+      tested = rw (eq-eqb (length ks) limit long) (ap nodeInOrder (sym readIn-node))
+
+      pub readImage-1 : lentInOrder ks (r .held) (r .table) (r .count) ≡ false → noImage 1 ≡ readImage bs
+      unfolding readImage
+      readImage-1 t = rw (passed, tested ∙ t)
+
+      pub readImage-lent : lentInOrder ks (r .held) (r .table) (r .count) ≡ true → record { number = 0; node = readNode } ≡ readImage bs
+      unfolding readImage
+      readImage-lent t = (λ i. record { number = 0; node = readIn-node i }) ∙ rw (passed, tested ∙ t)
+
 -- ---- writing
+
+pub countable-yes : (keys : List ℕ) (held count : ℕ) → countable keys held count ≡ true → (length keys ≡ limit) × (held ≤ limit) × (count ≤ tableLimit)
+countable-yes keys held count e =
+    let f = and-right (eqb (length keys) limit) (leb held limit && leb count tableLimit) e in (
+      eqb-true (length keys) limit (and-left (eqb (length keys) limit) (leb held limit && leb count tableLimit) e),
+      leb-true held limit (and-left (leb held limit) (leb count tableLimit) f),
+      leb-true count tableLimit (and-right (leb held limit) (leb count tableLimit) f),
+    )
 
 module _ (n : Node) where
   -- the counts of a node in order are not too high
@@ -306,47 +362,39 @@ module _ (n : Node) where
     unfolding writeImage imageLent
     writeImage-0 e h = (rw (e, le-leb (length (nodeBytes n)) (length out) h), rw (e, le-leb (length (nodeBytes n)) (length out) h))
 
-    -- the counts decide, and then the room; where the node is in order, this is the call that asks 1
-    pub writeImageIn-keys : limit < n .store .count → (noLength 1 ≡ writeImageIn n (length out)) × (out ≡ imageInLent n out)
+    -- places and counts decide, and then the room
+    pub writeImageIn-1 : countable (n .store .keys) (n .store .count) (n .count) ≡ false → (noLength 1 ≡ writeImageIn n (length out)) × (out ≡ imageInLent n out)
     unfolding writeImageIn imageInLent
-    writeImageIn-keys h = (rw (lt-leb (n .store .count) limit h), rw (lt-leb (n .store .count) limit h))
+    writeImageIn-1 e = (rw e, rw e)
 
-    module _ (few : n .store .count ≤ limit) where
-      pub writeImageIn-pending : tableLimit < n .count → (noLength 1 ≡ writeImageIn n (length out)) × (out ≡ imageInLent n out)
+    module _ (fits : countable (n .store .keys) (n .store .count) (n .count) ≡ true) where
+      pub writeImageIn-15 : length out < length (nodeBytes n) → (noLength 15 ≡ writeImageIn n (length out)) × (out ≡ imageInLent n out)
       unfolding writeImageIn imageInLent
-      writeImageIn-pending h =
-          let f = le-leb (n .store .count) limit few in
-          let g = lt-leb (n .count) tableLimit h in
-          (rw (f, g), rw (f, g))
+      writeImageIn-15 h =
+          let k = lt-leb (length (nodeBytes n)) (length out) h in
+          (rw (fits, k), rw (fits, k))
 
-      module _ (several : n .count ≤ tableLimit) where
-        pub writeImageIn-15 : length out < length (nodeBytes n) → (noLength 15 ≡ writeImageIn n (length out)) × (out ≡ imageInLent n out)
-        unfolding writeImageIn imageInLent
-        writeImageIn-15 h =
-            let f = le-leb (n .store .count) limit few in
-            let g = le-leb (n .count) tableLimit several in
-            let k = lt-leb (length (nodeBytes n)) (length out) h in
-            (rw (f, g, k), rw (f, g, k))
+      pub writeImageIn-0 : length (nodeBytes n) ≤ length out
+          → (record { number = 0; length = length (nodeBytes n) } ≡ writeImageIn n (length out)) × (writtenOver (nodeBytes n) out ≡ imageInLent n out)
+      unfolding writeImageIn imageInLent
+      writeImageIn-0 h =
+          let k = le-leb (length (nodeBytes n)) (length out) h in
+          (rw (fits, k), rw (fits, k))
 
-        pub writeImageIn-0 : length (nodeBytes n) ≤ length out
-            → (record { number = 0; length = length (nodeBytes n) } ≡ writeImageIn n (length out)) × (writtenOver (nodeBytes n) out ≡ imageInLent n out)
-        unfolding writeImageIn imageInLent
-        writeImageIn-0 h =
-            let f = le-leb (n .store .count) limit few in
-            let g = le-leb (n .count) tableLimit several in
-            let k = le-leb (length (nodeBytes n)) (length out) h in
-            (rw (f, g, k), rw (f, g, k))
+    -- where the node is in order, this is the call that asks 1
+    module _ (long : length (n .store .keys) ≡ limit) (ordered : nodeInOrder n ≡ true) where
+      pub ordered-countable : countable (n .store .keys) (n .store .count) (n .count) ≡ true
+      ordered-countable =
+          let (few, several) = ordered-counts ordered in
+          rw (eq-eqb (length (n .store .keys)) limit long, le-leb (n .store .count) limit few, le-leb (n .count) tableLimit several)
 
-    module _ (ordered : nodeInOrder n ≡ true) where
       pub writeImageIn-writeImage : writeImageIn n (length out) ≡ writeImage n (length out)
       unfolding writeImageIn writeImage
-      writeImageIn-writeImage =
-          rw (ordered, le-leb (n .store .count) limit (ordered-counts ordered .0), le-leb (n .count) tableLimit (ordered-counts ordered .1))
+      writeImageIn-writeImage = rw (ordered, ordered-countable)
 
       pub imageInLent-imageLent : imageInLent n out ≡ imageLent n out
       unfolding imageInLent imageLent
-      imageInLent-imageLent =
-          rw (ordered, le-leb (n .store .count) limit (ordered-counts ordered .0), le-leb (n .count) tableLimit (ordered-counts ordered .1))
+      imageInLent-imageLent = rw (ordered, ordered-countable)
 
     -- an image that is written has passed 1 and 15
     pub writeImage-yes : writeImage n (length out) .number ≡ 0 → (nodeInOrder n ≡ true) × (length (nodeBytes n) ≤ length out)

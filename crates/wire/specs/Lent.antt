@@ -1,25 +1,45 @@
--- Calls between our own crates: the image of a node that was tested before, so that a host call pays question 1 once. They are total, and no rule of
--- document 01. Where the node is in order they are `writeImage` and `imageLent` of Image: `writeImageIn-writeImage`, `imageInLent-imageLent` of proofs/Images.
--- Assumes nothing.
+-- Calls between our own crates: an image read and written where a node's keys are lent, so that none is copied, and where question 1 is put by `ordered_lent`
+-- of `nodes`, so that a host call pays it once. They are total, and no rule of document 01. What they are by the definitions of Image is said by
+-- laws (proofs/Images): `readIn-node`, `writeImageIn-writeImage`, `imageInLent-imageLent`. Assumes nothing.
 use Prim.Native.Nat.{ℕ}
-use mathlib.Core.Bool.{_&&_}
+use mathlib.Core.Bool.{Bool, _&&_}
 use mathlib.Core.List.{List, [], _∷_}
-use lib.Dec.{leb}
+use lib.Dec.{leb, eqb}
 use lib.ListN.{length}
 use Rattle.claims.specs.Store.{limit}
 use Rattle.claims.specs.Question.{Question, question, firstNo, settle}
 use Rattle.rule.specs.declared.node.Node.{Node}
+use Rattle.rule.specs.declared.answer.Rest.{Rest}
 use Rattle.rule.specs.Table.{tableLimit}
+use Rattle.rule.specs.Node.{blanks}
 use Rattle.rule.specs.Question.{question15}
 use Rattle.rule.specs.Call.{writtenOver}
 use Rattle.wire.specs.declared.answer.Length.{Length}
 use Rattle.wire.specs.Length.{noLength}
-use Rattle.wire.specs.Image.{nodeBytes}
+use Rattle.wire.specs.Image.{parse, nodeFrom, question14, nodeBytes}
 
--- `write_image_in` asks whether the counts are those of a node, which is a part of question 1, and 15.
+-- a node beside its keys
+abbrev pub restOf : Node → Rest
+restOf n = record { number = 0; held = n .store .count; table = n .pending; count = n .count }
+
+abbrev pub noRest : ℕ → Rest
+noRest number = record { number = number; held = 0; table = blanks tableLimit; count = 0 }
+
+-- `read_image_in` asks 14 alone. What it reads beside the keys, and the lent run of keys afterwards
+unfoldable pub readIn : List ℕ → Rest
+readIn bs = settle (firstNo (question14 bs ∷ [])) (restOf (nodeFrom (parse bs))) noRest
+
+unfoldable pub readInLent : List ℕ → List ℕ → List ℕ
+readInLent bs keys = settle (firstNo (question14 bs ∷ [])) (writtenOver (parse bs .keys) keys) (λ k. keys)
+
+-- are all places of the keys there, and both counts not too high?
+abbrev pub countable : List ℕ → ℕ → ℕ → Bool
+countable keys held count = eqb (length keys) limit && (leb held limit && leb count tableLimit)
+
+-- `write_image_in` asks whether places and counts are those of a node, which is a part of question 1, and 15.
 abbrev pub writeImageInQuestions : Node → ℕ → List Question
 writeImageInQuestions n room =
-    question 1 (leb (n .store .count) limit && leb (n .count) tableLimit) ∷ question15 room (length (nodeBytes n)) ∷ []
+    question 1 (countable (n .store .keys) (n .store .count) (n .count)) ∷ question15 room (length (nodeBytes n)) ∷ []
 
 unfoldable pub writeImageIn : Node → ℕ → Length
 writeImageIn n room =

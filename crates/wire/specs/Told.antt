@@ -3,15 +3,12 @@ use Prim.Native.Nat.{ℕ, _+_, _≤_}
 use mathlib.Core.Bool.{true, false, cond}
 use mathlib.Core.List.{List}
 use mathlib.Core.Path.{_≡_}
-use lib.ListN.{length, drop}
+use lib.ListN.{length}
 use Rattle.claims.specs.Store.{limit}
 use Rattle.rule.specs.declared.node.Node.{Node}
 use Rattle.rule.specs.Table.{tableLimit}
-use Rattle.rule.specs.Node.{nodeOf}
 use Rattle.wire.specs.declared.image.Part.{Part}
 use Rattle.wire.specs.declared.image.Told.{Told}
-use Rattle.wire.specs.Claim.{countWidth}
-use Rattle.wire.specs.Run.{key, claim, readRun}
 use Rattle.wire.specs.Image.{keySection, claimSection, sections, sectionLength, countOf, behind, countFits, countsFit, toldLength}
 
 -- the section at the front, of which there may be `most` things
@@ -25,10 +22,6 @@ toldOf bs =
     (record { fits = true; keys = countOf bs; pending = countOf (behind keySection bs); length = toldLength sections bs })
     (record { fits = false; keys = 0; pending = 0; length = 0 })
 
--- the node of n keys and m claims that stand where an image has them
-unfoldable pub nodeAt : List ℕ → ℕ → ℕ → Node
-nodeAt bs n m = nodeOf (readRun key n (drop countWidth bs)) (readRun claim m (drop (sectionLength keySection n + countWidth) bs))
-
 -- bytes whose counts are n and m, and whose length is theirs
 pub record AsTold (bs : List ℕ) (n m : ℕ) : Type 0 where
   pub counts : countsFit sections bs ≡ true
@@ -36,8 +29,9 @@ pub record AsTold (bs : List ℕ) (n m : ℕ) : Type 0 where
   pub keys : n ≡ countOf bs
   pub pending : m ≡ countOf (behind keySection bs)
 
--- room for the image of a node whose counts are not too high
+-- room for the image of a node whose places are all there and whose counts are not too high
 pub record HasRoom (n : Node) (room : ℕ) : Type 0 where
+  pub long : length (n .store .keys) ≡ limit
   pub keys : n .store .count ≤ limit
   pub pending : n .count ≤ tableLimit
   pub enough : sectionLength keySection (n .store .count) + sectionLength claimSection (n .count) ≤ room

@@ -6,7 +6,9 @@ use crate::number;
 use claims::Claim;
 use claims::Store;
 use rounds::Node;
+use rounds::Rest;
 use rounds::ordered;
+use rounds::ordered_lent;
 ghost use mathlib.Core.Path.{_≡_};
 ghost use Prim.Native.Nat.{_+_, _*_, _≤_};
 ghost use lib.ListN.{length, take, drop};
@@ -14,12 +16,13 @@ ghost use Rattle.claims.specs.Store.{limit};
 ghost use Rattle.rule.specs.Table.{tableLimit};
 ghost use Rattle.rule.specs.Node.{blanks, emptyNode};
 ghost use Rattle.rule.specs.Call.{writtenOver};
+ghost use Rattle.nodes.specs.Lent.{nodeWith};
 ghost use Rattle.wire.specs.Claim.{keyWidth, claimSize};
 ghost use Rattle.wire.specs.Run.{key as key-layout, claim as claim-layout, readRun, writeRun};
 ghost use Rattle.wire.specs.Place.{putAt};
 ghost use Rattle.wire.specs.Image.{keySection, claimSection, sectionLength, imageLimit, nodeBytes, noImage, readImage, imageLength, writeImage, imageLent};
-ghost use Rattle.wire.specs.Told.{partOf, toldOf, nodeAt, AsTold, HasRoom};
-ghost use Rattle.wire.specs.Lent.{writeImageIn, imageInLent};
+ghost use Rattle.wire.specs.Told.{partOf, toldOf, AsTold, HasRoom};
+ghost use Rattle.wire.specs.Lent.{noRest, readIn, readInLent, countable, writeImageIn, imageInLent};
 
 // A section as its count tells it: whether the count is there and not too high, and the count.
 struct Part {
@@ -111,8 +114,8 @@ pub fn image_length(bytes: &[u8]) -> Length
 }
 
 // n keys at a place, into the first places of a run of keys.
-fn read_keys(bytes: &[u8], at: usize, n: usize, keys: &mut [u64; Store::LIMIT])
-    requires { ⌜ (n ≤ limit) × (at + keyWidth * n ≤ length (now bytes)) × (length (now keys) ≡ limit) ⌝ }
+fn read_keys(bytes: &[u8], at: usize, n: usize, keys: &mut [u64])
+    requires { ⌜ (at + keyWidth * n ≤ length (now bytes)) × (n ≤ length (now keys)) ⌝ }
     ensures { λ _. ⌜ now (keys .exit) ≡ writtenOver (readRun key-layout n (drop at (now (bytes .entry)))) (now (keys .entry)) ⌝ }
 {
     let mut i: usize = 0;
@@ -172,32 +175,46 @@ fn write_claims(out: &mut [u8], at: usize, claims: [Claim; Node::TABLE], n: usiz
     }
 }
 
-// The node of n keys and m pending claims that stand where an image has them.
-fn node_of(bytes: &[u8], n: usize, m: usize) -> Node
-    requires { ⌜ (n ≤ limit) × (m ≤ tableLimit) × (sectionLength keySection n + sectionLength claimSection m ≤ length (now bytes)) ⌝ }
-    ensures { λ r. ⌜ r ≡ nodeAt (now (bytes .entry)) n m ⌝ }
+// What is read of an image that was refused, beside the keys: nothing.
+fn unread(number: u8) -> Rest
+    ensures { λ r. ⌜ r ≡ noRest number ⌝ }
 {
-    let mut store = Store::empty();
-    read_keys(bytes, number::COUNT, n, &mut store.keys);
-    store.count = n;
-    let pending = read_claims(bytes, number::COUNT + number::KEY * n + number::COUNT, m);
-    Node {
-        store,
-        pending,
+    let table = no_claims();
+    Rest {
+        number,
+        held: 0,
+        table,
+        count: 0,
+    }
+}
+
+// The contents of an image whose counts and length are right: its keys into a lent run, and the rest.
+fn contents(bytes: &[u8], n: usize, m: usize, keys: &mut [u64; Store::LIMIT]) -> Rest
+    requires { ⌜ AsTold (now bytes) n m ⌝ }
+    ensures { λ r. ⌜ (r ≡ readIn (now (bytes .entry))) × (now (keys .exit) ≡ readInLent (now (bytes .entry)) (now (keys .entry))) ⌝ }
+{
+    read_keys(bytes, number::COUNT, n, &mut keys[..]);
+    let table = read_claims(bytes, number::COUNT + number::KEY * n + number::COUNT, m);
+    Rest {
+        number: 0,
+        held: n,
+        table,
         count: m,
     }
 }
 
-// An image whose counts and length are right, judged by 1.
-fn contents(bytes: &[u8], n: usize, m: usize) -> Imaged
-    requires { ⌜ AsTold (now bytes) n m ⌝ }
-    ensures { λ r. ⌜ r ≡ readImage (now (bytes .entry)) ⌝ }
+// Reads an image: its keys into the first places of a lent run, and the rest. Asks 14; question 1 is left to `ordered_lent`.
+pub fn read_image_in(bytes: &[u8], keys: &mut [u64; Store::LIMIT]) -> Rest
+    ensures { λ r. ⌜ (r ≡ readIn (now (bytes .entry))) × (now (keys .exit) ≡ readInLent (now (bytes .entry)) (now (keys .entry))) ⌝ }
 {
-    let node = node_of(bytes, n, m);
-    if !ordered(node) {
-        return refused(1);
+    let told = told_by(bytes);
+    if !told.fits {
+        return unread(14);
     }
-    Imaged { number: 0, node }
+    if bytes.len() != told.length {
+        return unread(14);
+    }
+    contents(bytes, told.keys, told.pending, keys)
 }
 
 // A node with the empty store and nothing pending.
@@ -226,58 +243,76 @@ fn refused(number: u8) -> Imaged
 pub fn read_image(bytes: &[u8]) -> Imaged
     ensures { λ r. ⌜ r ≡ readImage (now (bytes .entry)) ⌝ }
 {
-    let told = told_by(bytes);
-    if !told.fits {
-        return refused(14);
+    let mut store = Store::empty();
+    let read = read_image_in(bytes, &mut store.keys);
+    if read.number != 0 {
+        return refused(read.number);
     }
-    if bytes.len() != told.length {
-        return refused(14);
+    let pending = read.table;
+    if !ordered_lent(&store.keys, read.held, pending, read.count) {
+        return refused(1);
     }
-    contents(bytes, told.keys, told.pending)
+    store.count = read.held;
+    Imaged {
+        number: 0,
+        node: Node {
+            store,
+            pending,
+            count: read.count,
+        },
+    }
 }
 
 // The image of a node, put to the front of a buffer that has room for it.
-fn put_image(out: &mut [u8], node: Node)
-    requires { ⌜ HasRoom node (length (now out)) ⌝ }
-    ensures { λ _. ⌜ now (out .exit) ≡ writtenOver (nodeBytes node) (now (out .entry)) ⌝ }
+fn put_image(out: &mut [u8], keys: &[u64], n: usize, table: [Claim; Node::TABLE], m: usize)
+    requires { ⌜ HasRoom (nodeWith (now keys) n table m) (length (now out)) ⌝ }
+    ensures { λ _. ⌜ now (out .exit) ≡ writtenOver (nodeBytes (nodeWith (now (keys .entry)) n table m)) (now (out .entry)) ⌝ }
 {
-    let n = node.store.count;
-    let m = node.count;
     let at = number::COUNT + number::KEY * n;
     number::write(out, 0, number::COUNT, n as u64);
-    write_keys(out, number::COUNT, &node.store.keys, n);
+    write_keys(out, number::COUNT, keys, n);
     number::write(out, at, number::COUNT, m as u64);
-    write_claims(out, at + number::COUNT, node.pending, m);
+    write_claims(out, at + number::COUNT, table, m);
 }
 
-// Writes the image of a node, for any content: question 1 is not put, but counts that no node has are refused with its number. Asks 15 for the
-// image's own length.
-pub fn write_image_in(node: Node, out: &mut [u8]) -> Length
-    ensures { λ r. ⌜ (r ≡ writeImageIn node (length (now (out .entry)))) × (now (out .exit) ≡ imageInLent node (now (out .entry))) ⌝ }
+// Whether all places of the keys are there, and both counts not too high.
+fn is_countable(keys: &[u64], held: usize, count: usize) -> bool
+    ensures { λ r. ⌜ r ≡ countable (now (keys .entry)) held count ⌝ }
 {
-    if Store::LIMIT < node.store.count {
+    if keys.len() != Store::LIMIT {
+        return false;
+    }
+    if Store::LIMIT < held {
+        return false;
+    }
+    count <= Node::TABLE
+}
+
+// Writes the image of a node whose keys are lent, for any content: question 1 is not put, but places and counts that no node has are refused with its number.
+// Asks 15 for the image's own length.
+pub fn write_image_in(
+    keys: &[u64],
+    held: usize,
+    table: [Claim; Node::TABLE],
+    count: usize,
+    out: &mut [u8],
+) -> Length
+    ensures { λ r. ⌜ (r ≡ writeImageIn (nodeWith (now (keys .entry)) held table count) (length (now (out .entry)))) × (now (out .exit) ≡ imageInLent (nodeWith (now (keys .entry)) held table count) (now (out .entry))) ⌝ }
+{
+    if !is_countable(keys, held, count) {
         return Length {
             number: 1,
             length: 0,
         };
     }
-    if Node::TABLE < node.count {
-        return Length {
-            number: 1,
-            length: 0,
-        };
-    }
-    let length = number::COUNT
-        + number::KEY * node.store.count
-        + number::COUNT
-        + claim::SIZE * node.count;
+    let length = number::COUNT + number::KEY * held + number::COUNT + claim::SIZE * count;
     if out.len() < length {
         return Length {
             number: 15,
             length: 0,
         };
     }
-    put_image(out, node);
+    put_image(out, keys, held, table, count);
     Length { number: 0, length }
 }
 
@@ -291,5 +326,11 @@ pub fn write_image(node: Node, out: &mut [u8]) -> Length
             length: 0,
         };
     }
-    write_image_in(node, out)
+    write_image_in(
+        &node.store.keys,
+        node.store.count,
+        node.pending,
+        node.count,
+        out,
+    )
 }

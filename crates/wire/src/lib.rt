@@ -12,5 +12,6 @@ pub use frame::read_frame;
 pub use frame::write_frame;
 pub use image::image_length;
 pub use image::read_image;
+pub use image::read_image_in;
 pub use image::write_image;
 pub use image::write_image_in;

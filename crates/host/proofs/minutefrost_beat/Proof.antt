@@ -3,15 +3,16 @@ use Prim.Native.Nat.{ℕ, _≤_, _<_}
 use native.Mathlib.Omega.{arith}
 use mathlib.Core.Bool.{true}
 use mathlib.Core.List.{List}
-use mathlib.Core.Path.{_≡_, ap, sym, _∙_}
+use mathlib.Core.Path.{_≡_, refl, ap, sym, _∙_}
 use borrow.Author.Needs.{needs}
 use lib.Dec.{lit<}
 use lib.IntN.{pos}
 use lib.ListN.{length}
+use Rattle.claims.specs.Store.{zeros}
 use Rattle.rule.specs.declared.node.Node.{Node}
+use Rattle.nodes.specs.Lent.{nodeWith}
 use Rattle.rule.specs.Node.{nodeInOrder}
 use Rattle.rule.specs.Call.{writtenOver}
-use Rattle.wire.specs.declared.answer.Imaged.{Imaged}
 use Rattle.wire.specs.Image.{imageLimit, nodeBytes, readImage}
 use Rattle.host.specs.Frames.{framesLimit}
 use Rattle.host.specs.Call.{nodeIn, nodeServed, framesSent}
@@ -20,20 +21,25 @@ use Rattle.host.proofs.Answers.{readImage-ordered, beaten-image, beaten
 use Rattle.host.proofs.minutefrost_beat.Statement.{statement}
 use Rattle.host.proofs.minutefrost_beat.Tie as tie
 
-few : (c : tie.After-struct-known) → c .before .read-image .result .number < 256
+few : (c : tie.After-struct-known) → c .before .load .result .number < 256
 few c = search needs
 
-read : (c : tie.Else1) → readImage (c .before .before .before .before .before .before .args .image .now) .number ≡ 0
-read c = sym (ap (λ (x : Imaged). x .number) (c .before .before .read-image .ensures)) ∙ c .if1 .left
+-- the node that was loaded
+abbrev loaded : tie.After-load → Node
+loaded l = nodeWith (l .load .last .1 .0) (l .load .result .held) (l .load .result .table) (l .load .result .count)
 
-node-is : (c : tie.Else1) → c .before .before .read-image .result .node ≡ nodeIn (c .before .before .before .before .before .before .args .image .now)
-node-is c = ap (λ (x : Imaged). x .node) (c .before .before .read-image .ensures)
+read : (e : tie.Else1) → readImage (e .before .before .before .before .before .before .before .args .image .now) .number ≡ 0
+read e = sym (e .before .before .load .ensures .number) ∙ e .if1 .left
 
-room : (c : tie.Else2) → imageLimit ≤ length (c .before .before .before .before .before .before .before .args .out .now)
+node-is : (e : tie.Else1) → loaded (e .before .before) ≡ nodeIn (e .before .before .before .before .before .before .before .args .image .now)
+node-is e = e .before .before .load .ensures .node (e .if1 .left)
+
+room : (c : tie.Else2) → imageLimit ≤ length (c .before .before .before .before .before .before .before .before .args .out .now)
 room c = omega (arith, c .if2 .left)
 
-read-image-requires : tie.Need-read-image-requires
-read-image-requires c κs = search needs
+load-requires : tie.Need-load-requires
+unfolding zeros
+load-requires c κs = refl
 
 refusal-requires : tie.Need-refusal-requires
 refusal-requires c κs = search needs
@@ -41,8 +47,8 @@ refusal-requires c κs = search needs
 returns : tie.Need-returns
 returns c =
     let r = c .before .before .before in
-    let a = r .before .before .before .before .args in
-    let (w, o, f) = beaten-image (a .image .now) (a .out .now) (a .frames .now) (ap (λ (x : Imaged). x .number) (r .read-image .ensures)) (c .before .if1 .taken) in
+    let a = r .before .before .before .before .before .args in
+    let (w, o, f) = beaten-image (a .image .now) (a .out .now) (a .frames .now) (r .load .ensures .number) (c .before .if1 .taken) in
     (returned (c .refusal .ensures) (fits-minus _ (few (c .before .before))) ∙ w, o, f)
 
 refusal-requires-2 : tie.Need-refusal-requires-2
@@ -51,7 +57,7 @@ refusal-requires-2 c κs = search needs
 returns-2 : tie.Need-returns-2
 returns-2 c =
     let e = c .before .before in
-    let a = e .before .before .before .before .before .before .args in
+    let a = e .before .before .before .before .before .before .before .args in
     let (w, o, f) = beaten-out (a .image .now) (a .out .now) (a .frames .now) (read e) (c .before .if2 .taken) in
     (returned (c .refusal2 .ensures) (fits-minus 15 (lit< tt)) ∙ w, o, f)
 
@@ -61,14 +67,18 @@ refusal-requires-3 c κs = search needs
 returns-3 : tie.Need-returns-3
 returns-3 c =
     let e = c .before .before .before in
-    let a = e .before .before .before .before .before .before .args in
+    let a = e .before .before .before .before .before .before .before .args in
     let (w, o, f) = beaten-frames (a .image .now) (a .out .now) (a .frames .now) (read e) (room (c .before .before)) (c .before .if3 .taken) in
     (returned (c .refusal3 .ensures) (fits-minus 15 (lit< tt)) ∙ w, o, f)
 
+slice-aggregate-send : tie.Need-slice-aggregate-send
+slice-aggregate-send c = let e = c .before .before .before .before in sym (e .before .before .load .ensures .long (e .if1 .left))
+
 send-requires : tie.Need-send-requires
 send-requires c κs =
-    let e = c .before .before .before .before in
-    (rw (node-is e) (readImage-ordered _ (read e)), room (c .before .before .before), omega (arith, c .before .before .if3 .left))
+    let t = c .before .before .before .before in
+    let e = t .before .before in
+    (e .before .before .load .ensures .long (e .if1 .left), rw (node-is e) (readImage-ordered _ (read e)), room (t .before), omega (arith, t .if3 .left))
 
 size-requires : tie.Need-size-requires
 size-requires c κs = let s = c .before .before .before .before .send .ensures in omega arith
@@ -82,11 +92,12 @@ same-length-2 c = search needs
 returns-4 : tie.Need-returns-4
 returns-4 c =
     let t = c .before .before .before .before .before in
-    let e = t .before .before .before .before .before in
-    let a = e .before .before .before .before .before .before .args in
+    let u = t .before .before .before .before .before in
+    let e = u .before .before in
+    let a = e .before .before .before .before .before .before .before .args in
     let n = node-is e in
     let s = t .send .ensures in
-    let (w, o, f) = beaten-0 (a .image .now) (a .out .now) (a .frames .now) (read e) (room (t .before .before .before .before)) (omega (arith, t .before .before .before .if3 .left)) in (
+    let (w, o, f) = beaten-0 (a .image .now) (a .out .now) (a .frames .now) (read e) (room (u .before)) (omega (arith, u .if3 .left)) in (
       returned (c .size .ensures) (fits-pos _ (omega arith)) ∙ (ap pos (s .0 ∙ ap (λ (m : Node). length (framesSent m)) n) ∙ w),
       s .2 ∙ (ap (λ (m : Node). writtenOver (nodeBytes (nodeServed m)) (a .out .now)) n ∙ o),
       s .3 ∙ (ap (λ (m : Node). writtenOver (framesSent m) (a .frames .now)) n ∙ f),
@@ -96,13 +107,14 @@ pub minutefrost-beat-spec : {M : Type 1} → statement M
 minutefrost-beat-spec =
     tie.close
     (tie.spec
-    read-image-requires
+    load-requires
     refusal-requires
     returns
     refusal-requires-2
     returns-2
     refusal-requires-3
     returns-3
+    slice-aggregate-send
     send-requires
     size-requires
     same-length

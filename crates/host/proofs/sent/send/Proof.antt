@@ -6,12 +6,12 @@ use mathlib.Core.List.{List}
 use mathlib.Core.Path.{_≡_, ap, sym, _∙_, subst}
 use borrow.Author.Needs.{needs}
 use lib.ListN.{length, replicate, length-replicate}
-use Rattle.claims.specs.Store.{limit}
 use Rattle.rule.specs.Table.{beatLimit}
 use Rattle.rule.specs.Call.{writtenOver}
 use Rattle.rule.specs.Node.{nodeInOrder}
 use Rattle.rule.specs.declared.node.Node.{Node}
 use Rattle.wire.specs.Image.{nodeBytes, Shaped}
+use Rattle.nodes.specs.Lent.{nodeWith}
 use Rattle.nodes.proofs.TakeLaws.{length-mapped}
 use Rattle.host.specs.Call.{nodeServed, framesSent}
 use Rattle.host.specs.Frames.{framesBytes}
@@ -20,11 +20,16 @@ use Rattle.host.proofs.Answers.{writeImageIn-room}
 use Rattle.host.proofs.sent.send.Statement.{statement}
 use Rattle.host.proofs.sent.send.Tie as tie
 
-long : (c : tie.Start) → length (c .args .node .store .keys) ≡ limit
-long c = search (needs, length-mapped)
+-- the node that beats
+abbrev given : tie.Start → Node
+given s = nodeWith (s .args .keys .now) (s .args .held) (s .args .table) (s .args .count)
 
-shaped : (c : tie.After-write-image-in-arg) → Shaped (c .before .before .beat-in .result .node)
-shaped c = record { keys = search (needs, length-mapped); pending = search (needs, length-mapped) }
+-- .. and the node afterwards
+abbrev left : tie.After-beat-in → Node
+left b = let s = b .before .before .before .before .before in nodeWith (s .args .keys .now) (s .args .held) (b .beat-in .result .table) (b .beat-in .result .count)
+
+shaped : (c : tie.After-write-image-in-arg) → Shaped (left (c .before .before .before))
+shaped c = record { keys = c .before .before .before .before .before .before .before .before .pre .0; pending = search (needs, length-mapped) }
 
 -- the words before the beat
 abbrev blank : List ℕ
@@ -47,13 +52,14 @@ slice-aggregate-write-frames c = search needs
 
 write-frames-requires : tie.Need-write-frames-requires
 write-frames-requires c κs =
-    let b = c .before .before .before .before .before .before .before in
-    let s = b .before .before .before .before in
-    let n = s .args .node in
+    let b = c .before .before .before .before .before .before .before .before in
+    let s = b .before .before .before .before .before in
+    let n = given s in
+    let (long, ordered, room, framesRoom) = s .pre in
     let e = b .beat-in .ensures in (
-      beat-room n (s .pre .0) (long s) blank wide (e .0) (e .1),
-      beat-pass n (s .pre .0) (long s) blank wide (e .0) (e .1),
-      rw (beat-read n (s .pre .0) (long s) blank wide (e .0) (e .1)) (let l = length-framesSent n (s .pre .0) in omega arith),
+      beat-room n ordered long blank wide (e .0) (e .1),
+      beat-pass n ordered long blank wide (e .0) (e .1),
+      rw (beat-read n ordered long blank wide (e .0) (e .1)) (let l = length-framesSent n ordered in omega arith),
     )
 
 same-length : tie.Need-same-length
@@ -66,16 +72,17 @@ returns : tie.Need-returns
 returns c =
     let f = c .before .before in
     let w = f .before .before .before .before .before in
-    let b = w .before .before .before in
-    let s = b .before .before .before .before in
-    let n = s .args .node in
+    let b = w .before .before .before .before in
+    let s = b .before .before .before .before .before in
+    let n = given s in
+    let (long, ordered, room, framesRoom) = s .pre in
     let e = b .beat-in .ensures in
-    let sent = ap framesBytes (beat-read n (s .pre .0) (long s) blank wide (e .0) (e .1)) in
-    let node = beat-node n (s .pre .0) (long s) blank wide (e .0) (e .1) in
+    let sent = ap framesBytes (beat-read n ordered long blank wide (e .0) (e .1)) in
+    let node : left b ≡ nodeServed n = beat-node n ordered long blank wide (e .0) (e .1) in
     let size = f .write-frames .ensures .0 ∙ ap length sent in
-    let image = writeImageIn-room _ (shaped (w .before)) (rw node (nodeServed-ordered n (s .pre .0))) (s .args .out .now) (s .pre .1) .1 in (
+    let image = writeImageIn-room (left b) (shaped (w .before)) (rw node (nodeServed-ordered n ordered)) (s .args .out .now) room .1 in (
       size,
-      rw size (length-framesSent n (s .pre .0)),
+      rw size (length-framesSent n ordered),
       w .write-image-in .ensures .1 ∙ (sym image ∙ ap (λ (m : Node). writtenOver (nodeBytes m) (s .args .out .now)) node),
       f .write-frames .ensures .1 ∙ ap (λ (bs : List ℕ). writtenOver bs (s .args .frames .now)) sent,
     )

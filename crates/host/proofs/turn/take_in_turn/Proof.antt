@@ -1,5 +1,5 @@
 -- `turn::take_in_turn` meets its contract. The invariant: the node is in order, and what it has yet to take decides. Assumes nothing.
-use Prim.Native.Nat.{_+_, _-_, _≤_, _<_}
+use Prim.Native.Nat.{ℕ, _+_, _-_, _≤_, _<_}
 use native.Mathlib.Omega.{arith}
 use mathlib.Core.Bool.{true}
 use mathlib.Core.List.{List}
@@ -9,46 +9,55 @@ use lib.ListN.{length, take, drop, getD}
 use lib.Seq.{getD-take, length-take-le}
 use Rattle.claims.specs.declared.claim.Claim.{Claim}
 use Rattle.claims.specs.Claim.{noClaim}
+use Rattle.rule.specs.declared.node.Node.{Node}
+use Rattle.rule.specs.declared.answer.Rest.{Rest}
+use Rattle.rule.specs.Table.{tableLimit}
 use Rattle.rule.specs.Node.{nodeInOrder}
-use Rattle.nodes.specs.Lent.{takenNext}
+use Rattle.nodes.specs.Lent.{nodeWith, takenWith, takenNext}
 use Rattle.wire.specs.Image.{Shaped}
 use Rattle.nodes.proofs.TakeLaws.{length-mapped}
 use Rattle.host.specs.Taking.{takenUntil}
-use Rattle.host.proofs.Turns.{turn-refused, turn-done, turn-ordered, takenUntil-end}
+use Rattle.host.proofs.Turns.{turn-refused, turn-done, turn-ordered, turn-long, takenUntil-end}
 use Rattle.host.proofs.turn.take_in_turn.Statement.{statement}
 use Rattle.host.proofs.turn.take_in_turn.Tie as tie
 
+-- the node of a run of keys and the rest of it
+abbrev node : List ℕ → Rest → Node
+node keys r = nodeWith keys (r .held) (r .table) (r .count)
+
 abbrev Inv-loop : tie.InvT-loop
-Inv-loop n claims taken₀ i₀ taken i =
-    (i ≤ n) × Shaped (taken .node) × (nodeInOrder (taken .node) ≡ true) × (takenUntil (taken₀ .node) (take n claims) ≡ takenUntil (taken .node) (drop i (take n claims))) × (taken .number ≡ 0)
+Inv-loop keys₀ held count n claims taken₀ i₀ keys taken i =
+    (i ≤ n) × Shaped (node keys taken) × (nodeInOrder (node keys taken) ≡ true)
+    × (takenUntil (node keys₀ taken₀) (take n claims) ≡ takenUntil (node keys taken) (drop i (take n claims))) × (taken .number ≡ 0)
 
 abbrev μ-loop : tie.MeasureT-loop
-μ-loop n claims taken₀ i₀ taken i = n - i
+μ-loop keys₀ held count n claims taken₀ i₀ keys taken i = n - i
 
 -- the claims to take
 abbrev given : tie.Start Inv-loop μ-loop → List Claim
-given c = take (c .args .n) (c .args .t2)
+given c = take (c .args .n) (c .args .t5)
 
 counted : (c : tie.Start Inv-loop μ-loop) → length (given c) ≡ c .args .n
 counted c =
-    let e : length (c .args .t2) ≡ 4 = search (needs, length-mapped) in
-    length-take-le (c .args .n) (c .args .t2) (omega arith)
+    let e : length (c .args .t5) ≡ 4 = search (needs, length-mapped) in
+    let h = c .pre .2 in
+    length-take-le (c .args .n) (c .args .t5) (omega arith)
 
 below : (c : tie.In-loop Inv-loop μ-loop) → c .before .loop .i < length (given (c .before .before))
 below c = rw (counted (c .before .before)) (c .loop-test .taken)
 
-next : (c : tie.After-take-next Inv-loop μ-loop) → let t = c .before .before .before in
-    c .take-next .result ≡ takenNext (t .loop .taken .node) (getD (given (t .before)) (t .loop .i) noClaim)
+next : (c : tie.After-take-next Inv-loop μ-loop) → let l = c .before .before .before .before .before in
+    takenWith (c .take-next .last .0) (c .take-next .result) ≡ takenNext (node (l .loop .keys) (l .loop .taken)) (getD (given (l .before)) (l .loop .i) noClaim)
 next c =
-    let t = c .before .before in
+    let t = c .before .before .before .before in
     let a = t .before .before .args in
-    rw (getD-take (a .n) (a .t2) (t .before .loop .i) noClaim (t .loop-test .taken)) (c .take-next .ensures)
+    rw (getD-take (a .n) (a .t5) (t .before .loop .i) noClaim (t .loop-test .taken)) (c .take-next .ensures)
 
-shaped-next : (c : tie.After-struct-known Inv-loop μ-loop) → Shaped (c .before .take-next .result .node)
-shaped-next c = record { keys = search (needs, length-mapped); pending = search (needs, length-mapped) }
+places-next : (c : tie.After-struct-known Inv-loop μ-loop) → length (c .before .take-next .result .table) ≡ tableLimit
+places-next c = search (needs, length-mapped)
 
 loop-holds : tie.Need-loop-holds Inv-loop μ-loop
-loop-holds c = (search needs, record { keys = search (needs, length-mapped); pending = search (needs, length-mapped) }, c .pre .0, refl, refl)
+loop-holds c = (search needs, record { keys = c .pre .0; pending = search (needs, length-mapped) }, c .pre .1, refl, refl)
 
 mul-take-next : tie.Need-mul-take-next Inv-loop μ-loop
 mul-take-next c = search needs
@@ -62,8 +71,9 @@ take-next-requires c κs = search needs
 returns : tie.Need-returns Inv-loop μ-loop
 returns c =
     let t = c .before .before in
-    let (h, shaped, ordered, until, none) = t .before .before .before .loop .inv in
-    sym (until ∙ turn-refused _ (given (t .before .before .before .before)) _ (below (t .before .before)) shaped ordered (t .before .before .before .before .pre .2) (next t) (c .if1 .taken))
+    let w = t .before .before .before .before in
+    let (h, shaped, ordered, until, none) = w .before .loop .inv in
+    (sym (until ∙ turn-refused _ (given (w .before .before)) _ (below w) shaped ordered (w .before .before .pre .3) (next t) (c .if1 .taken)), turn-long _ (given (w .before .before)) _ (below w) shaped ordered (w .before .before .pre .3) (next t))
 
 add-i : tie.Need-add-i Inv-loop μ-loop
 add-i c = search needs
@@ -74,11 +84,15 @@ loop-less c = search needs
 loop-again : tie.Need-loop-again Inv-loop μ-loop
 loop-again c =
     let t = c .before .before in
-    let (h, shaped, ordered, until, none) = t .before .before .before .loop .inv in (
+    let w = t .before .before .before .before in
+    let (h, shaped, ordered, until, none) = w .before .loop .inv in (
       search needs,
-      shaped-next (c .before),
-      turn-ordered _ (given (t .before .before .before .before)) _ (below (t .before .before)) shaped ordered (t .before .before .before .before .pre .2) (next t),
-      until ∙ turn-done _ (given (t .before .before .before .before)) _ (below (t .before .before)) shaped ordered (t .before .before .before .before .pre .2) (next t) (c .if1 .left),
+      record {
+        keys = turn-long _ (given (w .before .before)) _ (below w) shaped ordered (w .before .before .pre .3) (next t);
+        pending = places-next (c .before);
+      },
+      turn-ordered _ (given (w .before .before)) _ (below w) shaped ordered (w .before .before .pre .3) (next t),
+      until ∙ turn-done _ (given (w .before .before)) _ (below w) shaped ordered (w .before .before .pre .3) (next t) (c .if1 .left),
       c .if1 .left,
     )
 
@@ -87,7 +101,7 @@ returns-2 c =
     let t = c .before in
     let (h, shaped, ordered, until, none) = t .loop .inv in
     let past : length (given (t .before)) ≤ t .loop .i = rw (counted (t .before)) (omega arith) in
-    sym (until ∙ takenUntil-end _ (given (t .before)) _ past none)
+    (sym (until ∙ takenUntil-end (takenWith (t .loop .keys) (t .loop .taken)) (given (t .before)) _ past none), shaped .keys)
 
 pub take-in-turn-spec : {M : Type 1} → statement M
 take-in-turn-spec =

@@ -27,8 +27,10 @@ same-length c = search needs
 
 returns-2 : tie.Need-returns-2
 returns-2 c =
-    let a = c .before .before .before .before .before .before .before .args in
-    beat-ordered (a .node) (now (a .lent)) (long (c .before .before .before .before .before .before .before)) (sym (c .before .before .before .before .before .ordered .ensures) ∙ not-false _ (c .before .before .before .before .if1 .left)) (c .before .before .beat-in .result) (c .before .before .beat-in .last .1 .0) (c .before .before .beat-in .ensures)
+    let b = c .before .before .before in
+    let e = b .before .before .before .before .before .before in
+    let s = e .before .before .before in
+    beat-ordered (s .args .node) (now (s .args .lent)) (long s) (sym (e .before .ordered .ensures) ∙ not-false _ (e .if1 .left)) (b .beat-in .result) (b .beat-in .last .1 .1 .1 .1 .0) (b .beat-in .ensures)
 
 pub beat-spec : {M : Type 1} → statement M
 beat-spec = tie.close (tie.spec ordered-requires returns beat-in-requires same-length returns-2)

@@ -1,36 +1,45 @@
 -- `image::contents` meets its contract. Assumes nothing.
-use mathlib.Core.Path.{_≡_, ap, sym, _∙_}
+use Prim.Native.Nat.{_+_, _≤_}
+use native.Mathlib.Omega.{arith}
 use borrow.Author.Needs.{needs}
-use borrow.Author.Tests.{not-true, not-false}
-use Rattle.rule.specs.Node.{nodeInOrder}
-use Rattle.wire.specs.Image.{parse, nodeFrom}
-use Rattle.wire.proofs.Images.{told-room, nodeAt-parse, readImage-1, readImage-0}
+use lib.ListN.{length}
+use Rattle.claims.specs.Store.{limit}
+use Rattle.rule.specs.Table.{tableLimit}
+use Rattle.wire.specs.Image.{keySection, claimSection, sectionLength}
+use Rattle.wire.proofs.Images.{told-room, readIn-0, readInLent-0}
 use Rattle.wire.proofs.image.contents.Statement.{statement}
 use Rattle.wire.proofs.image.contents.Tie as tie
 
-parsed : (c : tie.After-node-of) → c .node-of .result ≡ nodeFrom (parse (c .before .before .args .bytes .now))
-parsed c = c .node-of .ensures ∙ nodeAt-parse (c .before .before .pre)
+room : (s : tie.Start) → (s .args .n ≤ limit) × (s .args .m ≤ tableLimit) × (sectionLength keySection (s .args .n) + sectionLength claimSection (s .args .m) ≤ length (s .args .bytes .now))
+room s = told-room (s .pre)
 
-tested : (c : tie.After-ordered) → c .ordered .result ≡ nodeInOrder (nodeFrom (parse (c .before .before .before .args .bytes .now)))
-tested c = c .ordered .ensures ∙ ap nodeInOrder (parsed (c .before))
+read-keys-requires : tie.Need-read-keys-requires
+read-keys-requires c κs = let (few, several, enough) = room (c .before .before) in search needs
 
-node-of-requires : tie.Need-node-of-requires
-node-of-requires c κs = told-room (c .before .pre)
+mul-read-claims : tie.Need-mul-read-claims
+mul-read-claims c = let h = room (c .before .before .before) in search needs
 
-ordered-requires : tie.Need-ordered-requires
-ordered-requires c κs = search needs
+add-read-claims : tie.Need-add-read-claims
+add-read-claims c = let h = room (c .before .before .before) in search needs
 
-refused-requires : tie.Need-refused-requires
-refused-requires c κs = search needs
+add-read-claims-2 : tie.Need-add-read-claims-2
+add-read-claims-2 c = let h = room (c .before .before .before) in search needs
+
+read-claims-requires : tie.Need-read-claims-requires
+read-claims-requires c κs = let h = room (c .before .before .before) in search needs
 
 returns : tie.Need-returns
-returns c = let o = c .before .before in
-    c .refused .ensures ∙ readImage-1 (o .before .before .before .pre) (sym (tested o) ∙ not-true _ (c .before .if1 .taken))
-
-returns-2 : tie.Need-returns-2
-returns-2 c = let o = c .before in
-    (λ i. record { number = 0; node = parsed (o .before) i }) ∙ readImage-0 (o .before .before .before .pre) (sym (tested o) ∙ not-false _ (c .if1 .left))
+returns c = let k = c .before in
+    let s = k .before .before .before in
+    (readIn-0 (s .pre) (c .read-claims .ensures), readInLent-0 (s .pre) (s .args .keys .now) (k .read-keys .ensures))
 
 pub contents-spec : {M : Type 1} → statement M
 contents-spec =
-    tie.close (tie.spec node-of-requires ordered-requires refused-requires returns returns-2)
+    tie.close
+    (tie.spec
+    read-keys-requires
+    mul-read-claims
+    add-read-claims
+    add-read-claims-2
+    read-claims-requires
+    returns)

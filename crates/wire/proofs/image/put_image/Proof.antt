@@ -1,13 +1,19 @@
 -- `image::put_image` meets its contract: four blocks, each right after the one before, are the image. Assumes nothing.
 use borrow.Author.Needs.{needs}
+use Rattle.rule.specs.declared.node.Node.{Node}
+use Rattle.nodes.specs.Lent.{nodeWith}
 use Rattle.nodes.proofs.TakeLaws.{length-mapped}
 use Rattle.wire.specs.Image.{Shaped}
 use Rattle.wire.proofs.Images.{nodeBytes-put}
 use Rattle.wire.proofs.image.put_image.Statement.{statement}
 use Rattle.wire.proofs.image.put_image.Tie as tie
 
-shaped : (c : tie.Start) → Shaped (c .args .t2)
-shaped c = record { keys = search (needs, length-mapped); pending = search (needs, length-mapped) }
+-- the node whose image it is
+abbrev given : tie.Start → Node
+given s = nodeWith (s .args .keys .now) (s .args .n) (s .args .table) (s .args .m)
+
+shaped : (s : tie.Start) → Shaped (given s)
+shaped s = record { keys = s .pre .long; pending = search (needs, length-mapped) }
 
 mul-at : tie.Need-mul-at
 mul-at c = search needs
@@ -35,11 +41,11 @@ same-length c = search needs
 
 returns : tie.Need-returns
 returns c = let fourth = c .before .before in
-    let third = fourth .before .before .before .before .before in
+    let third = fourth .before .before .before .before in
     let second = third .before .before .before .before in
-    let first = second .before .before .before .before .before .before .before in
-    let start = first .before .before .before in
-    nodeBytes-put (start .args .t2) (shaped start) (start .pre .keys) (start .pre .pending) (start .args .out .now) (start .pre .enough)
+    let first = second .before .before .before .before in
+    let start = first .before .before .before .before in
+    nodeBytes-put (given start) (shaped start) (start .pre .keys) (start .pre .pending) (start .args .out .now) (start .pre .enough)
     (first .write .ensures)
     (second .write-keys .ensures)
     (third .write2 .ensures)

@@ -4,7 +4,6 @@ use native.Mathlib.Omega.{arith}
 use mathlib.Core.Path.{_≡_, refl}
 use borrow.Author.Needs.{needs}
 use lib.ListN.{length, drop, length-set}
-use Rattle.claims.specs.Store.{limit}
 use Rattle.rule.specs.Call.{writtenOver}
 use Rattle.wire.specs.Run.{key, readRun}
 use Rattle.wire.proofs.Runs.{set-readRun}
@@ -12,13 +11,13 @@ use Rattle.wire.proofs.image.read_keys.Statement.{statement}
 use Rattle.wire.proofs.image.read_keys.Tie as tie
 
 abbrev Inv-loop : tie.InvT-loop
-Inv-loop bytes at n keys₀ i₀ keys i = (i ≤ n) × (length keys ≡ limit) × (keys ≡ writtenOver (readRun key i (drop at bytes)) keys₀)
+Inv-loop bytes at n keys₀ i₀ keys i = (i ≤ n) × (length keys ≡ length keys₀) × (keys ≡ writtenOver (readRun key i (drop at bytes)) keys₀)
 
 abbrev μ-loop : tie.MeasureT-loop
 μ-loop bytes at n keys₀ i₀ keys i = n - i
 
 loop-holds : tie.Need-loop-holds Inv-loop μ-loop
-loop-holds c = (search needs, search needs, refl)
+loop-holds c = (search needs, refl, refl)
 
 mul-read : tie.Need-mul-read Inv-loop μ-loop
 mul-read c = search needs
@@ -32,8 +31,8 @@ read-requires c κs = search needs
 mul-keys : tie.Need-mul-keys Inv-loop μ-loop
 mul-keys c = search needs
 
-element-write-keys : tie.Need-element-write-keys Inv-loop μ-loop
-element-write-keys c = search needs
+slice-write-keys : tie.Need-slice-write-keys Inv-loop μ-loop
+slice-write-keys c = search needs
 
 add-i : tie.Need-add-i Inv-loop μ-loop
 add-i c = search needs
@@ -44,11 +43,14 @@ loop-less c = search needs
 loop-again : tie.Need-loop-again Inv-loop μ-loop
 loop-again c = let t = c .before in
     let l = t .before .loop in
-    let a = t .before .before .before .args in
+    let a = t .before .before .before .before .args in
     (search needs, rw length-set (l .inv .1), set-readRun key (a .keys .now) (a .bytes .now) (a .at) (l .i) (omega arith) (l .inv .2) (c .read .ensures))
 
+same-length : tie.Need-same-length Inv-loop μ-loop
+same-length c = search needs
+
 returns : tie.Need-returns Inv-loop μ-loop
-returns c = let e : c .before .loop .i ≡ c .before .before .before .args .n = omega arith in
+returns c = let e : c .before .loop .i ≡ c .before .before .before .before .args .n = omega arith in
     rw (← e) (c .before .loop .inv .2)
 
 pub read-keys-spec : {M : Type 1} → statement M
@@ -62,8 +64,9 @@ read-keys-spec =
     add-read
     read-requires
     mul-keys
-    element-write-keys
+    slice-write-keys
     add-i
     loop-less
     loop-again
+    same-length
     returns)

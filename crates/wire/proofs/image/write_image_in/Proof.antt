@@ -1,89 +1,99 @@
 -- `image::write_image_in` meets its contract: one law for each way. Assumes nothing.
 use Prim.Native.Nat.{ℕ, _≤_, _<_, _+_, _*_}
 use native.Mathlib.Omega.{arith}
-use mathlib.Core.Path.{_≡_, _∙_}
+use mathlib.Core.Bool.{true}
+use mathlib.Core.Path.{_≡_, sym, _∙_}
 use borrow.Author.Needs.{needs}
+use borrow.Author.Tests.{not-true, not-false}
 use lib.ListN.{length}
 use Rattle.claims.specs.Store.{limit}
+use Rattle.rule.specs.declared.node.Node.{Node}
 use Rattle.rule.specs.Table.{tableLimit}
-use Rattle.wire.specs.Claim.{keyWidth, countWidth, claimSize}
-use Rattle.wire.specs.Image.{keySection, claimSection, sectionLength, nodeBytes, Shaped}
-use Rattle.wire.proofs.Images.{length-nodeBytes, writeImageIn-keys, writeImageIn-pending, writeImageIn-15, writeImageIn-0}
+use Rattle.nodes.specs.Lent.{nodeWith}
 use Rattle.nodes.proofs.TakeLaws.{length-mapped}
+use Rattle.wire.specs.Claim.{keyWidth, countWidth, claimSize}
+use Rattle.wire.specs.Image.{keySection, claimSection, sectionLength, nodeBytes}
+use Rattle.wire.specs.Lent.{countable}
+use Rattle.wire.proofs.Images.{countable-yes, length-nodeBytes, writeImageIn-1, writeImageIn-15, writeImageIn-0}
 use Rattle.wire.proofs.image.write_image_in.Statement.{statement}
 use Rattle.wire.proofs.image.write_image_in.Tie as tie
 
-few : (c : tie.Else1) → c .before .before .before .args .node .store .count ≤ limit
-few c = omega (arith, c .if1 .left)
+-- the node whose image it is
+abbrev given : tie.Start → Node
+given s = nodeWith (s .args .keys .now) (s .args .held) (s .args .table) (s .args .count)
 
-several : (c : tie.Else2) → c .before .before .before .before .before .args .node .count ≤ tableLimit
-several c = omega (arith, c .if2 .left)
+places : (s : tie.Start) → length (s .args .table) ≡ tableLimit
+places s = search (needs, length-mapped)
 
-shaped : (c : tie.Start) → Shaped (c .args .node)
-shaped c = record { keys = search (needs, length-mapped); pending = search (needs, length-mapped) }
+fits : (e : tie.Else1) → let a = e .before .before .before .before .args in countable (a .keys .now) (a .held) (a .count) ≡ true
+fits e = sym (e .before .is-countable .ensures) ∙ not-false _ (e .if1 .left)
 
-long : (c : tie.Else2) → let n = c .before .before .before .before .before .args .node in length (nodeBytes n) ≡ sectionLength keySection (n .store .count) + sectionLength claimSection (n .count)
-long c = length-nodeBytes (c .before .before .before .before .before .args .node) (shaped (c .before .before .before .before .before)) (few (c .before .before)) (several c)
+counts : (e : tie.Else1) → let a = e .before .before .before .before .args in (length (a .keys .now) ≡ limit) × (a .held ≤ limit) × (a .count ≤ tableLimit)
+counts e = let a = e .before .before .before .before .args in countable-yes (a .keys .now) (a .held) (a .count) (fits e)
 
 -- the length as the code adds it up
-same : (n m : ℕ) {l : ℕ} → l ≡ sectionLength keySection n + sectionLength claimSection m → countWidth + keyWidth * n + countWidth + claimSize * m ≡ l
-same n m e = rw e (omega arith)
+long : (e : tie.Else1) → let s = e .before .before .before .before in
+    countWidth + keyWidth * s .args .held + countWidth + claimSize * s .args .count ≡ length (nodeBytes (given s))
+long e =
+    let s = e .before .before .before .before in
+    let (whole, few, several) = counts e in
+    rw (length-nodeBytes (given s) (record { keys = whole; pending = places s }) few several) (omega arith)
+
+is-countable-requires : tie.Need-is-countable-requires
+is-countable-requires c κs = search needs
 
 returns : tie.Need-returns
-returns c = let a = c .before .before .before .args in writeImageIn-keys (a .node) (a .out .now) (c .if1 .taken)
-
-returns-2 : tie.Need-returns-2
-returns-2 c = let a = c .before .before .before .before .before .args in writeImageIn-pending (a .node) (a .out .now) (few (c .before .before)) (c .if2 .taken)
+returns c = let s = c .before .before .before .before in writeImageIn-1 (given s) (s .args .out .now) (sym (c .before .is-countable .ensures) ∙ not-true _ (c .if1 .taken))
 
 mul-length : tie.Need-mul-length
-mul-length c = search needs
+mul-length c = let h = counts c in search needs
 
 add-length : tie.Need-add-length
-add-length c = search needs
+add-length c = let h = counts c in search needs
 
 add-length-2 : tie.Need-add-length-2
-add-length-2 c = search needs
+add-length-2 c = let h = counts c in search needs
 
 mul-length-2 : tie.Need-mul-length-2
-mul-length-2 c = search needs
+mul-length-2 c = let h = counts c in search needs
 
 add-length-3 : tie.Need-add-length-3
-add-length-3 c = search needs
+add-length-3 c = let h = counts c in search needs
 
-returns-3 : tie.Need-returns-3
-returns-3 c =
-    let e = c .before .before .before in
-    let a = e .before .before .before .before .before .args in
-    writeImageIn-15 (a .node) (a .out .now) (few (e .before .before)) (several e) (rw (long e) (omega (arith, c .if3 .taken)))
+returns-2 : tie.Need-returns-2
+returns-2 c =
+    let e = c .before in
+    let s = e .before .before .before .before in
+    writeImageIn-15 (given s) (s .args .out .now) (fits e) (rw (← long e) (omega (arith, c .if2 .taken)))
 
 put-image-requires : tie.Need-put-image-requires
 put-image-requires c κs =
-    let e = c .before .before .before .before in
-    record { keys = few (e .before .before); pending = several e; enough = omega (arith, c .before .if3 .left) }
+    let (whole, few, several) = counts (c .before .before) in
+    record { long = whole; keys = few; pending = several; enough = omega (arith, c .before .if2 .left) }
 
 same-length : tie.Need-same-length
 same-length c = search needs
 
-returns-4 : tie.Need-returns-4
-returns-4 c =
+returns-3 : tie.Need-returns-3
+returns-3 c =
     let p = c .before .before in
-    let e = p .before .before .before .before .before in
-    let a = e .before .before .before .before .before .args in
-    let w = writeImageIn-0 (a .node) (a .out .now) (few (e .before .before)) (several e) (rw (long e) (omega (arith, p .before .before .if3 .left))) in
-    ((λ i. record { number = 0; length = same (a .node .store .count) (a .node .count) (long e) i }) ∙ w .0, p .put-image .ensures ∙ w .1)
+    let e = p .before .before .before in
+    let s = e .before .before .before .before in
+    let w = writeImageIn-0 (given s) (s .args .out .now) (fits e) (rw (← long e) (omega (arith, p .before .before .if2 .left))) in
+    ((λ i. record { number = 0; length = long e i }) ∙ w .0, p .put-image .ensures ∙ w .1)
 
 pub write-image-in-spec : {M : Type 1} → statement M
 write-image-in-spec =
     tie.close
     (tie.spec
+    is-countable-requires
     returns
-    returns-2
     mul-length
     add-length
     add-length-2
     mul-length-2
     add-length-3
-    returns-3
+    returns-2
     put-image-requires
     same-length
-    returns-4)
+    returns-3)

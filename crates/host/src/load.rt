@@ -1,0 +1,29 @@
+// The node of an image: its keys in a lent run of zeros, and the rest.
+use claims::Store;
+use rounds::Rest;
+use rounds::ordered_lent;
+use wire::read_image_in;
+ghost use mathlib.Core.Path.{_≡_};
+ghost use Rattle.claims.specs.Store.{limit, zeros};
+ghost use Rattle.host.specs.Call.{Loaded};
+
+// Loads an image. Asks 14 and 1.
+pub(crate) fn load(image: &[u8], keys: &mut [u64; Store::LIMIT]) -> Rest
+    requires { ⌜ now keys ≡ zeros limit ⌝ }
+    ensures { λ r. ⌜ Loaded (now (image .entry)) (now (keys .exit)) r ⌝ }
+{
+    let read = read_image_in(image, keys);
+    if read.number != 0 {
+        return read;
+    }
+    let table = read.table;
+    if !ordered_lent(&keys[..], read.held, table, read.count) {
+        return Rest {
+            number: 1,
+            held: read.held,
+            table,
+            count: read.count,
+        };
+    }
+    read
+}

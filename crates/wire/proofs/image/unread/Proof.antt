@@ -1,0 +1,13 @@
+-- `image::unread` meets its contract. Assumes nothing.
+use borrow.Author.Needs.{needs}
+use Rattle.wire.proofs.image.unread.Statement.{statement}
+use Rattle.wire.proofs.image.unread.Tie as tie
+
+no-claims-requires : tie.Need-no-claims-requires
+no-claims-requires c κs = search needs
+
+returns : tie.Need-returns
+returns c = λ i. record { number = c .before .args .number; held = 0; table = c .no-claims .ensures i; count = 0 }
+
+pub unread-spec : {M : Type 1} → statement M
+unread-spec = tie.close (tie.spec no-claims-requires returns)
