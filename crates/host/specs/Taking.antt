@@ -1,5 +1,5 @@
 -- The claims of a frame, taken by a node one after the other (document 01, "Host calls": "takes each claim in turn"), and question 6 for each of them.
--- Not here: taking a single claim (`taken` of `rounds`). Assumes nothing.
+-- Not here: taking a single claim (`taken` of `rule`). Assumes nothing.
 use Prim.Native.Nat.{ℕ}
 use mathlib.Core.Bool.{cond}
 use mathlib.Core.List.{List, [], _∷_}

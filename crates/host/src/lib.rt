@@ -11,7 +11,7 @@ use crate::sent::FRAMES;
 use crate::sent::send;
 use crate::turn::take_in_turn;
 use claims::Store;
-use rounds::Rest;
+use rule::Rest;
 use wire::Imaged;
 use wire::read_frame;
 use wire::write_image_in;

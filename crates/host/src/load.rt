@@ -1,7 +1,7 @@
 // The node of an image: its keys in a lent run of zeros, and the rest.
 use claims::Store;
-use rounds::Rest;
-use rounds::ordered_lent;
+use nodes::ordered_lent;
+use rule::Rest;
 use wire::read_image_in;
 ghost use mathlib.Core.Path.{_≡_};
 ghost use Rattle.claims.specs.Store.{limit, zeros};

@@ -1,7 +1,7 @@
 // A beat, and the claims that it sends in frames.
 use claims::Claim;
-use rounds::Node;
-use rounds::beat_in;
+use nodes::beat_in;
+use rule::Node;
 use wire::Framed;
 use wire::write_frame;
 use wire::write_image_in;

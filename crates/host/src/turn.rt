@@ -1,9 +1,9 @@
 // The claims of a frame, taken in turn.
 use claims::Claim;
 use claims::Store;
-use rounds::Node;
-use rounds::Rest;
-use rounds::take_next;
+use nodes::take_next;
+use rule::Node;
+use rule::Rest;
 use wire::Framed;
 ghost use mathlib.Core.Path.{_≡_};
 ghost use mathlib.Core.Bool.{true};

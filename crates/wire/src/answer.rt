@@ -4,7 +4,7 @@ use crate::frame;
 use crate::number;
 use claims::Claim;
 use claims::Store;
-use rounds::Node;
+use rule::Node;
 
 // The claims of a frame, zeros past the count; all zeros where it was refused.
 pub struct Framed {
