@@ -13,7 +13,8 @@ fn main() {
     println!("cargo::rerun-if-changed=build.rs");
     println!("cargo::rerun-if-env-changed={OVERRIDE}");
     // Two folders up from this crate's.
-    let root = Path::new(env!("CARGO_MANIFEST_DIR")).ancestors().nth(2);
+    let here = env::var_os("CARGO_MANIFEST_DIR").map(PathBuf::from);
+    let root = here.as_deref().and_then(|here| here.ancestors().nth(2));
     let own = root.unwrap_or(Path::new("/")).join(OWN);
     let folder = env::var_os(OVERRIDE).map_or(own, PathBuf::from);
     let archive = folder.join("libhost.a");

@@ -1,6 +1,7 @@
 //! The program `drill`, which makes any public call of the proved libraries
 //! on what it reads. Its requests are told in crates/drill/src/main.rt.
 
+use std::env;
 use std::io::{BufReader, Read, Write};
 use std::path::PathBuf;
 use std::process::{Child, ChildStdin, ChildStdout, Command, Stdio};
@@ -45,8 +46,11 @@ pub struct Drill {
 /// # Panics
 /// If it isn't there, with the command that makes it.
 pub fn made_by_rt(file: &str, command: &str) -> PathBuf {
-    let root = PathBuf::from(env!("CARGO_MANIFEST_DIR")).join("../..");
-    let path = root.join("target").join(file);
+    // Asked when the test runs: a build folder that was copied from another
+    // checkout must not find that one's programs.
+    let here = env::var_os("CARGO_MANIFEST_DIR");
+    let here = here.map_or(PathBuf::from(env!("CARGO_MANIFEST_DIR")), PathBuf::from);
+    let path = here.join("../../target").join(file);
     assert!(
         path.exists(),
         "target/{file} is missing: run `{command}` in the repository's root first",
