@@ -1,4 +1,4 @@
--- Worked examples over the call definitions, as one table: document 01's rehearsal, record by record; a false match; a 65th claim; a beat.
+-- Worked examples over the call definitions, as one table: document 01's rehearsal, record by record; a false match; a 65th claim; a beat; nodes in order and not.
 -- That each row gives what is wanted is one law, `cases-hold` of proofs/Cases. Assumes nothing.
 use Prim.Native.Nat.{ℕ, zero, suc}
 use mathlib.Core.Bool.{Bool, true, false}
@@ -107,6 +107,11 @@ table =
     ∷ row (words-are (beatenLent busyNode (replicate 517 7))) (words-are (1 ∷ 16 ∷ 21 ∷ 3 ∷ 4 ∷ 4 ∷ 4 ∷ 1 ∷ 1 ∷ 16 ∷ 21 ∷ 3 ∷ replicate 505 7))
     -- one word too few: 15
     ∷ row (beat-is (beaten busyNode (replicate 515 7))) (beat-is (record { number = 15; node = busyNode; written = 0 }))
-    -- the empty node is in order
+    -- the empty node is in order; one with equal or falling keys is not, nor one with a pending claim whose lo or hi its store lacks
     ∷ row (truth-is (nodeInOrder emptyNode)) (truth-is true)
+    ∷ row (truth-is (nodeInOrder (nodeOf (5 ∷ 5 ∷ []) []))) (truth-is false)
+    ∷ row (truth-is (nodeInOrder (nodeOf (6 ∷ 5 ∷ []) []))) (truth-is false)
+    ∷ row (truth-is (nodeInOrder (nodeOf (1 ∷ 16 ∷ []) (claim 1 16 17 2 ∷ [])))) (truth-is true)
+    ∷ row (truth-is (nodeInOrder (nodeOf (2 ∷ 16 ∷ []) (claim 1 16 17 2 ∷ [])))) (truth-is false)
+    ∷ row (truth-is (nodeInOrder (nodeOf (1 ∷ 15 ∷ []) (claim 1 16 17 2 ∷ [])))) (truth-is false)
     ∷ []
