@@ -54,6 +54,32 @@ pub(crate) fn sum_of(keys: &[u64]) -> u64
     sum
 }
 
+// The XOR of all keys of one run, and that of another.
+pub(crate) struct Sums {
+    pub(crate) one: u64,
+    pub(crate) other: u64,
+}
+
+// The XOR of all keys of each of two runs, of which the other is no longer than the one: side by side, since neither sum waits for the other.
+pub(crate) fn sums_of(one: &[u64], other: &[u64]) -> Sums
+    requires { ⌜ length (now other) ≤ length (now one) ⌝ }
+    ensures { λ r. ⌜ (r .one ≡ xorAll (now (one .entry))) × (r .other ≡ xorAll (now (other .entry))) ⌝ }
+{
+    let mut a = 0;
+    let mut b = 0;
+    let mut i = 0;
+    while i < other.len() {
+        a = a ^ one[i];
+        b = b ^ other[i];
+        i += 1;
+    }
+    while i < one.len() {
+        a = a ^ one[i];
+        i += 1;
+    }
+    Sums { one: a, other: b }
+}
+
 // 1 for yes and 0 for no.
 fn bit(yes: bool) -> usize
     ensures { λ r. ⌜ (r ≡ cond yes 1 0) × (r ≤ 1) ⌝ }

@@ -9,6 +9,7 @@ use crate::leaf::put;
 use crate::leaf::quarter;
 use crate::leaf::rises;
 use crate::leaf::sum_of;
+use crate::leaf::sums_of;
 use crate::store::Store;
 ghost use mathlib.Core.Path.{_≡_};
 ghost use mathlib.Core.Bool.{Bool, false};
@@ -291,9 +292,8 @@ fn answer_at(keys: &[u64], first: usize, last: usize, claim: Claim) -> Answer
 {
     let mid = first + 1 + (last - first + 1) / 2;
     let end = last + 1;
-    let left = sum_of(&keys[first..mid]);
-    let right = sum_of(&keys[mid..end]);
-    answer_with(keys, first, last, left, right, claim)
+    let sums = sums_of(&keys[first..mid], &keys[mid..end]);
+    answer_with(keys, first, last, sums.one, sums.other, claim)
 }
 
 // The answer to a claim whose lo and hi stand at first and last, if these are positions.

@@ -26,7 +26,7 @@ pub struct Reached {
     pub tail: usize,
 }
 
-// How many keys the union of two rising runs has.
+// How many keys the union of two rising runs has. Two that meet hold mostly the same keys, so equal ones come first.
 fn union_count(left: &[u64], right: &[u64]) -> usize
     requires { ⌜ (rising (now left) ≡ true) × (rising (now right) ≡ true) × (length (now left) ≤ limit) × (length (now right) ≤ limit) ⌝ }
     ensures { λ r. ⌜ r ≡ length (union (now (left .entry)) (now (right .entry))) ⌝ }
@@ -37,10 +37,12 @@ fn union_count(left: &[u64], right: &[u64]) -> usize
     while i < left.len() && j < right.len() {
         let a = left[i];
         let b = right[j];
-        if a <= b {
+        if a == b {
             i += 1;
-        }
-        if b <= a {
+            j += 1;
+        } else if a < b {
+            i += 1;
+        } else {
             j += 1;
         }
         n += 1;

@@ -23,30 +23,25 @@ Inv-loop left right i₀ j₀ n₀ i j n =
 abbrev μ-loop : tie.MeasureT-loop
 μ-loop left right i₀ j₀ n₀ i j n = length left - i + (length right - j)
 
--- a turn: by which key is less, or neither
-moved : (c : tie.Joined3 Inv-loop μ-loop)
-    → (c .before .if2 .i ≤ length (now (c .before .before .before .before .before .before .before .args .left)))
-    × (c .if3 .j ≤ length (now (c .before .before .before .before .before .before .before .args .right)))
-    × (c .before .before .before .before .before .before .loop .i + c .before .before .before .before .before .before .loop .j + 1 ≤ c .before .if2 .i + c .if3 .j)
-    × (c .before .before .before .before .before .before .loop .n + 1 + length (union (drop (c .before .if2 .i) (now (c .before .before .before .before .before .before .before .args .left))) (drop (c .if3 .j) (now (c .before .before .before .before .before .before .before .args .right)))) ≡ length (union (now (c .before .before .before .before .before .before .before .args .left)) (now (c .before .before .before .before .before .before .before .args .right))))
+-- a turn: the keys are equal, or one is less
+moved : (c : tie.Joined2 Inv-loop μ-loop) → let s = c .before .before .before .before .before in
+    (c .if2 .i ≤ length (now (s .before .args .left))) × (c .if2 .j ≤ length (now (s .before .args .right))) × (s .loop .i + s .loop .j + 1 ≤ c .if2 .i + c .if2 .j)
+    × (s .loop .n + 1 + length (union (drop (c .if2 .i) (now (s .before .args .left))) (drop (c .if2 .j) (now (s .before .args .right)))) ≡ length (union (now (s .before .args .left)) (now (s .before .args .right))))
 moved c =
-    let s = c .before .before .before .before .before .before in
+    let t = c .before .before .before in
+    let s = t .before .before in
     let l = now (s .before .args .left) in
     let m = now (s .before .args .right) in
     let rl = rising-true l (s .before .pre .0) in
     let rm = rising-true m (s .before .pre .1) in
-    let h = c .before .before .before .before .before .loop-test .taken in
-    let g : s .loop .j < length m = ltb-true (s .loop .j) (length m) (c .before .before .before .before .if1 .taken) in
+    let h = t .before .loop-test .taken in
+    let g : s .loop .j < length m = ltb-true (s .loop .j) (length m) (t .if1 .taken) in
     ⊎-elim
-    (λ w. ⊎-elim
-    (λ v. rw (w .1, v .1) (omega arith, omega arith, omega arith, count-both l m rl rm (s .loop .i) (s .loop .j) (s .loop .n) (s .loop .inv .3) h g (omega (arith, w .0 .taken, v .0 .taken))))
-    (λ v. rw (w .1, v .1) (omega arith, omega arith, omega arith, count-less l m rl rm (s .loop .i) (s .loop .j) (s .loop .n) (s .loop .inv .3) h g (v .0 .left)))
-    (c .if3 .came))
-    (λ w. ⊎-elim
-    (λ v. rw (w .1, v .1) (omega arith, omega arith, omega arith, count-more l m rl rm (s .loop .i) (s .loop .j) (s .loop .n) (s .loop .inv .3) h g (w .0 .left)))
-    (λ v. absurd (omega (arith, w .0 .left, v .0 .left)))
-    (c .if3 .came))
-    (c .before .if2 .came)
+    (λ w. rw (w .1, w .2) (omega arith, omega arith, omega arith, count-both l m rl rm (s .loop .i) (s .loop .j) (s .loop .n) (s .loop .inv .3) h g (w .0 .taken)))
+    (⊎-elim
+    (λ w. rw (w .2, w .3) (omega arith, omega arith, omega arith, count-less l m rl rm (s .loop .i) (s .loop .j) (s .loop .n) (s .loop .inv .3) h g (w .1 .taken)))
+    (λ w. rw (w .2, w .3) (omega arith, omega arith, omega arith, count-more l m rl rm (s .loop .i) (s .loop .j) (s .loop .n) (s .loop .inv .3) h g (let p = w .0 .left in let q = w .1 .left in omega arith))))
+    (c .if2 .came)
 
 loop-holds : tie.Need-loop-holds Inv-loop μ-loop
 loop-holds c = (omega arith, omega arith, omega arith, omega arith)
@@ -69,19 +64,25 @@ add-i c = search needs
 add-j : tie.Need-add-j Inv-loop μ-loop
 add-j c = search needs
 
+add-i-2 : tie.Need-add-i-2 Inv-loop μ-loop
+add-i-2 c = search needs
+
+add-j-2 : tie.Need-add-j-2 Inv-loop μ-loop
+add-j-2 c = search needs
+
 add-n : tie.Need-add-n Inv-loop μ-loop
 add-n c = search needs
 
 loop-less : tie.Need-loop-less Inv-loop μ-loop
 loop-less c =
     let t = moved c in
-    let h = c .before .before .before .before .before .loop-test .taken in
+    let h = c .before .before .before .before .loop-test .taken in
     omega arith
 
 loop-again : tie.Need-loop-again Inv-loop μ-loop
 loop-again c =
     let t = moved c in
-    let n = c .before .before .before .before .before .before .loop .inv .2 in
+    let n = c .before .before .before .before .before .loop .inv .2 in
     (t .0, t .1, omega arith, t .3)
 
 sub-result : tie.Need-sub-result Inv-loop μ-loop
@@ -117,6 +118,8 @@ union-count-spec =
     shared-slice-read-b
     add-i
     add-j
+    add-i-2
+    add-j-2
     add-n
     loop-less
     loop-again
