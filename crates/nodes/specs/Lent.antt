@@ -1,6 +1,6 @@
--- Calls between our own crates: a claim taken into a node that was tested before, so that a frame of claims pays question 1 once. They are total, and
--- no rule of document 01. What they mean where the node is in order is said by laws (proofs/TakeLaws), by the definitions of Table, Node and Call.
--- Assumes nothing.
+-- Calls between our own crates, on a node whose keys are lent, so that none is copied: the test of its order, and a claim taken into one that was tested
+-- before, so that a frame of claims pays question 1 once. They are total, and no rule of document 01. What they mean where the node is in order is said by
+-- laws (proofs/TakeLaws), by the definitions of Table, Node and Call. Assumes nothing.
 use mathlib.Core.Path.{_≡_}
 use Prim.Native.Nat.{ℕ, zero, suc, _+_, _-_, _/_}
 use mathlib.Core.Bool.{Bool, cond, not, _&&_}

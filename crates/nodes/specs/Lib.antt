@@ -1,5 +1,5 @@
 -- Calls between our own crates, and no rule of document 01: what they do to any content of a node.
---   Lent     taking a claim into a node that was tested already
---   Serving  a beat of a node that was tested already
+--   Lent     the node of a lent run of keys and the rest of it: the test of its order, and taking a claim into one that was tested already
+--   Serving  a beat of such a node
 pub mod Lent
 pub mod Serving

@@ -1,4 +1,4 @@
--- Laws of images: what the counts tell, as the code finds it; then what the three calls return, one law for each way that the code goes.
+-- Laws of images: what the counts tell, as the code finds it; then what the calls return, one law for each way that the code goes.
 -- Not here: the round trips (ImageTrips). Assumes nothing.
 use Prim.Native.Nat.{ℕ, _+_, _-_, _*_, _≤_, _<_}
 use native.Mathlib.Omega.{arith}

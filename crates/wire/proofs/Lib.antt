@@ -6,7 +6,7 @@
 --   Questions   what a call returns by its questions
 --   Frames      questions 10 to 13, and the two calls, path by path
 --   FrameTrips  the round trips of frames
---   Images      question 14, and the three calls, path by path
+--   Images      question 14, and the calls, path by path
 --   Sections    a section at the front of some bytes, both ways
 --   ImageTrips  the round trips of images
 --   Cases       the worked examples

@@ -8,7 +8,7 @@
 --   Image   images, read and written
 --   Told    what an image's counts tell, as the code hands it on
 --   Cases   worked examples, as one table
---   Lent    a call between our own crates, and no rule of document 01
+--   Lent    calls between our own crates, on lent keys, and no rule of document 01
 pub mod Number
 pub mod Claim
 pub mod Run
