@@ -15,20 +15,22 @@ use Rattle.claims.specs.declared.answer.Entered.{Entered}
 use Rattle.claims.specs.declared.answer.Made.{Made}
 use Rattle.claims.specs.declared.answer.Replied.{Replied}
 use Rattle.claims.specs.declared.claim.Claim.{Claim}
-use Rattle.claims.specs.declared.lent.Heard.{Heard}
+use Rattle.keys.specs.declared.lent.Added.{Added}
 use Rattle.claims.specs.declared.lent.Told.{Told}
-use Rattle.claims.specs.declared.store.Store.{Store}
-use Rattle.claims.specs.Store.{limit, keysOf, storeOf, inOrder, insert, insertAll}
+use Rattle.keys.specs.declared.store.Store.{Store}
+use Rattle.keys.specs.Store.{limit, keysOf, storeOf, inOrder, insert, insertAll}
 use Rattle.claims.specs.Claim.{claimOf, noClaim}
 use Rattle.claims.specs.Question.{firstNo, settle, question6, claimQuestions}
 use Rattle.claims.specs.Reply.{ends, hear, reply}
 use Rattle.claims.specs.Call.{judged, entered, made, replied}
-use Rattle.claims.specs.Lent.{orderedIn, addIn, keysAdding, makeIn, keysHearing, replyIn}
-use Rattle.claims.proofs.Tests.{lt-or-le}
-use Rattle.claims.proofs.Rising.{Rising}
-use Rattle.claims.proofs.Order.{inOrder-count, inOrder-rising, length-keysOf, storeOf-keysOf, count-storeOf}
+use Rattle.keys.specs.Lent.{orderedIn, addIn, keysAdding}
+use Rattle.claims.specs.Lent.{makeIn, keysHearing, replyIn}
+use Rattle.keys.proofs.Tests.{lt-or-le}
+use Rattle.keys.proofs.Rising.{Rising}
+use Rattle.keys.proofs.Order.{inOrder-count, inOrder-rising, length-keysOf, storeOf-keysOf, count-storeOf}
 use Rattle.claims.proofs.QuestionLaws.{Passes, passes, claimQuestions-numbered, firstNo-append-zero, firstNo-append-no}
-use Rattle.claims.proofs.LentLaws.{orderedIn-inOrder, addIn-fits, addIn-full, keysAdding-fits, keysAdding-full, makeIn-store, keysHearing-fits, keysHearing-full, replyIn-fits, replyIn-full}
+use Rattle.keys.proofs.LentLaws.{orderedIn-inOrder, addIn-fits, addIn-full, keysAdding-fits, keysAdding-full}
+use Rattle.claims.proofs.LentLaws.{makeIn-store, keysHearing-fits, keysHearing-full, replyIn-fits, replyIn-full}
 
 -- a store by its parts
 pub store-parts : (s : Store) (keys : List ℕ) (count : ℕ) → keys ≡ s .keys → count ≡ s .count → record { keys = keys; count = count } ≡ s
@@ -73,7 +75,7 @@ module _ (s : Store) (long : length (s .keys) ≡ limit) where
 
     -- `enter`
 
-    module _ (k : ℕ) (h : Heard) (after : List ℕ) (added : h ≡ addIn (s .keys) (s .count) k) (put : after ≡ keysAdding (s .keys) (s .count) k) where
+    module _ (k : ℕ) (h : Added) (after : List ℕ) (added : h ≡ addIn (s .keys) (s .count) k) (put : after ≡ keysAdding (s .keys) (s .count) k) where
       heard-is : h ≡ addIn (storeOf (keysOf s) .keys) (length (keysOf s)) k
       heard-is = added ∙ ap₂ (λ (keys : List ℕ) (n : ℕ). addIn keys n k) keys-are count-is
 
@@ -87,7 +89,7 @@ module _ (s : Store) (long : length (s .keys) ≡ limit) where
           let e = heard-is ∙ addIn-fits (keysOf s) rise k f in
           let grown = after-is ∙ keysAdding-fits (keysOf s) rise k f in
           let whole : record { keys = after; count = h .count } ≡ storeOf (insert k (keysOf s)) =
-          store-parts (storeOf (insert k (keysOf s))) after (h .count) grown (ap (λ (x : Heard). x .count) e ∙ sym (count-storeOf (insert k (keysOf s)))) in
+          store-parts (storeOf (insert k (keysOf s))) after (h .count) grown (ap (λ (x : Added). x .count) e ∙ sym (count-storeOf (insert k (keysOf s)))) in
           rw (in-order, lt-ltb (length (insert k (keysOf s))) (limit + 1) (omega arith))
           (λ i. record { number = e i .number; store = whole i })
 
@@ -97,7 +99,7 @@ module _ (s : Store) (long : length (s .keys) ≡ limit) where
       entered-full f =
           let e = heard-is ∙ addIn-full (keysOf s) rise k f in
           let kept = after-is ∙ (keysAdding-full (keysOf s) rise k f ∙ sym keys-are) in
-          let whole : record { keys = after; count = h .count } ≡ s = store-parts s after (h .count) kept (ap (λ (x : Heard). x .count) e ∙ sym count-is) in
+          let whole : record { keys = after; count = h .count } ≡ s = store-parts s after (h .count) kept (ap (λ (x : Added). x .count) e ∙ sym count-is) in
           rw (in-order, le-ltb (length (insert k (keysOf s))) (limit + 1) (omega arith))
           (λ i. record { number = e i .number; store = whole i })
 

@@ -1,81 +1,31 @@
 -- The calls on a lent run (src/lent.rt): one law for each way that the code goes, over the definitions of specs/Lent. What these mean where the run is
 -- a store in order is in LentLaws. Assumes nothing.
-use mathlib.Core.Path.{_≡_, refl, sym, _∙_, ap}
+use mathlib.Core.Path.{_≡_}
 use mathlib.Core.Bool.{true, false, _&&_}
 use mathlib.Core.List.{List}
-use Prim.Native.Nat.{ℕ, _+_, _-_, _≤_, _<_}
+use Prim.Native.Nat.{ℕ, _≤_, _<_}
 use native.Mathlib.Omega.{arith}
-use borrow.Author.Tests.{lt-ltb, le-ltb, le-leb, lt-leb, ltb-true, leb-true}
-use lib.Dec.{leb, ltb, eqb}
-use lib.ListN.{length, take, drop, getD, length-drop}
-use lib.Seq.{take-all}
+use borrow.Author.Tests.{lt-ltb, le-ltb, le-leb, lt-leb, eq-eqb, ne-eqb, ltb-true, leb-true}
+use lib.Dec.{leb, ltb}
+use lib.ListN.{length}
+use Rattle.keys.specs.declared.lent.Added.{Added}
+use Rattle.keys.specs.Store.{limit}
+use Rattle.keys.specs.Lent.{addBoth, keysBoth}
+use Rattle.keys.proofs.Tests.{and-left, and-right}
+use Rattle.claims.specs.declared.answer.Answer.{Answer}
 use Rattle.claims.specs.declared.answer.Answer.the-variants.{Refused}
 use Rattle.claims.specs.declared.claim.Claim.{Claim}
-use Rattle.claims.specs.declared.lent.Place.{Place}
-use Rattle.claims.specs.Store.{limit, rising, allZero}
 use Rattle.claims.specs.Claim.{claimOf, noClaim}
 use Rattle.claims.specs.Reply.{decide}
-use Rattle.claims.specs.Lent.{orderedIn, quartered, placeIn, putAt, putIn, within, Positions, makeIn, helpIn, answerIn}
-use Rattle.claims.proofs.Tests.{and-left, and-right}
-use Rattle.claims.proofs.Quartering.{quartered-lt}
+use Rattle.claims.specs.Lent.{hearIn, keysHearing, within, Positions, makeIn, helpIn, answerIn, replyIn}
 
--- `ordered_in`
+-- `hear_in`
 
-module _ (keys : List ℕ) (count : ℕ) where
-  pub ordered-long : limit < count → false ≡ orderedIn keys count
-  unfolding orderedIn
-  ordered-long h = rw (lt-leb count limit h)
-
-  pub ordered-short : count ≤ limit → length keys < count → false ≡ orderedIn keys count
-  unfolding orderedIn
-  ordered-short h g = rw (le-leb count limit h, lt-leb count (length keys) g)
-
-  pub ordered-not : count ≤ limit → count ≤ length keys → rising (take count keys) ≡ false → false ≡ orderedIn keys count
-  unfolding orderedIn
-  ordered-not h g e = rw (le-leb count limit h, le-leb count (length keys) g, e)
-
-  pub ordered-blank : count ≤ limit → count ≤ length keys → rising (take count keys) ≡ true
-      → allZero (take (length keys - count) (drop count keys)) ≡ orderedIn keys count
-  unfolding orderedIn
-  ordered-blank h g e =
-      let all : take (length keys - count) (drop count keys) ≡ drop count keys =
-      take-all (length keys - count) (drop count keys) (omega (arith, length-drop count keys)) in
-      rw (le-leb count limit h, le-leb count (length keys) g, e, all)
-
--- `place_in`
-
-abbrev pub nowhere : Place
-nowhere = record { at = 0; held = false }
-
-module _ (keys : List ℕ) (count key : ℕ) where
-  pub place-none : count ≡ 0 → nowhere ≡ placeIn keys count key
-  unfolding placeIn
-  place-none e = rw (le-ltb 0 count (omega arith))
-
-  pub place-short : (count ≡ 0 → ⊥) → length keys < count → nowhere ≡ placeIn keys count key
-  unfolding placeIn
-  place-short f h = rw (lt-ltb 0 count (omega arith), lt-leb count (length keys) h)
-
-  module _ (some : count ≡ 0 → ⊥) (fits : count ≤ length keys) (at : ℕ) (found : at ≡ quartered count keys key 0 count) where
-    pub place-lt : at < count
-    place-lt = omega (arith, quartered-lt count keys key 0 count (omega arith))
-
-    pub place-after : getD keys at 0 < key → record { at = at + 1; held = false } ≡ placeIn keys count key
-    unfolding placeIn
-    place-after h = rw (lt-ltb 0 count (omega arith), le-leb count (length keys) fits, ← found, lt-ltb (getD keys at 0) key h)
-
-    pub place-at : key ≤ getD keys at 0 → record { at = at; held = eqb (getD keys at 0) key } ≡ placeIn keys count key
-    unfolding placeIn
-    place-at h = rw (lt-ltb 0 count (omega arith), le-leb count (length keys) fits, ← found, le-ltb (getD keys at 0) key h)
-
--- `put_in`
-
-module _ (p : Place) (count key : ℕ) (keys : List ℕ) where
-  pub putIn-held : p .held ≡ true → keys ≡ putIn p count key keys
-  putIn-held e = rw e
-
-  pub putIn-missing : p .held ≡ false → putAt (p .at) count key keys ≡ putIn p count key keys
-  putIn-missing e = rw e
+module _ (keys : List ℕ) (count : ℕ) (c : Claim) where
+  pub heard-both : (h : Added) (after : List ℕ) → h ≡ addBoth keys count (c .lo) (c .hi) → after ≡ keysBoth keys count (c .lo) (c .hi)
+      → (h ≡ hearIn keys count c) × (after ≡ keysHearing keys count c)
+  unfolding hearIn keysHearing
+  heard-both h after f g = (f, g)
 
 -- `inside`
 
@@ -121,3 +71,16 @@ module _ (keys : List ℕ) (count first last : ℕ) where
       → decide (claimOf first last keys) c (helpIn keys first last) ≡ answerIn keys count first last c
   unfolding answerIn
   answerIn-decide c e = rw e
+
+-- `reply_in`
+
+module _ (keys : List ℕ) (count : ℕ) (c : Claim) (h : Added) (heard : h ≡ hearIn keys count c) where
+  pub reply-full : (h .number ≡ 0 → ⊥) → record { count = h .count; answer = Refused (h .number) } ≡ replyIn keys count c
+  unfolding replyIn
+  reply-full f = rw (← heard, ne-eqb (h .number) 0 f)
+
+  pub reply-told : h .number ≡ 0 → (after : List ℕ) → after ≡ keysHearing keys count c
+      → (a : Answer) → a ≡ answerIn after (h .count) (h .first) (h .last) c
+      → record { count = h .count; answer = a } ≡ replyIn keys count c
+  unfolding replyIn
+  reply-told e after f a g = rw (← heard, eq-eqb (h .number) 0 e, ← f, g)

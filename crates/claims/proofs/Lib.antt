@@ -1,9 +1,4 @@
--- The laws of the definitions of specs/. A file uses only those named before it.
---   Tests         conjunctions, the cases of two numbers
---   Rising        rising lists of keys, by their members
---   Insert        entering keys
---   Position      the position of a key
---   Order         a store in order
+-- The laws of the definitions of specs/, over those of `keys`. A file uses only those named before it.
 --   Xor           the XOR of a list
 --   Between       the keys from lo to hi
 --   Span          the keys at positions i to j, which are those from key i to key j
@@ -12,14 +7,10 @@
 --   ReplyLaws     what a reply says; a match that is not false
 --   Cases         the twelve lettered cases
 -- The laws of the code. Not cited from outside, but for LentLaws.
---   Loops, Halving, Quartering, Putting     one loop each
---   Judging, Lending, Adding, HalfSums     each way that the code of src/claim.rt and src/lent.rt goes
+--   Summing, HalfSums   the sums of a run and of its halves
+--   Judging, Lending    each way that the code of src/claim.rt and src/lent.rt goes
 --   LentLaws      what the calls on a lent run mean where the run is a store in order
-pub mod Tests
-pub mod Rising
-pub mod Insert
-pub mod Position
-pub mod Order
+--   Calling       each way that the code of src/calls.rt goes
 pub mod Xor
 pub mod Between
 pub mod Span
@@ -27,14 +18,9 @@ pub mod QuestionLaws
 pub mod ClaimLaws
 pub mod ReplyLaws
 pub mod Cases
-mod Loops
-mod Halving
-mod Quartering
-mod Putting
+mod Summing
 mod Judging
 mod HalfSums
 mod Lending
-mod Adding
-mod Finding
 pub mod LentLaws
 mod Calling

@@ -1,12 +1,11 @@
--- The definitions that the contracts of `claims` cite, in the order of document 01. Read them from the top.
---   Store     Keys and the store
+-- The definitions that the contracts of `claims` cite, in the order of document 01. Read them from the top,
+-- after Store of the crate `keys` (Keys and the store).
 --   Claim     Claims
 --   Question  Questions 1 to 7, and the first one answered no
 --   Reply     The reply to one claim; a false match
 --   Call      what each public call returns, for any content
 --   Lent      the calls on a lent run of keys: an interface between our own crates, and no rule of document 01
 --   Cases     the twelve lettered cases
-pub mod Store
 pub mod Claim
 pub mod Question
 pub mod Reply

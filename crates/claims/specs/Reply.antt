@@ -7,7 +7,7 @@ use lib.Dec.{ltb, eqb}
 use Rattle.claims.specs.declared.claim.Claim.{Claim}
 use Rattle.claims.specs.declared.answer.Answer.{Answer}
 use Rattle.claims.specs.declared.answer.Answer.the-variants.{Refused, Match, Ask, One, Two}
-use Rattle.claims.specs.Store.{position, insertAll}
+use Rattle.keys.specs.Store.{position, insertAll}
 use Rattle.claims.specs.Claim.{claimOf, between}
 
 -- the ends of a claim, which question 6 counts where they are missing

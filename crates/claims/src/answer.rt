@@ -1,6 +1,6 @@
 // What the calls answer. A number is that of the first question of document 01 answered no, or 0.
 use crate::claim::Claim;
-use crate::store::Store;
+use keys::Store;
 
 // The answer to one claim. The store stands beside it, in `Replied`.
 pub enum Answer {

@@ -5,11 +5,11 @@ use crate::answer::Made;
 use crate::answer::Replied;
 use crate::claim::Claim;
 use crate::claim::judge;
-use crate::lent::add_in;
 use crate::lent::make_in;
-use crate::lent::ordered_in;
 use crate::lent::reply_in;
-use crate::store::Store;
+use keys::Store;
+use keys::add_in;
+use keys::ordered_in;
 ghost use mathlib.Core.Path.{_≡_};
 ghost use Rattle.claims.specs.Call.{entered, made, replied};
 

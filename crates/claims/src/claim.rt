@@ -4,7 +4,7 @@ ghost use Prim.Native.Nat.{_≤_};
 ghost use Rattle.claims.specs.Question.{question3, question4, question5};
 ghost use Rattle.claims.specs.Reply.{same};
 ghost use Rattle.claims.specs.Call.{judged};
-use crate::store::Store;
+use keys::Store;
 
 // What a claim says: "from lo to hi I hold cnt keys, whose XOR is sum".
 pub struct Claim {

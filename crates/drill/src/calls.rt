@@ -248,7 +248,7 @@ fn empty(words: &mut [u64]) -> bool {
     if words.len() < card::RIGHT {
         return false;
     }
-    let store = claims::Store::empty();
+    let store = keys::Store::empty();
     put_answer(words, 0, 0);
     card::put_store(words, card::LEFT, store);
     true

@@ -2,7 +2,7 @@
 use crate::raw::get;
 use crate::raw::put;
 use claims::Claim;
-use claims::Store;
+use keys::Store;
 use rounds::Node;
 ghost use Prim.Native.Nat.{_≤_};
 

@@ -10,7 +10,7 @@ use lib.Dec.{lit<}
 use lib.IntN.{pos}
 use lib.ListN.{length, take, drop}
 use Rattle.claims.specs.declared.claim.Claim.{Claim}
-use Rattle.claims.specs.Store.{limit}
+use Rattle.keys.specs.Store.{limit}
 use Rattle.claims.specs.Question.{Question, firstNo, settle}
 use Rattle.claims.proofs.QuestionLaws.{Numbered, firstNo-yes, firstNo-no, firstNo-append-zero, firstNo-append-no, settle-done, settle-refused}
 use Rattle.rule.specs.declared.node.Node.{Node}

@@ -8,7 +8,7 @@ use mathlib.Core.Path.{_≡_, refl, ap, ap₂, sym, _∙_}
 use lib.ListN.{length, take, drop, length-append, length-take, length-drop, take-append-drop, drop-of-length-le}
 use lib.Seq.{take-all}
 use Rattle.claims.specs.declared.claim.Claim.{Claim}
-use Rattle.claims.proofs.Tests.{lt-or-le}
+use Rattle.keys.proofs.Tests.{lt-or-le}
 use Rattle.rule.specs.Table.{beatLimit}
 use Rattle.wire.specs.Claim.{claimSize}
 use Rattle.wire.specs.Frame.{frameLimit, headSize, frameLength, frameBytes}

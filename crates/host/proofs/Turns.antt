@@ -16,9 +16,9 @@ use Rattle.claims.specs.Claim.{noClaim}
 use Rattle.claims.specs.Call.{judged}
 use Rattle.claims.specs.Question.{firstNo, question6, claimQuestions}
 use Rattle.claims.specs.Reply.{ends, hear}
-use Rattle.claims.specs.Store.{limit}
-use Rattle.claims.proofs.Order.{length-keys-storeOf}
-use Rattle.claims.proofs.Tests.{and-left, and-right, eq-or-ne}
+use Rattle.keys.specs.Store.{limit}
+use Rattle.keys.proofs.Order.{length-keys-storeOf}
+use Rattle.keys.proofs.Tests.{and-left, and-right, eq-or-ne}
 use Rattle.claims.proofs.QuestionLaws.{Numbered, firstNo-yes, firstNo-no, firstNo-append-zero, claimQuestions-numbered, judged-firstNo}
 use Rattle.rule.specs.declared.node.Node.{Node}
 use Rattle.rule.specs.declared.answer.Taken.{Taken}

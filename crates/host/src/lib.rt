@@ -10,14 +10,14 @@ use crate::reply::size;
 use crate::sent::FRAMES;
 use crate::sent::send;
 use crate::turn::take_in_turn;
-use claims::Store;
+use keys::Store;
 use rule::Rest;
 use wire::Imaged;
 use wire::read_frame;
 use wire::write_image_in;
 ghost use mathlib.Core.Path.{_≡_};
 ghost use lib.ListN.{length};
-ghost use Rattle.claims.specs.Store.{limit, zeros};
+ghost use Rattle.keys.specs.Store.{limit, zeros};
 ghost use Rattle.host.specs.Call.{frameTaken, frameTakenOut, TakenFrom, imageBeaten, imageBeatenOut, imageBeatenFrames};
 
 // The node of an image with the claims of a frame taken, in turn, its keys in a lent run of zeros. Asks 14, 1, 10 to 13, and 6 claim by claim.

@@ -1,10 +1,10 @@
 // The node of an image: its keys in a lent run of zeros, and the rest.
-use claims::Store;
+use keys::Store;
 use nodes::ordered_lent;
 use rule::Rest;
 use wire::read_image_in;
 ghost use mathlib.Core.Path.{_≡_};
-ghost use Rattle.claims.specs.Store.{limit, zeros};
+ghost use Rattle.keys.specs.Store.{limit, zeros};
 ghost use Rattle.host.specs.Call.{Loaded};
 
 // Loads an image. Asks 14 and 1.

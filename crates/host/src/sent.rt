@@ -9,7 +9,7 @@ ghost use mathlib.Core.Path.{_≡_};
 ghost use mathlib.Core.Bool.{true};
 ghost use Prim.Native.Nat.{_+_, _*_, _≤_, _<_, min};
 ghost use lib.ListN.{length, take, drop};
-ghost use Rattle.claims.specs.Store.{limit};
+ghost use Rattle.keys.specs.Store.{limit};
 ghost use Rattle.rule.specs.Node.{nodeInOrder};
 ghost use Rattle.nodes.specs.Lent.{nodeWith};
 ghost use Rattle.rule.specs.Call.{writtenOver};

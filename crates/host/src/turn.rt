@@ -1,6 +1,6 @@
 // The claims of a frame, taken in turn.
 use claims::Claim;
-use claims::Store;
+use keys::Store;
 use nodes::take_next;
 use rule::Node;
 use rule::Rest;
@@ -9,7 +9,7 @@ ghost use mathlib.Core.Path.{_≡_};
 ghost use mathlib.Core.Bool.{true};
 ghost use Prim.Native.Nat.{_≤_};
 ghost use lib.ListN.{length, take};
-ghost use Rattle.claims.specs.Store.{limit};
+ghost use Rattle.keys.specs.Store.{limit};
 ghost use Rattle.rule.specs.Node.{nodeInOrder};
 ghost use Rattle.nodes.specs.Lent.{nodeWith, takenWith};
 ghost use Rattle.wire.specs.Frame.{frameLimit, allPass};

@@ -7,10 +7,10 @@ use mathlib.Core.Logic.{⊎-elim}
 use mathlib.Core.Path.{_≡_, refl, sym, ap, _∙_}
 use native.Mathlib.Omega.{arith}
 use lib.ListN.{length}
-use Rattle.claims.specs.Store.{limit, holds, insert}
-use Rattle.claims.proofs.Tests.{lt-or-le}
-use Rattle.claims.proofs.Rising.{Above, Rising, rising-same, mem-holds, holds-mem, holds-absent, absent-holds}
-use Rattle.claims.proofs.Insert.{mem-insert-old, insert-mem, insert-rising, insert-held, length-insert-missing}
+use Rattle.keys.specs.Store.{limit, holds, insert}
+use Rattle.keys.proofs.Tests.{lt-or-le}
+use Rattle.keys.proofs.Rising.{Above, Rising, rising-same, mem-holds, holds-mem, holds-absent, absent-holds}
+use Rattle.keys.proofs.Insert.{mem-insert-old, insert-mem, insert-rising, insert-held, length-insert-missing}
 use Rattle.rule.specs.Round.{union, leftEnd, rightEnd, pair, anyFalse, roundOf}
 use Rattle.rule.proofs.Union.{union-self, union-comm, union-rising, union-left, union-right, length-left-union, length-right-union}
 use Rattle.rule.proofs.Pair.{size, rises-pair}

@@ -8,7 +8,7 @@ use mathlib.Core.Path.{_≡_, refl}
 use native.Mathlib.Omega.{arith}
 use lib.Dec.{lit<, lit≤}
 use lib.ListN.{length}
-use Rattle.claims.specs.Store.{limit, zeros, storeOf, emptyStore, inOrder, allZero}
+use Rattle.keys.specs.Store.{limit, zeros, storeOf, emptyStore, inOrder, allZero}
 use Rattle.claims.specs.Cases.{claim}
 use Rattle.claims.specs.Reply.{answer}
 use Rattle.claims.specs.Call.{judged, entered, made, replied}

@@ -10,11 +10,11 @@ use native.Mathlib.Omega.{arith}
 use lib.ListN.{length}
 use Rattle.claims.specs.declared.claim.Claim.{Claim}
 use Rattle.claims.specs.declared.answer.Answer.{Answer}
-use Rattle.claims.specs.Store.{limit}
+use Rattle.keys.specs.Store.{limit}
 use Rattle.claims.specs.Claim.{between, wholeClaim}
 use Rattle.claims.specs.Reply.{hear, reply, claimsOf, falseMatch}
-use Rattle.claims.proofs.Tests.{Order, less, equal, greater, order}
-use Rattle.claims.proofs.Rising.{Rising, Sub, rising-length, rising-same, rising-ext}
+use Rattle.keys.proofs.Tests.{Order, less, equal, greater, order}
+use Rattle.keys.proofs.Rising.{Rising, Sub, rising-length, rising-same, rising-ext}
 use Rattle.claims.proofs.Between.{inside, mem-between, between-mem, between-rising, mem-inside, between-sub}
 use Rattle.claims.proofs.Span.{first, last, between-first-last}
 use Rattle.claims.proofs.QuestionLaws.{Passes}

@@ -3,9 +3,9 @@
 -- needed for it, so it is derived from the stronger `every-list`. What needs it is in Beyond. Assumes nothing.
 use Prim.Native.Nat.{ℕ, _≤_}
 use mathlib.Core.List.{List, []}
-use Rattle.claims.specs.Store.{limit}
-use Rattle.claims.proofs.Rising.{true-rising}
-use Rattle.claims.proofs.Order.{inOrder-rising}
+use Rattle.keys.specs.Store.{limit}
+use Rattle.keys.proofs.Rising.{true-rising}
+use Rattle.keys.proofs.Order.{inOrder-rising}
 use Rattle.rule.proofs.NodeLaws.{ordered-nodeInOrder}
 use Rattle.rule.proofs.CallLaws.{met-bounded}
 use Rattle.meeting.specs.Event.{Event}

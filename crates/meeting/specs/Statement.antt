@@ -6,7 +6,7 @@ use mathlib.Core.List.{List, [], _∷_, _++_, List·Memᴰ}
 use mathlib.Core.Logic.{_↔_}
 use mathlib.Core.Path.{_≡_}
 use lib.ListN.{length}
-use Rattle.claims.specs.Store.{storeOf, rising, holds, allZero, insertAll}
+use Rattle.keys.specs.Store.{storeOf, rising, holds, allZero, insertAll}
 use Rattle.rule.specs.declared.delivery.Delivery.{Delivery}
 use Rattle.rule.specs.Node.{nodeInOrder, nodeKeys}
 use Rattle.rule.specs.Round.{union, anyFalse}

@@ -7,7 +7,7 @@ use mathlib.Core.List.{List, [], _∷_, _++_, map}
 use lib.Dec.{eqb}
 use lib.ListN.{length, take, drop, getD}
 use Rattle.claims.specs.declared.claim.Claim.{Claim}
-use Rattle.claims.specs.declared.store.Store.{Store}
+use Rattle.keys.specs.declared.store.Store.{Store}
 use Rattle.claims.specs.Reply.{numberOf, claimsOf}
 use Rattle.claims.specs.Call.{entered, made, replied}
 use Rattle.rule.specs.declared.node.Node.{Node}

@@ -12,16 +12,16 @@ use lib.Dec.{ltb, eqb}
 use lib.ListN.{length, take, drop, getD, drop-of-length-le}
 use lib.Seq.{drop-cons, getD-take, length-take-le}
 use Rattle.claims.specs.declared.claim.Claim.{Claim}
-use Rattle.claims.specs.declared.lent.Place.{Place}
-use Rattle.claims.specs.declared.store.Store.{Store}
-use Rattle.claims.specs.Store.{limit, keysOf, storeOf, inOrder, holds}
+use Rattle.keys.specs.declared.lent.Place.{Place}
+use Rattle.keys.specs.declared.store.Store.{Store}
+use Rattle.keys.specs.Store.{limit, keysOf, storeOf, inOrder, holds}
 use Rattle.claims.specs.Claim.{noClaim}
 use Rattle.claims.specs.Reply.{ends, same}
 use Rattle.claims.specs.Call.{judged}
-use Rattle.claims.specs.Lent.{orderedIn, placeIn}
+use Rattle.keys.specs.Lent.{orderedIn, placeIn}
 use Rattle.claims.proofs.ClaimLaws.{same-claim}
-use Rattle.claims.proofs.Order.{inOrder-rising, length-keysOf, storeOf-keysOf}
-use Rattle.claims.proofs.LentLaws.{orderedIn-inOrder, placeIn-store}
+use Rattle.keys.proofs.Order.{inOrder-rising, length-keysOf, storeOf-keysOf}
+use Rattle.keys.proofs.LentLaws.{orderedIn-inOrder, placeIn-store}
 use Rattle.rule.specs.Table.{tableLimit, before, climbsFrom, climbs}
 use Rattle.rule.specs.Node.{holdsAll, allFit, allUnused, nodeInOrder}
 use Rattle.nodes.specs.Lent.{nodeWith}

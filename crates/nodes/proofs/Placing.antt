@@ -16,7 +16,7 @@ use lib.Seq.{set-split, set-at, getD-set-other, getD-take, take-suc, drop-cons, 
 use Rattle.claims.specs.declared.claim.Claim.{Claim}
 use Rattle.claims.specs.Claim.{noClaim}
 use Rattle.claims.specs.Reply.{same}
-use Rattle.claims.proofs.Tests.{and-left, and-right, lt-or-le}
+use Rattle.keys.proofs.Tests.{and-left, and-right, lt-or-le}
 use Rattle.rule.specs.Table.{tableLimit, before, climbsFrom, climbs, insertClaim, tableWith}
 use Rattle.rule.specs.Call.{writtenOver}
 use Rattle.nodes.specs.Lent.{halvedTo, placeAmong, isAt, placedAt, tableIn}

@@ -11,10 +11,11 @@ use lib.ListN.{length, drop, getD, set, length-append, drop-of-length-le}
 use lib.Seq.{sets, drop-cons}
 use Rattle.claims.specs.declared.claim.Claim.{Claim}
 use Rattle.claims.specs.declared.answer.Answer.{Answer}
-use Rattle.claims.specs.declared.lent.Place.{Place}
+use Rattle.keys.specs.declared.lent.Place.{Place}
 use Rattle.claims.specs.Claim.{noClaim}
 use Rattle.claims.specs.Reply.{claimsOf}
-use Rattle.claims.specs.Lent.{placeIn, answerIn}
+use Rattle.keys.specs.Lent.{placeIn}
+use Rattle.claims.specs.Lent.{answerIn}
 use Rattle.rule.specs.Table.{tableLimit, remains, Served}
 use Rattle.rule.specs.Node.{blanks}
 use Rattle.nodes.specs.Serving.{answerTo, serveIn, keptWith, wroteAt}

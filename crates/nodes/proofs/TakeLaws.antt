@@ -12,19 +12,19 @@ use lib.Dec.{eqb}
 use lib.ListN.{length, take, drop, length-append, length-take, length-drop, length-map, take-append-drop}
 use lib.Seq.{length-take-le, take-take, take-all, take-at, drop-drop}
 use Rattle.claims.specs.declared.claim.Claim.{Claim}
-use Rattle.claims.specs.declared.lent.Heard.{Heard}
-use Rattle.claims.specs.declared.lent.Place.{Place}
-use Rattle.claims.specs.declared.store.Store.{Store}
-use Rattle.claims.specs.Store.{limit, storeOf, position, insertAll}
+use Rattle.keys.specs.declared.lent.Added.{Added}
+use Rattle.keys.specs.declared.store.Store.{Store}
+use Rattle.keys.specs.Store.{limit, storeOf, position, insertAll}
 use Rattle.claims.specs.Question.{firstNo, question6, claimQuestions}
 use Rattle.claims.specs.Reply.{ends, hear, same}
 use Rattle.claims.specs.Call.{judged}
-use Rattle.claims.specs.Lent.{lacking, room, noRoom, heardAt, addOne, keysOne, putIn, raised, addTwo, keysTwo, placeIn, hearIn, keysHearing}
-use Rattle.claims.proofs.Tests.{lt-or-le, eq-or-ne}
-use Rattle.claims.proofs.Rising.{Rising}
-use Rattle.claims.proofs.Order.{inOrder-rising, length-keysOf, storeOf-keysOf, count-storeOf}
+use Rattle.keys.specs.Lent.{noRoom, addedAt}
+use Rattle.claims.specs.Lent.{hearIn, keysHearing}
+use Rattle.keys.proofs.Tests.{lt-or-le, eq-or-ne}
+use Rattle.keys.proofs.Rising.{Rising}
+use Rattle.keys.proofs.Order.{inOrder-rising, length-keysOf, storeOf-keysOf, count-storeOf}
 use Rattle.claims.proofs.QuestionLaws.{Passes, passes, firstNo-yes, firstNo-no, firstNo-append-zero, firstNo-append-no, claimQuestions-numbered, judged-firstNo}
-use Rattle.claims.proofs.LentLaws.{hearIn-fits, hearIn-full, keysHearing-fits}
+use Rattle.claims.proofs.LentLaws.{hearIn-fits, hearIn-full, keysHearing-fits, keysHearing-refused}
 use Rattle.rule.specs.declared.node.Node.{Node}
 use Rattle.rule.specs.declared.answer.Taken.{Taken}
 use Rattle.rule.specs.Table.{tableLimit, before, insertClaim, tableWith}
@@ -88,48 +88,16 @@ enlisted-found table count known at c new n whole k e put =
 
 -- ---- the node that hears the claim
 
--- where there is no room, no key is added
-module _ (keys : List ℕ) (held : ℕ) where
-  keysOne-refused : (p : Place) (k : ℕ) → (addOne p held .number ≡ 0 → ⊥) → keysOne p held k keys ≡ keys
-  keysOne-refused p k f = go (room held (lacking p)) f
-    where
-      go : (t : Bool) → (cond {A = Heard} t (heardAt (held + lacking p) (p .at) (p .at)) (noRoom held) .number ≡ 0 → ⊥) → cond t (putIn p held k keys) keys ≡ keys
-      go true g = absurd (g refl)
-      go false g = refl
-
-  keysTwo-refused : (p q : Place) (lo hi : ℕ) → (addTwo p q held .number ≡ 0 → ⊥) → keysTwo p q held lo hi keys ≡ keys
-  keysTwo-refused p q lo hi f = go (room held (lacking p + lacking q)) f
-    where
-      go : (t : Bool) → (cond {A = Heard} t (heardAt (held + lacking p + lacking q) (p .at) (q .at + lacking p)) (noRoom held) .number ≡ 0 → ⊥)
-          → cond t (putIn (raised p q) (held + lacking p) hi (putIn p held lo keys)) keys ≡ keys
-      go true g = absurd (g refl)
-      go false g = refl
-
-  pub keysHearing-refused : (c : Claim) → (hearIn keys held c .number ≡ 0 → ⊥) → keysHearing keys held c ≡ keys
-  unfolding hearIn keysHearing
-  keysHearing-refused c f = go (eqb (c .lo) (c .hi)) f
-    where
-      p : Place
-      p = placeIn keys held (c .lo)
-
-      q : Place
-      q = placeIn keys held (c .hi)
-
-      go : (t : Bool) → (cond {A = Heard} t (addOne p held) (addTwo p q held) .number ≡ 0 → ⊥)
-          → cond t (keysOne p held (c .lo) keys) (keysTwo p q held (c .lo) (c .hi) keys) ≡ keys
-      go true g = keysOne-refused p (c .lo) g
-      go false g = keysTwo-refused p q (c .lo) (c .hi) g
-
-module _ (n : Node) (c : Claim) (h : Heard) (after : List ℕ) (heard : h ≡ hearIn (n .store .keys) (n .store .count) c)
+module _ (n : Node) (c : Claim) (h : Added) (after : List ℕ) (heard : h ≡ hearIn (n .store .keys) (n .store .count) c)
     (put : after ≡ keysHearing (n .store .keys) (n .store .count) c) where
   pub takenNext-refused : (h .number ≡ 0 → ⊥) → record { number = h .number; node = nodeWith after (n .store .count) (n .pending) (n .count) } ≡ takenNext n c
   unfolding takenNext
   takenNext-refused f =
-      let kept : after ≡ n .store .keys = put ∙ keysHearing-refused (n .store .keys) (n .store .count) c (λ e. f (ap (λ (x : Heard). x .number) heard ∙ e)) in
+      let kept : after ≡ n .store .keys = put ∙ keysHearing-refused (n .store .keys) (n .store .count) c (λ e. f (ap (λ (x : Added). x .number) heard ∙ e)) in
       (λ i. record { number = h .number; node = nodeWith (kept i) (n .store .count) (n .pending) (n .count) })
-      ∙ (sym (takenAfter-refused h f) ∙ ap₂ (λ (x : Heard) (keys : List ℕ). takenAfter x keys n c) heard put)
+      ∙ (sym (takenAfter-refused h f) ∙ ap₂ (λ (x : Added) (keys : List ℕ). takenAfter x keys n c) heard put)
     where
-      takenAfter-refused : (x : Heard) → (x .number ≡ 0 → ⊥) → takenAfter x after n c ≡ record { number = x .number; node = n }
+      takenAfter-refused : (x : Added) → (x .number ≡ 0 → ⊥) → takenAfter x after n c ≡ record { number = x .number; node = n }
       takenAfter-refused x g = rw (ne-eqb (x .number) 0 g)
 
   pub takenNext-done : h .number ≡ 0 → (new : List Claim) (m : ℕ) → Enlisted (n .pending) (tableIn c (pendingOf n)) new m
@@ -137,9 +105,9 @@ module _ (n : Node) (c : Claim) (h : Heard) (after : List ℕ) (heard : h ≡ he
   unfolding takenNext
   takenNext-done e new m listed =
       (λ i. record { number = 0; node = nodeWith after (h .count) (listed .places i) (listed .many i) })
-      ∙ (sym (takenAfter-done h e) ∙ ap₂ (λ (x : Heard) (keys : List ℕ). takenAfter x keys n c) heard put)
+      ∙ (sym (takenAfter-done h e) ∙ ap₂ (λ (x : Added) (keys : List ℕ). takenAfter x keys n c) heard put)
     where
-      takenAfter-done : (x : Heard) → x .number ≡ 0
+      takenAfter-done : (x : Added) → x .number ≡ 0
           → takenAfter x after n c ≡ record { number = 0; node = nodeWith after (x .count) (writtenOver (tableIn c (pendingOf n)) (n .pending)) (length (tableIn c (pendingOf n))) }
       takenAfter-done x z = rw (eq-eqb (x .number) 0 z)
 
@@ -228,13 +196,13 @@ module _ (n : Node) (whole : length (n .pending) ≡ tableLimit) (o : Ordered n)
     takenNext-fits f =
         let l = nodeKeys n in
         let t = tableWith c (pendingOf n) in
-        let h : hearIn (n .store .keys) (n .store .count) c ≡ heardAt (length (hear c l)) (position (c .lo) (hear c l)) (position (c .hi) (hear c l)) =
+        let h : hearIn (n .store .keys) (n .store .count) c ≡ addedAt (length (hear c l)) (position (c .lo) (hear c l)) (position (c .hi) (hear c l)) =
         ap₂ (λ (keys : List ℕ) (m : ℕ). hearIn keys m c) keys-are held-are ∙ hearIn-fits l rise c (good .ordered) f in
         let k : keysHearing (n .store .keys) (n .store .count) c ≡ storeOf (hear c l) .keys =
         ap₂ (λ (keys : List ℕ) (m : ℕ). keysHearing keys m c) keys-are held-are ∙ keysHearing-fits l rise c (good .ordered) f in
         let yes : firstNo (takeQuestions n c) ≡ 0 =
         only-6 ∙ firstNo-yes (question6 (ends c) l) [] (lt-ltb (length (insertAll (ends c) l)) (limit + 1) (omega arith)) in
-        ap₂ (λ (x : Heard) (keys : List ℕ). takenAfter x keys n c) h k
+        ap₂ (λ (x : Added) (keys : List ℕ). takenAfter x keys n c) h k
         ∙ (ap (λ (u : List Claim). record { number = 0; node = nodeWith (storeOf (hear c l) .keys) (length (hear c l)) (writtenOver u (n .pending)) (length u) }) table-is
         ∙ ((λ i. record { number = 0; node = nodeWith (storeOf (hear c l) .keys) (sym (count-storeOf (hear c l)) i) (places-are i) (length t) })
         ∙ sym (taken-done n c yes)))
@@ -247,7 +215,7 @@ module _ (n : Node) (whole : length (n .pending) ≡ tableLimit) (o : Ordered n)
         ap₂ (λ (keys : List ℕ) (m : ℕ). hearIn keys m c) keys-are held-are ∙ hearIn-full l rise c (good .ordered) f in
         let no : firstNo (takeQuestions n c) ≡ 6 =
         only-6 ∙ firstNo-no (question6 (ends c) l) [] (le-ltb (length (insertAll (ends c) l)) (limit + 1) (omega arith)) in
-        ap (λ (x : Heard). takenAfter x (keysHearing (n .store .keys) (n .store .count) c) n c) h
+        ap (λ (x : Added). takenAfter x (keysHearing (n .store .keys) (n .store .count) c) n c) h
         ∙ (ap (λ (m : ℕ). record { number = m; node = n }) (sym no)
         ∙ sym (taken-refused n c (λ (e : firstNo (takeQuestions n c) ≡ 0). omega arith)))
 

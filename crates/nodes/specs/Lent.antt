@@ -8,9 +8,9 @@ use mathlib.Core.List.{List, _∷_, _++_}
 use lib.Dec.{ltb, eqb}
 use lib.ListN.{length, take, drop, getD}
 use Rattle.claims.specs.declared.claim.Claim.{Claim}
-use Rattle.claims.specs.declared.lent.Heard.{Heard}
+use Rattle.keys.specs.declared.lent.Added.{Added}
 use Rattle.claims.specs.Claim.{noClaim}
-use Rattle.claims.specs.Store.{limit}
+use Rattle.keys.specs.Store.{limit}
 use Rattle.claims.specs.Lent.{hearIn, keysHearing}
 use Rattle.rule.specs.declared.node.Node.{Node}
 use Rattle.rule.specs.declared.answer.Rest.{Rest}
@@ -61,7 +61,7 @@ pub record Enlisted (table t new : List Claim) (count : ℕ) : Type 0 where
   pub many : count ≡ length t
 
 -- what is taken once the claim is heard, by the run of keys as it is then
-abbrev pub takenAfter : Heard → List ℕ → Node → Claim → Taken
+abbrev pub takenAfter : Added → List ℕ → Node → Claim → Taken
 takenAfter h keys n c =
     cond (eqb (h .number) 0)
     (record { number = 0; node = nodeWith keys (h .count) (writtenOver (tableIn c (pendingOf n)) (n .pending)) (length (tableIn c (pendingOf n))) })

@@ -11,7 +11,8 @@ use Rattle.claims.specs.declared.claim.Claim.{Claim}
 use Rattle.claims.specs.declared.answer.Answer.{Answer}
 use Rattle.claims.specs.Question.{Question, firstNo, settle, question}
 use Rattle.claims.specs.Reply.{claimsOf}
-use Rattle.claims.specs.Lent.{placeIn, makeIn, answerIn}
+use Rattle.keys.specs.Lent.{placeIn}
+use Rattle.claims.specs.Lent.{makeIn, answerIn}
 use Rattle.rule.specs.declared.node.Node.{Node}
 use Rattle.rule.specs.declared.answer.Beaten.{Beaten}
 use Rattle.nodes.specs.declared.beats.Kept.{Kept}

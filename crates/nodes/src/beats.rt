@@ -4,7 +4,7 @@ use claims::Answer;
 use claims::Claim;
 use claims::answer_in;
 use claims::make_in;
-use claims::place_in;
+use keys::place_in;
 use rule::Beaten;
 use rule::Node;
 ghost use mathlib.Core.Path.{_≡_};

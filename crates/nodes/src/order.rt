@@ -1,20 +1,20 @@
 // Question 1 of a node: whether it is in order.
 use claims::Claim;
-use claims::Store;
 use claims::judge;
-use claims::ordered_in;
-use claims::place_in;
+use keys::Store;
+use keys::ordered_in;
+use keys::place_in;
 use rule::Node;
 ghost use mathlib.Core.Path.{_≡_};
 ghost use mathlib.Core.Bool.{true, _&&_};
 ghost use Prim.Native.Nat.{_≤_};
 ghost use lib.Dec.{eqb};
 ghost use lib.ListN.{length, take, drop};
-ghost use Rattle.claims.specs.Store.{limit};
+ghost use Rattle.keys.specs.Store.{limit};
 ghost use Rattle.claims.specs.Claim.{noClaim};
 ghost use Rattle.claims.specs.Reply.{ends};
 ghost use Rattle.claims.specs.Call.{judged};
-ghost use Rattle.claims.specs.Lent.{orderedIn};
+ghost use Rattle.keys.specs.Lent.{orderedIn};
 ghost use Rattle.rule.specs.Table.{tableLimit, before, climbs};
 ghost use Rattle.rule.specs.Node.{holdsAll, allFit, allUnused, nodeInOrder};
 ghost use Rattle.nodes.specs.Lent.{nodeWith, lentInOrder};

@@ -2,9 +2,9 @@
 use crate::order::ordered;
 use crate::order::precedes;
 use claims::Claim;
-use claims::Store;
 use claims::hear_in;
 use claims::judge;
+use keys::Store;
 use rule::Node;
 use rule::Rest;
 use rule::Taken;

@@ -11,7 +11,7 @@ use mathlib.Core.Path.{_≡_, refl, ap, sym, _∙_}
 use borrow.Author.Tests.{lt-ltb, le-ltb}
 use lib.Dec.{ltb, lit<, lit≤}
 use lib.ListN.{length, set, length-append}
-use Rattle.claims.proofs.Tests.{lt-or-le}
+use Rattle.keys.proofs.Tests.{lt-or-le}
 use Rattle.wire.specs.Place.{putAt}
 use Rattle.wire.proofs.Places.{putAt-snoc}
 use Rattle.rehearsal.specs.Decimal.{digit, decimalIn, decimal, digitLimit, value}

@@ -3,7 +3,7 @@
 use Prim.Native.Nat.{ℕ, _/_}
 use mathlib.Core.List.{List, _∷_, _++_}
 use lib.ListN.{length, take, drop}
-use Rattle.claims.specs.declared.store.Store.{Store}
+use Rattle.keys.specs.declared.store.Store.{Store}
 use Rattle.claims.specs.Question.{Question, firstNo, settle}
 use Rattle.rule.specs.Round.{transcript}
 use Rattle.rule.specs.Call.{roundQuestions, roundBy, deliveryWords, writtenOver}

@@ -1,6 +1,6 @@
 // The rehearsal of an input: two images end to end, and one round of their stores.
 use crate::answer::Rehearsed;
-use claims::Store;
+use keys::Store;
 use rounds::round_words;
 use wire::image_length;
 use wire::read_image;

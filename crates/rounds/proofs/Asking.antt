@@ -8,9 +8,9 @@ use native.Mathlib.Omega.{arith}
 use borrow.Author.Tests.{leb-true, le-leb, lt-leb}
 use lib.Dec.{leb}
 use lib.ListN.{length, take, drop, length-take}
-use Rattle.claims.specs.Store.{limit, rising, allZero}
-use Rattle.claims.specs.Lent.{orderedIn}
-use Rattle.claims.proofs.Tests.{and-left, and-right}
+use Rattle.keys.specs.Store.{limit, rising, allZero}
+use Rattle.keys.specs.Lent.{orderedIn}
+use Rattle.keys.proofs.Tests.{and-left, and-right}
 use Rattle.rule.specs.Round.{union}
 use Rattle.rounds.specs.Core.{asked}
 

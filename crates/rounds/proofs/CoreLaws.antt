@@ -10,11 +10,11 @@ use borrow.Author.Tests.{eq-eqb, ne-eqb, lt-ltb, le-ltb, le-leb}
 use lib.Dec.{ltb, leb, eqb}
 use lib.ListN.{length, take, drop, getD, length-append, length-map}
 use Rattle.claims.specs.declared.claim.Claim.{Claim}
-use Rattle.claims.specs.Store.{limit, storeOf}
+use Rattle.keys.specs.Store.{limit, storeOf}
 use Rattle.claims.specs.Claim.{claimOf, wholeClaim}
 use Rattle.claims.specs.Reply.{hear, reply, claimsOf}
 use Rattle.claims.specs.Lent.{makeIn, keysHearing, replyIn}
-use Rattle.claims.proofs.Rising.{Rising, Sub, rising-length}
+use Rattle.keys.proofs.Rising.{Rising, Sub, rising-length}
 use Rattle.claims.proofs.QuestionLaws.{Passes}
 use Rattle.claims.proofs.ReplyLaws.{hear-rising, hear-sub}
 use Rattle.claims.proofs.LentLaws.{keysHearing-fits, replyIn-fits, makeIn-store}

@@ -11,11 +11,11 @@ use lib.Dec.{leb}
 use lib.ListN.{length, take, drop, getD, set, length-set, length-append, length-map, take-append-drop}
 use lib.Seq.{length-take-le, take-suc, drop-cons, split-at, append-snoc, set-at, drop-append-le, take-length}
 use Rattle.claims.specs.declared.claim.Claim.{Claim}
-use Rattle.claims.specs.declared.store.Store.{Store}
-use Rattle.claims.specs.Store.{limit, inOrder, keysOf, storeOf}
+use Rattle.keys.specs.declared.store.Store.{Store}
+use Rattle.keys.specs.Store.{limit, inOrder, keysOf, storeOf}
 use Rattle.claims.specs.Question.{firstNo, settle}
-use Rattle.claims.proofs.Order.{inOrder-rising}
-use Rattle.claims.proofs.Tests.{eq-or-ne}
+use Rattle.keys.proofs.Order.{inOrder-rising}
+use Rattle.keys.proofs.Tests.{eq-or-ne}
 use Rattle.rule.specs.declared.delivery.Delivery.{Delivery}
 use Rattle.rule.specs.declared.answer.Met.{Met}
 use Rattle.rule.specs.Round.{union, Line, transcript}

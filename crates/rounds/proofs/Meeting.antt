@@ -5,11 +5,11 @@ use mathlib.Core.List.{List, [], _∷_, _++_, map, append-nil}
 use mathlib.Core.Path.{_≡_, refl, sym, ap, ap₂, _∙_, subst}
 use native.Mathlib.Omega.{arith}
 use lib.ListN.{length, length-map}
-use Rattle.claims.specs.declared.store.Store.{Store}
-use Rattle.claims.specs.Store.{limit, keysOf, storeOf, inOrder}
+use Rattle.keys.specs.declared.store.Store.{Store}
+use Rattle.keys.specs.Store.{limit, keysOf, storeOf, inOrder}
 use Rattle.claims.specs.Question.{firstNo}
-use Rattle.claims.proofs.Order.{inOrder-rising, length-keysOf, storeOf-keysOf, count-storeOf}
-use Rattle.claims.proofs.LentLaws.{orderedIn-inOrder}
+use Rattle.keys.proofs.Order.{inOrder-rising, length-keysOf, storeOf-keysOf, count-storeOf}
+use Rattle.keys.proofs.LentLaws.{orderedIn-inOrder}
 use Rattle.rule.specs.declared.answer.Met.{Met}
 use Rattle.rule.specs.declared.delivery.Delivery.{Delivery}
 use Rattle.rounds.specs.declared.flat.Reached.{Reached}

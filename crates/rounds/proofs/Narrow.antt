@@ -7,8 +7,8 @@ use mathlib.Core.Path.{_≡_, sym, ap, subst}
 use native.Mathlib.Omega.{arith}
 use lib.Dec.{lit<}
 use lib.ListN.{length, getD}
-use Rattle.claims.specs.Store.{limit}
-use Rattle.claims.proofs.Rising.{Rising}
+use Rattle.keys.specs.Store.{limit}
+use Rattle.keys.proofs.Rising.{Rising}
 use Rattle.rule.specs.declared.delivery.Delivery.{Delivery}
 use Rattle.rule.specs.Round.{union, End, leftEnd, rightEnd, senderNumber, Pair, pair, Entry, delivered, answers, Line, Run, run, half, roundOf}
 use Rattle.rule.proofs.Pair.{Rises, rises-pair, unionOf}

@@ -8,9 +8,9 @@ use native.Mathlib.Numerals.{add-one}
 use native.Mathlib.Omega.{arith}
 use lib.ListN.{length, drop, getD, length-drop, drop-of-length-le}
 use lib.Seq.{drop-cons}
-use Rattle.claims.specs.Store.{insertAll}
-use Rattle.claims.proofs.Rising.{Rising, Sub, above-mem, mem-above, sub-tail, rising-drop}
-use Rattle.claims.proofs.Insert.{insertAll-held}
+use Rattle.keys.specs.Store.{insertAll}
+use Rattle.keys.proofs.Rising.{Rising, Sub, above-mem, mem-above, sub-tail, rising-drop}
+use Rattle.keys.proofs.Insert.{insertAll-held}
 use Rattle.rule.specs.Round.{union}
 use Rattle.rule.proofs.Union.{union-rising, union-left, union-right, union-sub, union-mem, union-is}
 

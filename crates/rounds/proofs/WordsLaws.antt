@@ -10,7 +10,7 @@ use lib.Dec.{ltb}
 use lib.ListN.{length, take, drop, getD, length-append, length-drop}
 use lib.Seq.{sets, sets-eq, getD-append-add, take-append-seam, drop-append-add, drop-drop}
 use Rattle.claims.specs.declared.claim.Claim.{Claim}
-use Rattle.claims.specs.Store.{limit}
+use Rattle.keys.specs.Store.{limit}
 use Rattle.claims.proofs.ClaimLaws.{claim-ext}
 use Rattle.rule.specs.declared.delivery.Delivery.{Delivery}
 use Rattle.rule.specs.Call.{deliveryWords, writtenOver}

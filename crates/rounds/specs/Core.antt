@@ -14,7 +14,8 @@ use Rattle.claims.specs.declared.claim.Claim.{Claim}
 use Rattle.claims.specs.declared.lent.Told.{Told}
 use Rattle.claims.specs.Claim.{noClaim}
 use Rattle.claims.specs.Reply.{claimsOf}
-use Rattle.claims.specs.Lent.{orderedIn, makeIn, keysHearing, replyIn}
+use Rattle.keys.specs.Lent.{orderedIn}
+use Rattle.claims.specs.Lent.{makeIn, keysHearing, replyIn}
 use Rattle.claims.specs.Question.{question, firstNo}
 use Rattle.rounds.specs.declared.flat.Reached.{Reached}
 use Rattle.rule.specs.Question.{question8, question9}

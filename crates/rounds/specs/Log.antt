@@ -6,7 +6,7 @@ use mathlib.Core.Bool.{cond}
 use mathlib.Core.List.{List, _++_}
 use lib.Dec.{ltb}
 use lib.ListN.{take, drop, getD, set}
-use Rattle.claims.specs.declared.store.Store.{Store}
+use Rattle.keys.specs.declared.store.Store.{Store}
 use Rattle.claims.specs.Claim.{noClaim}
 use Rattle.rule.specs.declared.delivery.Delivery.{Delivery}
 use Rattle.rule.specs.Call.{metWords}

@@ -9,7 +9,7 @@ ghost use Rattle.rounds.specs.Log.{noDelivery, deliveryIn, copied, front
 use crate::flat::round_words;
 use crate::record::RECORD;
 use crate::record::claim_in;
-use claims::Store;
+use keys::Store;
 use rule::Delivery;
 use rule::Met;
 

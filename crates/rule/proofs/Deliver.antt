@@ -8,10 +8,10 @@ use native.Mathlib.Omega.{arith}
 use lib.ListN.{length}
 use Rattle.claims.specs.declared.claim.Claim.{Claim}
 use Rattle.claims.specs.declared.answer.Answer.{Answer}
-use Rattle.claims.specs.Store.{limit}
+use Rattle.keys.specs.Store.{limit}
 use Rattle.claims.specs.Claim.{between}
 use Rattle.claims.specs.Reply.{adding, hear, reply, claimsOf}
-use Rattle.claims.proofs.Rising.{Rising, Sub, sub-refl, sub-trans, rising-length}
+use Rattle.keys.proofs.Rising.{Rising, Sub, sub-refl, sub-trans, rising-length}
 use Rattle.claims.proofs.Between.{inside, between-rising, length-between-within, length-between-two, length-sub-between}
 use Rattle.claims.proofs.Span.{first, last}
 use Rattle.claims.proofs.QuestionLaws.{Passes}

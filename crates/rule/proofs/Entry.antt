@@ -8,10 +8,10 @@ use mathlib.Core.Path.{_≡_, refl, sym, ap, _∙_, subst}
 use native.Mathlib.Omega.{arith}
 use lib.ListN.{length}
 use Rattle.claims.specs.declared.claim.Claim.{Claim}
-use Rattle.claims.specs.Store.{limit}
+use Rattle.keys.specs.Store.{limit}
 use Rattle.claims.specs.Claim.{between}
 use Rattle.claims.specs.Reply.{ends}
-use Rattle.claims.proofs.Rising.{Rising, Sub, sub-trans, rising-length}
+use Rattle.keys.proofs.Rising.{Rising, Sub, sub-trans, rising-length}
 use Rattle.claims.proofs.Between.{mem-between, between-rising, between-sub, length-sub-between}
 use Rattle.claims.proofs.Span.{first, last, first-le, le-last, mem-first, mem-last}
 use Rattle.claims.proofs.QuestionLaws.{Passes}

@@ -11,14 +11,14 @@ use lib.Dec.{leb, eqb}
 use lib.ListN.{length, drop, length-drop, length-replicate, take-append-drop}
 use lib.Seq.{length-take-le, take-append-seam, drop-append-seam}
 use Rattle.claims.specs.declared.claim.Claim.{Claim}
-use Rattle.claims.specs.declared.store.Store.{Store}
-use Rattle.claims.specs.Store.{limit, storeOf, inOrder, holds}
+use Rattle.keys.specs.declared.store.Store.{Store}
+use Rattle.keys.specs.Store.{limit, storeOf, inOrder, holds}
 use Rattle.claims.specs.Reply.{ends, same}
 use Rattle.claims.specs.Call.{judged}
 use Rattle.claims.specs.Claim.{noClaim}
-use Rattle.claims.proofs.Tests.{and-left, and-right, and-both}
-use Rattle.claims.proofs.Rising.{Rising, Sub, sub-trans, holds-mem, mem-holds}
-use Rattle.claims.proofs.Order.{keysOf-storeOf, storeOf-keysOf, inOrder-storeOf, emptyStore-storeOf}
+use Rattle.keys.proofs.Tests.{and-left, and-right, and-both}
+use Rattle.keys.proofs.Rising.{Rising, Sub, sub-trans, holds-mem, mem-holds}
+use Rattle.keys.proofs.Order.{keysOf-storeOf, storeOf-keysOf, inOrder-storeOf, emptyStore-storeOf}
 use Rattle.claims.proofs.ClaimLaws.{same-claim}
 use Rattle.rule.specs.declared.node.Node.{Node}
 use Rattle.rule.specs.Table.{tableLimit, climbs}

@@ -6,8 +6,8 @@ use mathlib.Core.Path.{_≡_, refl, ap, _∙_}
 use native.Mathlib.Omega.{arith}
 use lib.ListN.{length}
 use Rattle.claims.specs.Reply.{adding, hear}
-use Rattle.claims.proofs.Rising.{Rising, Sub, sub-refl, sub-trans}
-use Rattle.claims.proofs.Insert.{insertAll-rising, mem-insertAll-old, insertAll-sub, length-insertAll-ge, insertAll-same}
+use Rattle.keys.proofs.Rising.{Rising, Sub, sub-refl, sub-trans}
+use Rattle.keys.proofs.Insert.{insertAll-rising, mem-insertAll-old, insertAll-sub, length-insertAll-ge, insertAll-same}
 use Rattle.rule.specs.Round.{union, End, leftEnd, rightEnd, other, Pair, pair, keysAt, holding, Entry, receiver, keysBefore, delivered}
 use Rattle.rule.proofs.Union.{union-rising, union-left, union-right, union-grown}
 

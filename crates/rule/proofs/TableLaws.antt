@@ -14,7 +14,7 @@ use Rattle.claims.specs.declared.answer.Answer.{Answer}
 use Rattle.claims.specs.declared.answer.Answer.the-variants.{Refused, Match, Ask, One, Two}
 use Rattle.claims.specs.Claim.{wholeClaim}
 use Rattle.claims.specs.Reply.{same, reply, claimsOf}
-use Rattle.claims.proofs.Tests.{and-left, and-right, and-both, Order, less, equal, greater, order}
+use Rattle.keys.proofs.Tests.{and-left, and-right, and-both, Order, less, equal, greater, order}
 use Rattle.claims.proofs.ClaimLaws.{claim-ext, claim-same}
 use Rattle.rule.specs.Table.{tableLimit, ranking, wordsBefore, before, climbsFrom, climbs, insertClaim, tableWith, remains, serve, sending, beatLimit}
 

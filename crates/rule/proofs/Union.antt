@@ -7,9 +7,9 @@ use mathlib.Core.Logic.{_⊎_}
 use mathlib.Core.Path.{_≡_}
 use borrow.Author.Tests.{le-leb}
 use lib.ListN.{length}
-use Rattle.claims.specs.Store.{limit}
-use Rattle.claims.proofs.Rising.{Rising, Sub, sub-refl, rising-ext, rising-length}
-use Rattle.claims.proofs.Insert.{insertAll-rising, mem-insertAll-new, mem-insertAll-old, insertAll-sub, insertAll-mem, insertAll-held}
+use Rattle.keys.specs.Store.{limit}
+use Rattle.keys.proofs.Rising.{Rising, Sub, sub-refl, rising-ext, rising-length}
+use Rattle.keys.proofs.Insert.{insertAll-rising, mem-insertAll-new, mem-insertAll-old, insertAll-sub, insertAll-mem, insertAll-held}
 use Rattle.rule.specs.Round.{union}
 use Rattle.rule.specs.Question.{question8}
 

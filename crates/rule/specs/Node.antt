@@ -6,7 +6,7 @@ use mathlib.Core.List.{List, [], _∷_, _++_}
 use lib.Dec.{leb, eqb}
 use lib.ListN.{length, take, drop, replicate}
 use Rattle.claims.specs.declared.claim.Claim.{Claim}
-use Rattle.claims.specs.Store.{keysOf, storeOf, emptyStore, inOrder, holds}
+use Rattle.keys.specs.Store.{keysOf, storeOf, emptyStore, inOrder, holds}
 use Rattle.claims.specs.Claim.{noClaim}
 use Rattle.claims.specs.Reply.{ends, same}
 use Rattle.claims.specs.Call.{judged}

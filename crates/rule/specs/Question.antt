@@ -4,7 +4,7 @@ use Prim.Native.Nat.{ℕ, _*_}
 use mathlib.Core.List.{List}
 use lib.Dec.{leb}
 use lib.ListN.{length}
-use Rattle.claims.specs.Store.{limit}
+use Rattle.keys.specs.Store.{limit}
 use Rattle.claims.specs.Question.{Question, question}
 use Rattle.rule.specs.declared.node.Node.{Node}
 use Rattle.rule.specs.Node.{nodeInOrder}

@@ -1,7 +1,7 @@
 // What the calls answer. A number is that of the first question of document 01 answered no, or 0.
 use crate::node::Node;
 use claims::Claim;
-use claims::Store;
+use keys::Store;
 
 pub struct Taken {
     pub number: u8,

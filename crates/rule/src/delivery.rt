@@ -1,6 +1,6 @@
 // One record of a round's transcript.
 use claims::Claim;
-use claims::Store;
+use keys::Store;
 
 // The sender is 0 for the left end and 1 for the right one.
 pub struct Delivery {

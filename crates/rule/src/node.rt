@@ -1,6 +1,6 @@
 // Nodes.
 use claims::Claim;
-use claims::Store;
+use keys::Store;
 
 // A store and up to 64 pending claims: the table's places, and how many of them are used.
 pub struct Node {

@@ -1,7 +1,7 @@
 -- The worked examples of specs/Cases follow from the definitions: one law for the whole table. Assumes nothing.
 use mathlib.Core.List.{map}
 use mathlib.Core.Path.{_≡_, refl}
-use Rattle.claims.specs.Store.{zeros, storeOf, emptyStore, inOrder}
+use Rattle.keys.specs.Store.{zeros, storeOf, emptyStore, inOrder}
 use Rattle.claims.specs.Call.{judged}
 use Rattle.rule.specs.Node.{blanks, nodeOf, emptyNode, nodeInOrder}
 use Rattle.wire.specs.Number.{number, bytes}

@@ -25,7 +25,7 @@ use Rattle.wire.specs.declared.answer.Framed.{Framed}
 use Rattle.wire.specs.declared.answer.Length.{Length}
 use Rattle.wire.specs.Length.{noLength}
 use Rattle.wire.proofs.Places.{putAt-append, putAt-zero, writtenOver-replicate}
-use Rattle.claims.proofs.Tests.{and-left, and-right}
+use Rattle.keys.proofs.Tests.{and-left, and-right}
 use Rattle.claims.proofs.QuestionLaws.{firstNo-zero, firstNo-append-no, settle-done, settle-refused}
 use Rattle.wire.proofs.Questions.{settle-number, firstNo-front}
 

@@ -11,10 +11,10 @@ use lib.ListN.{length, drop, replicate, length-append}
 use lib.Seq.{drop-drop, length-take-le}
 use Rattle.claims.specs.declared.claim.Claim.{Claim}
 use Rattle.claims.specs.Claim.{noClaim}
-use Rattle.claims.specs.Store.{limit, zeros, storeOf, emptyStore}
+use Rattle.keys.specs.Store.{limit, zeros, storeOf, emptyStore}
 use Rattle.claims.specs.Question.{firstNo}
-use Rattle.claims.proofs.Order.{inOrder-count}
-use Rattle.claims.proofs.Tests.{and-left, and-right}
+use Rattle.keys.proofs.Order.{inOrder-count}
+use Rattle.keys.proofs.Tests.{and-left, and-right}
 use Rattle.claims.proofs.QuestionLaws.{firstNo-zero}
 use Rattle.rule.specs.Table.{tableLimit}
 use Rattle.rule.specs.declared.node.Node.{Node}

@@ -3,7 +3,7 @@ use crate::claim;
 use crate::frame;
 use crate::number;
 use claims::Claim;
-use claims::Store;
+use keys::Store;
 use rule::Node;
 
 // The claims of a frame, zeros past the count; all zeros where it was refused.

@@ -8,7 +8,7 @@ use borrow.Author.Needs.{needs}
 use lib.Dec.{lit<}
 use lib.IntN.{pos}
 use lib.ListN.{length}
-use Rattle.claims.specs.Store.{zeros}
+use Rattle.keys.specs.Store.{zeros}
 use Rattle.rule.specs.declared.node.Node.{Node}
 use Rattle.nodes.specs.Lent.{nodeWith}
 use Rattle.rule.specs.Node.{nodeInOrder}

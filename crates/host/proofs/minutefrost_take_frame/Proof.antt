@@ -7,7 +7,7 @@ use borrow.Author.Needs.{needs}
 use lib.Dec.{lit<}
 use lib.IntN.{pos}
 use lib.ListN.{length}
-use Rattle.claims.specs.Store.{limit, zeros}
+use Rattle.keys.specs.Store.{limit, zeros}
 use Rattle.rule.specs.declared.node.Node.{Node}
 use Rattle.rule.specs.Table.{tableLimit}
 use Rattle.rule.specs.Node.{nodeInOrder}

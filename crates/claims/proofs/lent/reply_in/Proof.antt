@@ -2,7 +2,7 @@
 use native.Mathlib.Omega.{arith}
 use borrow.Author.Needs.{needs}
 use denote.Ref.{now}
-use Rattle.claims.proofs.Adding.{reply-full, reply-told}
+use Rattle.claims.proofs.Lending.{reply-full, reply-told}
 use Rattle.claims.proofs.lent.reply_in.Statement.{statement}
 use Rattle.claims.proofs.lent.reply_in.Tie as tie
 

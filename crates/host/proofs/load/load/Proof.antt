@@ -4,7 +4,7 @@ use mathlib.Core.Path.{_≡_, refl, ap, sym, _∙_}
 use borrow.Author.Needs.{needs}
 use borrow.Author.Tests.{not-true, not-false}
 use lib.ListN.{length}
-use Rattle.claims.specs.Store.{limit, zeros, emptyStore}
+use Rattle.keys.specs.Store.{limit, zeros, emptyStore}
 use Rattle.wire.specs.declared.answer.Imaged.{Imaged}
 use Rattle.wire.specs.Lent.{readInLent}
 use Rattle.wire.proofs.Images.{readIn-refused, readImage-1, readImage-lent}

@@ -4,7 +4,7 @@ use borrow.Author.Needs.{needs}
 use borrow.Author.Tests.{not-true, not-false}
 use denote.Ref.{now}
 use lib.ListN.{length}
-use Rattle.claims.specs.Store.{limit}
+use Rattle.keys.specs.Store.{limit}
 use Rattle.nodes.proofs.Beating.{beat-1, beat-ordered}
 use Rattle.nodes.proofs.beats.beat.Statement.{statement}
 use Rattle.nodes.proofs.beats.beat.Tie as tie

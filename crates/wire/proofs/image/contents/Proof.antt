@@ -3,7 +3,7 @@ use Prim.Native.Nat.{_+_, _≤_}
 use native.Mathlib.Omega.{arith}
 use borrow.Author.Needs.{needs}
 use lib.ListN.{length}
-use Rattle.claims.specs.Store.{limit}
+use Rattle.keys.specs.Store.{limit}
 use Rattle.rule.specs.Table.{tableLimit}
 use Rattle.wire.specs.Image.{keySection, claimSection, sectionLength}
 use Rattle.wire.proofs.Images.{told-room, readIn-0, readInLent-0}

@@ -3,8 +3,8 @@ use mathlib.Core.Path.{_≡_, ap, sym, _∙_}
 use borrow.Author.Needs.{needs}
 use borrow.Author.Tests.{not-true, not-false}
 use lib.ListN.{length}
-use Rattle.claims.specs.declared.store.Store.{Store}
-use Rattle.claims.specs.Store.{limit, emptyStore}
+use Rattle.keys.specs.declared.store.Store.{Store}
+use Rattle.keys.specs.Store.{limit, emptyStore}
 use Rattle.wire.specs.Lent.{readInLent}
 use Rattle.wire.proofs.Images.{readIn-refused, readImage-1, readImage-lent}
 use Rattle.wire.proofs.image.read_image.Statement.{statement}

@@ -3,7 +3,7 @@ use Prim.Native.Nat.{_≤_}
 use native.Mathlib.Omega.{arith}
 use borrow.Author.Needs.{needs}
 use borrow.Author.Tests.{not-true, not-false}
-use Rattle.claims.specs.Store.{limit}
+use Rattle.keys.specs.Store.{limit}
 use Rattle.rule.specs.Table.{tableLimit}
 use Rattle.wire.proofs.Images.{part-most, told-keys, told-pending, told-both}
 use Rattle.wire.proofs.image.told_by.Statement.{statement}

@@ -4,7 +4,7 @@ use mathlib.Core.Path.{_≡_, sym, _∙_}
 use borrow.Author.Needs.{needs}
 use borrow.Author.Tests.{not-true, not-false}
 use lib.ListN.{length}
-use Rattle.claims.specs.Store.{limit}
+use Rattle.keys.specs.Store.{limit}
 use Rattle.wire.proofs.Images.{writeImage-1, writeImageIn-writeImage, imageInLent-imageLent}
 use Rattle.wire.proofs.image.write_image.Statement.{statement}
 use Rattle.wire.proofs.image.write_image.Tie as tie

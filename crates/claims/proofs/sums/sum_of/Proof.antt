@@ -1,0 +1,58 @@
+-- `claims::sums::sum_of` meets its contract. The invariant: the sum of all keys is that so far and that of the keys from i on. Assumes nothing.
+use mathlib.Core.Path.{_≡_}
+use mathlib.Core.List.{List}
+use Prim.Native.Nat.{ℕ, _≤_, _-_}
+use native.Mathlib.Omega.{arith}
+use borrow.Author.Needs.{needs}
+use denote.Ref.{now}
+use lib.Bits.{bitXor}
+use lib.ListN.{length, drop}
+use Rattle.claims.specs.Claim.{xorAll}
+use Rattle.claims.proofs.Summing.{xor-none, xor-on, xor-all}
+use Rattle.claims.proofs.sums.sum_of.Statement.{statement}
+use Rattle.claims.proofs.sums.sum_of.Tie as tie
+
+abbrev Inv-loop : tie.InvT-loop
+Inv-loop keys sum₀ i₀ sum i = (i ≤ length keys) × (xorAll keys ≡ bitXor sum (xorAll (drop i keys)))
+
+abbrev μ-loop : tie.MeasureT-loop
+μ-loop keys sum₀ i₀ sum i = length keys - i
+
+loop-holds : tie.Need-loop-holds Inv-loop μ-loop
+loop-holds c = (search needs, xor-none (now (c .args .keys)))
+
+mul-sum : tie.Need-mul-sum Inv-loop μ-loop
+mul-sum c = search needs
+
+shared-slice-read-sum : tie.Need-shared-slice-read-sum Inv-loop μ-loop
+shared-slice-read-sum c = search needs
+
+add-i : tie.Need-add-i Inv-loop μ-loop
+add-i c = search needs
+
+loop-less : tie.Need-loop-less Inv-loop μ-loop
+loop-less c = search needs
+
+loop-again : tie.Need-loop-again Inv-loop μ-loop
+loop-again c =
+    let s = c .before .before in
+    (search needs, xor-on (now (s .before .args .keys)) (s .loop .sum) (s .loop .i) (s .loop .inv .1) (omega arith))
+
+returns : tie.Need-returns Inv-loop μ-loop
+returns c =
+    let s = c .before in
+    xor-all (now (s .before .args .keys)) (s .loop .sum) (s .loop .i) (s .loop .inv .1) (c .loop-test .left)
+
+pub sum-of-spec : {M : Type 1} → statement M
+sum-of-spec =
+    tie.close
+    (tie.spec
+    Inv-loop
+    μ-loop
+    loop-holds
+    mul-sum
+    shared-slice-read-sum
+    add-i
+    loop-less
+    loop-again
+    returns)

@@ -1,0 +1,68 @@
+-- Keys and the store (document 01, the section of that name): the limit, the keys of a store and the store of keys, in order, entering.
+-- A store's keys are a list of numbers; most rules speak of that list, and `keysOf` and `storeOf` lead from the store to it and back.
+-- Not here: what the call `enter` returns (`claims`, specs/Call). Assumes nothing.
+use Prim.Native.Nat.{ℕ, zero, suc, _-_}
+use mathlib.Core.Bool.{Bool, true, false, cond, _&&_}
+use mathlib.Core.List.{List, [], _∷_, _++_}
+use lib.Dec.{ltb, leb, eqb}
+use lib.ListN.{length, take, drop, replicate}
+use Rattle.keys.specs.declared.store.Store.{Store}
+
+-- "A store holds a count from 0 to 1,024 and 1,024 places."
+abbrev pub limit : ℕ
+limit = 1024
+
+-- n places of 0
+unfoldable pub zeros : ℕ → List ℕ
+zeros n = replicate n 0
+
+-- the keys of a store: its places below the count
+abbrev pub keysOf : Store → List ℕ
+keysOf s = take (s .count) (s .keys)
+
+-- the store of some keys: the keys, then zeros to the limit
+unfoldable pub storeOf : List ℕ → Store
+storeOf l = record { keys = l ++ zeros (limit - length l); count = length l }
+
+-- "The empty store is 1,024 zeros with count 0."
+unfoldable pub emptyStore : Store
+emptyStore = record { keys = zeros limit; count = 0 }
+
+-- the keys l rise strictly, the first of them from above k
+abbrev pub risesFrom : ℕ → List ℕ → Bool
+risesFrom k [] = true
+risesFrom k (j ∷ js) = ltb k j && risesFrom j js
+
+-- "the keys below the count rise strictly"
+abbrev pub rising : List ℕ → Bool
+rising [] = true
+rising (k ∷ ks) = risesFrom k ks
+
+-- every number of a list is 0
+abbrev pub allZero : List ℕ → Bool
+allZero [] = true
+allZero (x ∷ xs) = eqb x 0 && allZero xs
+
+-- "It is in order when the count is at most 1,024, the keys below the count rise strictly and every place from the count on is 0."
+unfoldable pub inOrder : Store → Bool
+inOrder s = leb (s .count) limit && (rising (keysOf s) && allZero (drop (s .count) (s .keys)))
+
+-- The position of a key in rising keys: how many keys stand before it. "Positions begin at 0."
+abbrev pub position : ℕ → List ℕ → ℕ
+position k [] = 0
+position k (j ∷ js) = cond (ltb j k) (suc (position k js)) 0
+
+-- is the key k among the keys?
+abbrev pub holds : ℕ → List ℕ → Bool
+holds k [] = false
+holds k (j ∷ js) = cond (eqb j k) true (holds k js)
+
+-- "Entering a key puts it in its sorted place; a key already held changes nothing."
+abbrev pub insert : ℕ → List ℕ → List ℕ
+insert k [] = k ∷ []
+insert k (j ∷ js) = cond (ltb j k) (j ∷ insert k js) (cond (eqb j k) (j ∷ js) (k ∷ (j ∷ js)))
+
+-- some keys entered, one after the other
+abbrev pub insertAll : List ℕ → List ℕ → List ℕ
+insertAll [] l = l
+insertAll (k ∷ ks) l = insertAll ks (insert k l)

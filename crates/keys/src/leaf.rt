@@ -1,0 +1,114 @@
+// The loops, each over a lent run of keys.
+use crate::store::Store;
+ghost use mathlib.Core.Path.{_≡_};
+ghost use mathlib.Core.Bool.{Bool, true, cond};
+ghost use Prim.Native.Nat.{_≤_, _<_, _+_, _*_, _^_};
+ghost use lib.ListN.{length};
+ghost use Rattle.keys.specs.Store.{limit, rising, allZero};
+ghost use Rattle.keys.specs.Lent.{halved, quarterOf, quartered, putAt};
+
+// Whether the keys rise strictly.
+pub(crate) fn rises(keys: &[u64]) -> bool
+    ensures { λ r. ⌜ r ≡ rising (now (keys .entry)) ⌝ }
+{
+    if keys.len() == 0 {
+        return true;
+    }
+    let mut last = keys[0];
+    let mut i = 1;
+    while i < keys.len() {
+        let key = keys[i];
+        if key <= last {
+            return false;
+        }
+        last = key;
+        i += 1;
+    }
+    true
+}
+
+// Whether every place is 0. All are looked at, several at a time: nearly always they are.
+pub(crate) fn blank(places: &[u64]) -> bool
+    ensures { λ r. ⌜ r ≡ allZero (now (places .entry)) ⌝ }
+{
+    let mut bits = 0;
+    let mut i = 0;
+    while i < places.len() {
+        bits = bits | places[i];
+        i += 1;
+    }
+    bits == 0
+}
+
+// 1 for yes and 0 for no.
+fn bit(yes: bool) -> usize
+    ensures { λ r. ⌜ (r ≡ cond yes 1 0) × (r ≤ 1) ⌝ }
+{
+    yes as usize
+}
+
+// `half` times a bit. By a shift, which stays one: the compiler turns a product or an `if` into a branch, and no processor can foresee which way a search goes.
+fn times(half: usize, bit: usize) -> usize
+    requires { ⌜ (half < 2 ^ 63) × (bit ≤ 1) ⌝ }
+    ensures { λ r. ⌜ r ≡ half * bit ⌝ }
+{
+    (half << bit) - half
+}
+
+// The last of the `count` keys from `first` on that is at most `key`, if they rise; the first one if none is.
+fn halve(keys: &[u64], first: usize, count: usize, key: u64) -> usize
+    requires { ⌜ (0 < count) × (first + count ≤ length (now keys)) ⌝ }
+    ensures { λ r. ⌜ r ≡ halved count (now (keys .entry)) key first count ⌝ }
+{
+    let mut base = first;
+    let mut size = count;
+    while 1 < size {
+        let half = size / 2;
+        let mid = base + half;
+        let up = bit(keys[mid] <= key);
+        base += times(half, up);
+        size -= half;
+    }
+    base
+}
+
+// Which of four quarters is kept, of `width` keys each from `base` on: as many of the last three as begin with a key that is at most `key`.
+fn quarter_of(keys: &[u64], base: usize, width: usize, key: u64) -> usize
+    requires { ⌜ base + width + width + width < length (now keys) ⌝ }
+    ensures { λ r. ⌜ (r ≡ quarterOf (now (keys .entry)) key base width) × (r ≤ 3) ⌝ }
+{
+    let second = base + width;
+    let third = second + width;
+    let fourth = third + width;
+    bit(keys[second] <= key) + bit(keys[third] <= key) + bit(keys[fourth] <= key)
+}
+
+// The last of the first `count` keys that is at most `key`, if they rise; the first one if none is. Four ways at a time: the three keys of a turn are
+// read without waiting for each other, so there are half as many turns that wait as by halving alone. The product stays one, since `up` is no bit.
+pub(crate) fn quarter(keys: &[u64], count: usize, key: u64) -> usize
+    requires { ⌜ (0 < count) × (count ≤ length (now keys)) ⌝ }
+    ensures { λ r. ⌜ r ≡ quartered count (now (keys .entry)) key 0 count ⌝ }
+{
+    let mut base = 0;
+    let mut size = count;
+    while 3 < size {
+        let width = size / 4;
+        let up = quarter_of(keys, base, width, key);
+        base += width * up;
+        size -= 3 * width;
+    }
+    halve(keys, base, size, key)
+}
+
+// Puts `key` in at a place: the keys from there to the count move up by one, the last one first.
+pub(crate) fn put(keys: &mut [u64; Store::LIMIT], at: usize, count: usize, key: u64)
+    requires { ⌜ (at ≤ count) × (count < limit) × (length (now keys) ≡ limit) ⌝ }
+    ensures { λ r. ⌜ now (keys .exit) ≡ putAt at count key (now (keys .entry)) ⌝ }
+{
+    let mut i = count;
+    while at < i {
+        keys[i] = keys[i - 1];
+        i -= 1;
+    }
+    keys[at] = key;
+}

@@ -1,0 +1,154 @@
+// The calls on a lent run of keys, for the crates above: no store is copied and question 1 is not put again.
+// Each is total, and says by a definition of specs/Lent what it does to any content.
+use crate::leaf::blank;
+use crate::leaf::put;
+use crate::leaf::quarter;
+use crate::leaf::rises;
+use crate::store::Store;
+ghost use mathlib.Core.Path.{_≡_};
+ghost use mathlib.Core.Bool.{Bool, false};
+ghost use Prim.Native.Nat.{_≤_, _<_};
+ghost use lib.ListN.{length};
+ghost use Rattle.keys.specs.Store.{limit};
+ghost use Rattle.keys.specs.Lent.{orderedIn, placeIn, lacking, putIn, addTwo, keysTwo, addIn, keysAdding, addBoth, keysBoth};
+
+// Where a key stands, or would stand.
+pub struct Place {
+    pub at: usize,
+    pub held: bool,
+}
+
+// Keys added: the count then, and where the lesser and the greater one stand; or the number 6.
+pub struct Added {
+    pub number: u8,
+    pub count: usize,
+    pub first: usize,
+    pub last: usize,
+}
+
+pub fn ordered_in(keys: &[u64], count: usize) -> bool
+    ensures { λ r. ⌜ r ≡ orderedIn (now (keys .entry)) count ⌝ }
+{
+    if Store::LIMIT < count {
+        return false;
+    }
+    if keys.len() < count {
+        return false;
+    }
+    if !rises(&keys[..count]) {
+        return false;
+    }
+    blank(&keys[count..])
+}
+
+pub fn place_in(keys: &[u64], count: usize, key: u64) -> Place
+    ensures { λ r. ⌜ r ≡ placeIn (now (keys .entry)) count key ⌝ }
+{
+    if count == 0 {
+        return Place { at: 0, held: false };
+    }
+    if keys.len() < count {
+        return Place { at: 0, held: false };
+    }
+    let at = quarter(keys, count, key);
+    let found = keys[at];
+    if found < key {
+        Place {
+            at: at + 1,
+            held: false,
+        }
+    } else {
+        Place {
+            at,
+            held: found == key,
+        }
+    }
+}
+
+fn put_in(keys: &mut [u64; Store::LIMIT], place: Place, count: usize, key: u64)
+    requires { ⌜ (place .held ≡ false → (place .at ≤ count) × (count < limit)) × (length (now keys) ≡ limit) ⌝ }
+    ensures { λ r. ⌜ now (keys .exit) ≡ putIn place count key (now (keys .entry)) ⌝ }
+{
+    let at = place.at;
+    if !place.held {
+        put(keys, at, count, key);
+    }
+}
+
+// How many keys are missing at a place: 0 or 1.
+fn lacks(place: Place) -> usize
+    ensures { λ r. ⌜ (r ≡ lacking place) × (r ≤ 1) ⌝ }
+{
+    if place.held { 0 } else { 1 }
+}
+
+// Enters one key.
+pub fn add_in(keys: &mut [u64; Store::LIMIT], count: usize, key: u64) -> Added
+    ensures { λ r. ⌜ (r ≡ addIn (now (keys .entry)) count key) × (now (keys .exit) ≡ keysAdding (now (keys .entry)) count key) ⌝ }
+{
+    let place = place_in(&keys[..], count, key);
+    let more = lacks(place);
+    if Store::LIMIT - more < count {
+        return Added {
+            number: 6,
+            count,
+            first: 0,
+            last: 0,
+        };
+    }
+    put_in(keys, place, count, key);
+    Added {
+        number: 0,
+        count: count + more,
+        first: place.at,
+        last: place.at,
+    }
+}
+
+// Enters two keys, the lesser one at `lower` and the greater one at `upper`.
+fn add_two(
+    keys: &mut [u64; Store::LIMIT],
+    lower: Place,
+    upper: Place,
+    count: usize,
+    lo: u64,
+    hi: u64,
+) -> Added
+    requires { ⌜ (lower .at ≤ count) × (upper .at ≤ count) × (length (now keys) ≡ limit) ⌝ }
+    ensures { λ r. ⌜ (r ≡ addTwo lower upper count) × (now (keys .exit) ≡ keysTwo lower upper count lo hi (now (keys .entry))) ⌝ }
+{
+    let below = lacks(lower);
+    let above = lacks(upper);
+    if Store::LIMIT - (below + above) < count {
+        return Added {
+            number: 6,
+            count,
+            first: 0,
+            last: 0,
+        };
+    }
+    put_in(keys, lower, count, lo);
+    let raised = Place {
+        at: upper.at + below,
+        held: upper.held,
+    };
+    put_in(keys, raised, count + below, hi);
+    Added {
+        number: 0,
+        count: count + below + above,
+        first: lower.at,
+        last: upper.at + below,
+    }
+}
+
+// Enters two keys, or one where they are equal.
+pub fn add_both(keys: &mut [u64; Store::LIMIT], count: usize, lo: u64, hi: u64) -> Added
+    ensures { λ r. ⌜ (r ≡ addBoth (now (keys .entry)) count lo hi) × (now (keys .exit) ≡ keysBoth (now (keys .entry)) count lo hi) ⌝ }
+{
+    if lo == hi {
+        return add_in(keys, count, lo);
+    }
+    let lower = place_in(&keys[..], count, lo);
+    let upper = place_in(&keys[..], count, hi);
+    add_two(keys, lower, upper, count, lo, hi)
+}
