@@ -10,6 +10,7 @@ use borrow.Author.Tests.{lt-ltb, le-ltb}
 use lib.Bits.{bitXor, xor-comm, xor-self, xor-zero-r}
 use lib.ListN.{length, take, drop, getD, length-drop}
 use lib.Seq.{take-add, drop-drop, take-suc, drop-cons, getD-drop}
+use Rattle.claims.specs.declared.answer.Answer.{Answer}
 use Rattle.claims.specs.declared.answer.Answer.the-variants.{Refused, Match, Ask, One, Two}
 use Rattle.claims.specs.declared.claim.Claim.{Claim}
 use Rattle.claims.specs.Claim.{xorAll, span, claimOf}
@@ -42,36 +43,24 @@ xor-last i n l h =
     take-suc (drop i l) n 0 (omega (arith, length-drop i l)) in
     rw (e, getD-drop, xorAll-snoc, xor-assoc, xor-self, xor-zero-r)
 
--- a claim by its fields
-pub claimOf-fields : (keys : List ℕ) (i j i′ j′ sum cnt : ℕ) → i ≡ i′ → j ≡ j′ → sum ≡ xorAll (span i′ j′ keys) → cnt ≡ j′ - i′ + 1
-    → record { lo = getD keys i 0; hi = getD keys j 0; sum = sum; cnt = cnt } ≡ claimOf i′ j′ keys
-claimOf-fields keys i j i′ j′ sum cnt p q r s = λ t. record { lo = getD keys (p t) 0; hi = getD keys (q t) 0; sum = r t; cnt = s t }
+-- a claim by the sum of its keys
+pub claim-summed : (keys : List ℕ) (first last sum : ℕ) → sum ≡ xorAll (span first last keys)
+    → record { lo = getD keys first 0; hi = getD keys last 0; sum = sum; cnt = last - first + 1 } ≡ claimOf first last keys
+claim-summed keys first last sum e = λ t. record { lo = getD keys first 0; hi = getD keys last 0; sum = e t; cnt = last - first + 1 }
 
 -- the code's part of a slice is the span
 pub part-span : (keys : List ℕ) (first last : ℕ) → first ≤ last → xorAll (part first (last + 1 - first) keys) ≡ xorAll (span first last keys)
 part-span keys first last h = let e : last + 1 - first ≡ last - first + 1 = omega arith in rw e
 
--- where the first of two claims ends, and how many keys each has
+-- where the first of two claims ends
 pub middle-half : (first last : ℕ) → first + 1 < last → middle first last ≡ first + 1 + half (first + 1) (last - 1) + 1
 middle-half first last h = omega arith
 
 pub middle-lt : (first last : ℕ) → 3 ≤ last - 1 - (first + 1) → middle first last < last
 middle-lt first last h = omega arith
 
-left-count : (m first end : ℕ) → first + 1 < m → m ≡ end + 1 → end - (first + 1) + 1 ≡ m - first - 1
-left-count m first end h e = omega arith
-
-left-end : (m end : ℕ) → m ≡ end + 1 → m - 1 ≡ end
-left-end m end e = omega arith
-
-left-cnt : (m first : ℕ) → m - (first + 1) ≡ m - first - 1
-left-cnt m first = omega arith
-
-right-cnt : (m last : ℕ) → m < last → last - 1 + 1 - m ≡ last - m
-right-cnt m last h = omega arith
-
-right-count : (m last : ℕ) → m < last → last - 1 - m + 1 ≡ last - m
-right-count m last h = omega arith
+end-before : (m end : ℕ) → m ≡ end + 1 → m - 1 ≡ end
+end-before m end e = omega arith
 
 module _ (keys : List ℕ) (first last left right : ℕ) (halves : Halves keys first last left right) where
   -- both halves are the span
@@ -83,17 +72,7 @@ module _ (keys : List ℕ) (first last left right : ℕ) (halves : Halves keys f
       rw (halves .left-sum, halves .right-sum)
       (rw (m, n) at (xor-join first (middle first last - first) (last + 1 - middle first last) keys))
 
-  -- own, as one pass gives it
-  abbrev pub ownWith : Claim
-  ownWith = record { lo = getD keys first 0; hi = getD keys last 0; sum = bitXor left right; cnt = last - first + 1 }
-
-  pub own-halves : ownWith ≡ claimOf first last keys
-  own-halves = claimOf-fields keys first last first last (bitXor left right) (last - first + 1) refl refl halves-sum refl
-
-  -- the help
-  pub help-none : last ≤ first + 1 → Refused 7 ≡ helpIn keys first last
-  help-none h = rw (le-ltb (first + 1) last h)
-
+  -- the sums of the claims that help: without lo and hi
   pub one-sum : first + 1 < last
       → bitXor (bitXor (bitXor left right) (getD keys first 0)) (getD keys last 0) ≡ xorAll (span (first + 1) (last - 1) keys)
   one-sum h =
@@ -106,94 +85,49 @@ module _ (keys : List ℕ) (first last left right : ℕ) (halves : Halves keys f
       let b : bitXor (xorAll (part (suc first) (suc n) keys)) (getD keys (suc first + n) 0) ≡ xorAll (part (suc first) n keys) = xor-last (suc first) n keys (omega arith) in
       rw (halves-sum, e, a, g, add-one first) (rw f at b)
 
-  pub help-one : first + 1 < last → last - 1 - (first + 1) < 3
-      → One (record {
-        lo = getD keys (first + 1) 0;
-        hi = getD keys (last - 1) 0;
-        sum = bitXor (bitXor (bitXor left right) (getD keys first 0)) (getD keys last 0);
-        cnt = last - 1 - (first + 1) + 1;
-      })
-      ≡ helpIn keys first last
-  help-one h g =
-      rw (lt-ltb (first + 1) last h, lt-ltb (last - 1 - (first + 1)) 3 g)
-      (ap One (claimOf-fields keys (first + 1) (last - 1) (first + 1) (last - 1) (bitXor (bitXor (bitXor left right) (getD keys first 0)) (getD keys last 0)) (last - 1 - (first + 1) + 1) refl refl (one-sum h) refl))
-
-  pub left-help : first + 1 < last → 3 ≤ last - 1 - (first + 1)
-      → record {
-        lo = getD keys (first + 1) 0;
-        hi = getD keys (middle first last - 1) 0;
-        sum = bitXor left (getD keys first 0);
-        cnt = middle first last - (first + 1);
-      }
-      ≡ claimOf (first + 1) (first + 1 + half (first + 1) (last - 1)) keys
-  left-help h g =
+  pub left-sum : first + 1 < last → bitXor left (getD keys first 0) ≡ xorAll (span (first + 1) (middle first last - 1) keys)
+  left-sum h =
       let places = halves .places in
       let n : ℕ = middle first last - first - 1 in
       let e : middle first last - first ≡ suc n = omega arith in
-      let i = middle-half first last h in
-      let j : middle first last - 1 ≡ first + 1 + half (first + 1) (last - 1) = left-end (middle first last) (first + 1 + half (first + 1) (last - 1)) i in
-      let k : first + 1 + half (first + 1) (last - 1) - (first + 1) + 1 ≡ n =
-      left-count (middle first last) first (first + 1 + half (first + 1) (last - 1)) (omega arith) i in
-      let l = left-cnt (middle first last) first in
-      let c : middle first last - (first + 1) ≡ first + 1 + half (first + 1) (last - 1) - (first + 1) + 1 = l ∙ sym k in
+      let k : middle first last - 1 - (first + 1) + 1 ≡ n = omega arith in
       let a : bitXor (xorAll (part first (suc n) keys)) (getD keys first 0) ≡ xorAll (part (suc first) n keys) = xor-first first n keys (omega arith) in
-      let s : bitXor left (getD keys first 0) ≡ xorAll (span (first + 1) (first + 1 + half (first + 1) (last - 1)) keys) =
-      rw (halves .left-sum, e, k) (rw (← (add-one first)) at a) in
-      claimOf-fields keys (first + 1) (middle first last - 1) (first + 1) (first + 1 + half (first + 1) (last - 1)) (bitXor left (getD keys first 0)) (middle first last - (first + 1)) refl j s c
+      rw (halves .left-sum, e, k) (rw (← (add-one first)) at a)
 
-  pub right-help : first + 1 < last → 3 ≤ last - 1 - (first + 1)
-      → record {
-        lo = getD keys (middle first last) 0;
-        hi = getD keys (last - 1) 0;
-        sum = bitXor right (getD keys last 0);
-        cnt = last - 1 + 1 - middle first last;
-      }
-      ≡ claimOf (first + 1 + half (first + 1) (last - 1) + 1) (last - 1) keys
-  right-help h g =
+  pub right-sum : middle first last < last → bitXor right (getD keys last 0) ≡ xorAll (span (middle first last) (last - 1) keys)
+  right-sum below =
       let places = halves .places in
       let n : ℕ = last - middle first last in
-      let below = middle-lt first last g in
       let e : last + 1 - middle first last ≡ suc n = omega arith in
       let f : middle first last + n ≡ last = omega arith in
-      let i = middle-half first last h in
-      let k : last - 1 - (first + 1 + half (first + 1) (last - 1) + 1) + 1 ≡ n = rw (← i) (right-count (middle first last) last below) in
-      let l = right-cnt (middle first last) last below in
-      let c : last - 1 + 1 - middle first last ≡ last - 1 - (first + 1 + half (first + 1) (last - 1) + 1) + 1 = l ∙ sym k in
+      let k : last - 1 - middle first last + 1 ≡ n = omega arith in
       let a : bitXor (xorAll (part (middle first last) (suc n) keys)) (getD keys (middle first last + n) 0) ≡ xorAll (part (middle first last) n keys) = xor-last (middle first last) n keys (omega arith) in
-      let s : bitXor right (getD keys last 0) ≡ xorAll (span (first + 1 + half (first + 1) (last - 1) + 1) (last - 1) keys) =
-      rw (halves .right-sum, e, k, ← i) (rw f at a) in
-      claimOf-fields keys (middle first last) (last - 1) (first + 1 + half (first + 1) (last - 1) + 1) (last - 1) (bitXor right (getD keys last 0)) (last - 1 + 1 - middle first last) i refl s c
+      rw (halves .right-sum, e, k) (rw f at a)
+
+-- the help, from the claims that it carries
+module _ (keys : List ℕ) (first last : ℕ) where
+  pub help-none : last ≤ first + 1 → Refused 7 ≡ helpIn keys first last
+  help-none h = rw (le-ltb (first + 1) last h)
+
+  pub help-one : first + 1 < last → last - 1 - (first + 1) < 3 → (c : Claim) → c ≡ claimOf (first + 1) (last - 1) keys → One c ≡ helpIn keys first last
+  help-one h g c e = rw (lt-ltb (first + 1) last h, lt-ltb (last - 1 - (first + 1)) 3 g) (ap One e)
 
   pub help-two : first + 1 < last → 3 ≤ last - 1 - (first + 1)
-      → Two
-      (record {
-        lo = getD keys (first + 1) 0;
-        hi = getD keys (middle first last - 1) 0;
-        sum = bitXor left (getD keys first 0);
-        cnt = middle first last - (first + 1);
-      })
-      (record {
-        lo = getD keys (middle first last) 0;
-        hi = getD keys (last - 1) 0;
-        sum = bitXor right (getD keys last 0);
-        cnt = last - 1 + 1 - middle first last;
-      })
-      ≡ helpIn keys first last
-  help-two h g =
-      rw (lt-ltb (first + 1) last h, le-ltb (last - 1 - (first + 1)) 3 g) (ap₂ Two (left-help h g) (right-help h g))
+      → (c d : Claim) → c ≡ claimOf (first + 1) (middle first last - 1) keys → d ≡ claimOf (middle first last) (last - 1) keys
+      → Two c d ≡ helpIn keys first last
+  help-two h g c d e f =
+      let i = middle-half first last h in
+      let j = end-before (middle first last) (first + 1 + half (first + 1) (last - 1)) i in
+      rw (lt-ltb (first + 1) last h, le-ltb (last - 1 - (first + 1)) 3 g)
+      (ap₂ Two (e ∙ ap (λ (n : ℕ). claimOf (first + 1) n keys) j) (f ∙ ap (λ (n : ℕ). claimOf n (last - 1) keys) i))
 
-  -- the answer, from what comparing own with the claim said
-  module _ (c : Claim) (alike : Bool) (compared : alike ≡ same ownWith c) where
-    same-own : same (claimOf first last keys) c ≡ alike
-    same-own = ap (λ (own : Claim). same own c) (sym own-halves) ∙ sym compared
+-- the answer, from what comparing own with the claim said
+module _ (own mine c : Claim) (helped : Answer) (e : own ≡ mine) (alike : Bool) (compared : alike ≡ same own c) where
+  pub decide-match : alike ≡ true → Match ≡ decide mine c helped
+  decide-match t = rw (← e, ← compared, t)
 
-    pub decide-match : alike ≡ true → Match ≡ decide (claimOf first last keys) c (helpIn keys first last)
-    decide-match e = rw (same-own, e)
+  pub decide-ask : alike ≡ false → own .cnt < c .cnt → Ask own ≡ decide mine c helped
+  decide-ask t h = rw (← e, ← compared, t, lt-ltb (own .cnt) (c .cnt) h)
 
-    pub decide-ask : alike ≡ false → last - first + 1 < c .cnt
-        → Ask ownWith ≡ decide (claimOf first last keys) c (helpIn keys first last)
-    decide-ask e h = rw (same-own, e, lt-ltb (last - first + 1) (c .cnt) h) (ap Ask own-halves)
-
-    pub decide-help : alike ≡ false → c .cnt ≤ last - first + 1
-        → helpIn keys first last ≡ decide (claimOf first last keys) c (helpIn keys first last)
-    decide-help e h = rw (same-own, e, le-ltb (last - first + 1) (c .cnt) h)
+  pub decide-help : alike ≡ false → c .cnt ≤ own .cnt → helped ≡ decide mine c helped
+  decide-help t h = rw (← e, ← compared, t, le-ltb (own .cnt) (c .cnt) h)

@@ -10,7 +10,7 @@ use keys::Added;
 use keys::Store;
 use keys::add_both;
 ghost use mathlib.Core.Path.{_≡_};
-ghost use Rattle.claims.specs.Claim.{claimOf};
+ghost use Rattle.claims.specs.Claim.{span, xorAll, claimOf};
 ghost use Rattle.claims.specs.Reply.{decide};
 ghost use Rattle.claims.specs.Lent.{hearIn, keysHearing, within, Positions, makeIn, Halves, helpIn, answerIn, replyIn};
 
@@ -43,13 +43,11 @@ fn inside(keys: &[u64], count: usize, first: usize, last: usize) -> bool
     count <= Store::LIMIT
 }
 
-// The claim of positions first to last.
-fn claim_at(keys: &[u64], first: usize, last: usize) -> Claim
-    requires { ⌜ Positions (now keys) first last ⌝ }
+// The claim of positions first to last, from the sum of their keys.
+fn claim_with(keys: &[u64], first: usize, last: usize, sum: u64) -> Claim
+    requires { ⌜ Positions (now keys) first last × (sum ≡ xorAll (span first last (now keys))) ⌝ }
     ensures { λ r. ⌜ r ≡ claimOf first last (now (keys .entry)) ⌝ }
 {
-    let end = last + 1;
-    let sum = sum_of(&keys[first..end]);
     let cnt = (last - first + 1) as u16;
     Claim {
         lo: keys[first],
@@ -57,6 +55,16 @@ fn claim_at(keys: &[u64], first: usize, last: usize) -> Claim
         sum,
         cnt,
     }
+}
+
+// The claim of positions first to last.
+fn claim_at(keys: &[u64], first: usize, last: usize) -> Claim
+    requires { ⌜ Positions (now keys) first last ⌝ }
+    ensures { λ r. ⌜ r ≡ claimOf first last (now (keys .entry)) ⌝ }
+{
+    let end = last + 1;
+    let sum = sum_of(&keys[first..end]);
+    claim_with(keys, first, last, sum)
 }
 
 // The claim of positions first to last, if they are positions.
@@ -91,27 +99,11 @@ fn help_with(keys: &[u64], first: usize, last: usize, left: u64, right: u64) -> 
     let lo = keys[first];
     let hi = keys[last];
     if b - a < 3 {
-        let cnt = (b - a + 1) as u16;
-        return Answer::One(Claim {
-            lo: keys[a],
-            hi: keys[b],
-            sum: left ^ right ^ lo ^ hi,
-            cnt,
-        });
+        return Answer::One(claim_with(keys, a, b, left ^ right ^ lo ^ hi));
     }
     let mid = first + 1 + (last - first + 1) / 2;
-    let one = Claim {
-        lo: keys[a],
-        hi: keys[mid - 1],
-        sum: left ^ lo,
-        cnt: (mid - a) as u16,
-    };
-    let two = Claim {
-        lo: keys[mid],
-        hi: keys[b],
-        sum: right ^ hi,
-        cnt: (b + 1 - mid) as u16,
-    };
+    let one = claim_with(keys, a, mid - 1, left ^ lo);
+    let two = claim_with(keys, mid, b, right ^ hi);
     Answer::Two(one, two)
 }
 
@@ -127,17 +119,11 @@ fn answer_with(
     requires { ⌜ Halves (now keys) first last left right ⌝ }
     ensures { λ r. ⌜ r ≡ decide (claimOf first last (now (keys .entry))) claim (helpIn (now (keys .entry)) first last) ⌝ }
 {
-    let cnt = (last - first + 1) as u16;
-    let own = Claim {
-        lo: keys[first],
-        hi: keys[last],
-        sum: left ^ right,
-        cnt,
-    };
+    let own = claim_with(keys, first, last, left ^ right);
     if alike(own, claim) {
         return Answer::Match;
     }
-    if cnt < claim.cnt {
+    if own.cnt < claim.cnt {
         return Answer::Ask(own);
     }
     help_with(keys, first, last, left, right)

@@ -1,10 +1,8 @@
 -- `claims::lent::claim_at` meets its contract. Assumes nothing.
-use mathlib.Core.Path.{_≡_, refl, _∙_}
-use Prim.Native.Nat.{_+_, _-_}
-use native.Mathlib.Omega.{arith}
+use mathlib.Core.Path.{_∙_}
 use borrow.Author.Needs.{needs}
 use denote.Ref.{now}
-use Rattle.claims.proofs.HalfSums.{claimOf-fields, part-span}
+use Rattle.claims.proofs.HalfSums.{part-span}
 use Rattle.claims.proofs.lent.claim_at.Statement.{statement}
 use Rattle.claims.proofs.lent.claim_at.Tie as tie
 
@@ -26,34 +24,13 @@ part-sum-of-end c = search needs
 sum-of-requires : tie.Need-sum-of-requires
 sum-of-requires c κs = search needs
 
-sub-cnt : tie.Need-sub-cnt
-sub-cnt c = search needs
-
-add-cnt : tie.Need-add-cnt
-add-cnt c = search needs
-
-cast-cnt : tie.Need-cast-cnt
-cast-cnt c = search needs
-
-mul-t7 : tie.Need-mul-t7
-mul-t7 c = search needs
-
-shared-slice-read-t13 : tie.Need-shared-slice-read-t13
-shared-slice-read-t13 c = search needs
-
-mul-t9 : tie.Need-mul-t9
-mul-t9 c = search needs
-
-shared-slice-read-t15 : tie.Need-shared-slice-read-t15
-shared-slice-read-t15 c = search needs
+claim-with-requires : tie.Need-claim-with-requires
+claim-with-requires c κs =
+    let s = c .before .before .before in
+    (s .pre, c .sum-of .ensures ∙ part-span (now (s .args .keys)) (s .args .first) (s .args .last) (s .pre .rise))
 
 returns : tie.Need-returns
-returns c =
-    let s = c .before .before .before .before .before in
-    let f = s .args .first in
-    let l = s .args .last in
-    claimOf-fields (now (s .args .keys)) f l f l (c .before .before .sum-of .result) (l - f + 1) refl refl
-    (c .before .before .sum-of .ensures ∙ part-span (now (s .args .keys)) f l (s .pre .rise)) refl
+returns c = c .claim-with .ensures
 
 pub claim-at-spec : {M : Type 1} → statement M
 claim-at-spec =
@@ -65,11 +42,5 @@ claim-at-spec =
     part-sum-of-start
     part-sum-of-end
     sum-of-requires
-    sub-cnt
-    add-cnt
-    cast-cnt
-    mul-t7
-    shared-slice-read-t13
-    mul-t9
-    shared-slice-read-t15
+    claim-with-requires
     returns)

@@ -2,7 +2,7 @@
 use native.Mathlib.Omega.{arith}
 use borrow.Author.Needs.{needs}
 use denote.Ref.{now}
-use Rattle.claims.proofs.HalfSums.{help-none, help-one, help-two}
+use Rattle.claims.proofs.HalfSums.{middle-lt, one-sum, left-sum, right-sum, help-none, help-one, help-two}
 use Rattle.claims.proofs.lent.help_with.Statement.{statement}
 use Rattle.claims.proofs.lent.help_with.Tie as tie
 
@@ -10,8 +10,7 @@ add-if1 : tie.Need-add-if1
 add-if1 c = search needs
 
 returns : tie.Need-returns
-returns c =
-    help-none (now (c .before .args .keys)) (c .before .args .first) (c .before .args .last) (c .before .args .left) (c .before .args .right) (c .before .pre) (c .if1 .taken)
+returns c = help-none (now (c .before .before .args .keys)) (c .before .before .args .first) (c .before .before .args .last) (c .if1 .taken)
 
 add-a : tie.Need-add-a
 add-a c = search needs
@@ -34,30 +33,18 @@ shared-slice-read-hi c = search needs
 sub-if2 : tie.Need-sub-if2
 sub-if2 c = search needs
 
-sub-cnt : tie.Need-sub-cnt
-sub-cnt c = search needs
-
-add-cnt : tie.Need-add-cnt
-add-cnt c = search needs
-
-cast-cnt : tie.Need-cast-cnt
-cast-cnt c = search needs
-
-mul-t19 : tie.Need-mul-t19
-mul-t19 c = search needs
-
-shared-slice-read-t22 : tie.Need-shared-slice-read-t22
-shared-slice-read-t22 c = search needs
-
-mul-t20 : tie.Need-mul-t20
-mul-t20 c = search needs
-
-shared-slice-read-t24 : tie.Need-shared-slice-read-t24
-shared-slice-read-t24 c = search needs
+claim-with-requires : tie.Need-claim-with-requires
+claim-with-requires c κs =
+    let apart = c .before .before .before in
+    let s = apart .before .before in
+    let places = s .pre .places in
+    (record { rise = omega (arith, apart .if1 .left); short = omega arith; inside = omega arith }, one-sum (now (s .args .keys)) (s .args .first) (s .args .last) (s .args .left) (s .args .right) (s .pre) (apart .if1 .left))
 
 returns-2 : tie.Need-returns-2
 returns-2 c =
-    help-one (now (c .before .before .before .before .before .before .args .keys)) (c .before .before .before .before .before .before .args .first) (c .before .before .before .before .before .before .args .last) (c .before .before .before .before .before .before .args .left) (c .before .before .before .before .before .before .args .right) (c .before .before .before .before .before .before .pre) (c .before .before .before .before .before .if1 .left) (c .before .before .if2 .taken)
+    let apart = c .before .before .before .before in
+    let s = apart .before .before in
+    help-one (now (s .args .keys)) (s .args .first) (s .args .last) (apart .if1 .left) (c .before .if2 .taken) (c .claim-with .result) (c .claim-with .ensures)
 
 add-mid : tie.Need-add-mid
 add-mid c = search needs
@@ -71,51 +58,28 @@ add-mid-2 c = search needs
 add-mid-3 : tie.Need-add-mid-3
 add-mid-3 c = search needs
 
-mul-t14 : tie.Need-mul-t14
-mul-t14 c = search needs
+sub-claim-with : tie.Need-sub-claim-with
+sub-claim-with c = search needs
 
-shared-slice-read-t17 : tie.Need-shared-slice-read-t17
-shared-slice-read-t17 c = search needs
+claim-with-requires-2 : tie.Need-claim-with-requires-2
+claim-with-requires-2 c κs =
+    let apart = c .before .before .before in
+    let s = apart .before .before in
+    let places = s .pre .places in
+    (record { rise = omega arith; short = omega arith; inside = omega arith }, left-sum (now (s .args .keys)) (s .args .first) (s .args .last) (s .args .left) (s .args .right) (s .pre) (apart .if1 .left))
 
-sub-t30 : tie.Need-sub-t30
-sub-t30 c = search needs
-
-mul-t29 : tie.Need-mul-t29
-mul-t29 c = search needs
-
-shared-slice-read-t34 : tie.Need-shared-slice-read-t34
-shared-slice-read-t34 c = search needs
-
-sub-t31 : tie.Need-sub-t31
-sub-t31 c = search needs
-
-cast-t36 : tie.Need-cast-t36
-cast-t36 c = search needs
-
-mul-t14-2 : tie.Need-mul-t14-2
-mul-t14-2 c = search needs
-
-shared-slice-read-t17-2 : tie.Need-shared-slice-read-t17-2
-shared-slice-read-t17-2 c = search needs
-
-mul-t31 : tie.Need-mul-t31
-mul-t31 c = search needs
-
-shared-slice-read-t35 : tie.Need-shared-slice-read-t35
-shared-slice-read-t35 c = search needs
-
-add-t29 : tie.Need-add-t29
-add-t29 c = search needs
-
-sub-t30-2 : tie.Need-sub-t30-2
-sub-t30-2 c = search needs
-
-cast-t36-2 : tie.Need-cast-t36-2
-cast-t36-2 c = search needs
+claim-with-requires-3 : tie.Need-claim-with-requires-3
+claim-with-requires-3 c κs =
+    let s = c .before .before .before .before .before .before in
+    let places = s .pre .places in
+    let below = middle-lt (s .args .first) (s .args .last) (c .before .if2 .left) in
+    (record { rise = omega arith; short = omega arith; inside = omega arith }, right-sum (now (s .args .keys)) (s .args .first) (s .args .last) (s .args .left) (s .args .right) (s .pre) below)
 
 returns-3 : tie.Need-returns-3
 returns-3 c =
-    help-two (now (c .before .before .before .before .before .before .before .before .args .keys)) (c .before .before .before .before .before .before .before .before .args .first) (c .before .before .before .before .before .before .before .before .args .last) (c .before .before .before .before .before .before .before .before .args .left) (c .before .before .before .before .before .before .before .before .args .right) (c .before .before .before .before .before .before .before .before .pre) (c .before .before .before .before .before .before .before .if1 .left) (c .before .before .before .before .if2 .left)
+    let apart = c .before .before .before .before .before in
+    let s = apart .before .before in
+    help-two (now (s .args .keys)) (s .args .first) (s .args .last) (apart .if1 .left) (c .before .before .if2 .left) (c .before .claim-with2 .result) (c .claim-with3 .result) (c .before .claim-with2 .ensures) (c .claim-with3 .ensures)
 
 pub help-with-spec : {M : Type 1} → statement M
 help-with-spec =
@@ -130,30 +94,13 @@ help-with-spec =
     mul-hi
     shared-slice-read-hi
     sub-if2
-    sub-cnt
-    add-cnt
-    cast-cnt
-    mul-t19
-    shared-slice-read-t22
-    mul-t20
-    shared-slice-read-t24
+    claim-with-requires
     returns-2
     add-mid
     sub-mid
     add-mid-2
     add-mid-3
-    mul-t14
-    shared-slice-read-t17
-    sub-t30
-    mul-t29
-    shared-slice-read-t34
-    sub-t31
-    cast-t36
-    mul-t14-2
-    shared-slice-read-t17-2
-    mul-t31
-    shared-slice-read-t35
-    add-t29
-    sub-t30-2
-    cast-t36-2
+    sub-claim-with
+    claim-with-requires-2
+    claim-with-requires-3
     returns-3)
