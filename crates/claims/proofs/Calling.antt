@@ -6,14 +6,11 @@ use mathlib.Core.Logic.{⊎-elim}
 use mathlib.Core.List.{List, [], _∷_, _++_}
 use Prim.Native.Nat.{ℕ, _+_, _≤_, _<_}
 use native.Mathlib.Omega.{arith}
-use borrow.Author.Tests.{lt-ltb, le-ltb, eq-eqb, ne-eqb}
-use lib.Dec.{ltb, leb, eqb}
-use lib.ListN.{length, take}
-use Rattle.claims.specs.declared.answer.Answer.{Answer}
+use borrow.Author.Tests.{lt-ltb, le-ltb, ne-eqb}
+use lib.Dec.{ltb, leb}
+use lib.ListN.{length}
 use Rattle.claims.specs.declared.answer.Answer.the-variants.{Refused}
-use Rattle.claims.specs.declared.answer.Entered.{Entered}
 use Rattle.claims.specs.declared.answer.Made.{Made}
-use Rattle.claims.specs.declared.answer.Replied.{Replied}
 use Rattle.claims.specs.declared.claim.Claim.{Claim}
 use Rattle.keys.specs.declared.lent.Added.{Added}
 use Rattle.claims.specs.declared.lent.Told.{Told}
@@ -21,7 +18,7 @@ use Rattle.keys.specs.declared.store.Store.{Store}
 use Rattle.keys.specs.Store.{limit, keysOf, storeOf, inOrder, insert, insertAll}
 use Rattle.claims.specs.Claim.{claimOf, noClaim}
 use Rattle.claims.specs.Question.{firstNo, settle, question6, claimQuestions}
-use Rattle.claims.specs.Reply.{ends, hear, reply}
+use Rattle.claims.specs.Reply.{ends, hear}
 use Rattle.claims.specs.Call.{judged, entered, made, replied}
 use Rattle.keys.specs.Lent.{orderedIn, addIn, keysAdding}
 use Rattle.claims.specs.Lent.{makeIn, keysHearing, replyIn}

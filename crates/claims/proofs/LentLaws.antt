@@ -8,7 +8,7 @@ use Prim.Native.Nat.{ℕ, _+_, _-_, _≤_, _<_}
 use native.Mathlib.Omega.{arith}
 use borrow.Author.Tests.{lt-ltb, le-leb, leb-true, ltb-true, ltb-false}
 use lib.Dec.{ltb, leb}
-use lib.ListN.{length, take, drop, getD, length-drop, List·getD-append}
+use lib.ListN.{length, drop, getD, length-drop, List·getD-append}
 use lib.Seq.{take-append-le, drop-append-le}
 use Rattle.keys.specs.Store.{limit, zeros, storeOf, position}
 use Rattle.keys.specs.Lent.{addedAt, noRoom}

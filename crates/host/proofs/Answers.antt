@@ -1,24 +1,22 @@
 -- What the host calls return, one law for each way that the code goes. In order: what reading tells; the longest image has room for any; taking a frame; a beat.
 -- Assumes nothing.
-use Prim.Native.Nat.{ℕ, _+_, _*_, _≤_, _<_}
+use Prim.Native.Nat.{ℕ, _≤_, _<_}
 use native.Mathlib.Omega.{arith}
-use mathlib.Core.Bool.{true, false}
+use mathlib.Core.Bool.{true}
 use mathlib.Core.List.{List, [], _∷_, _++_}
-use mathlib.Core.Path.{_≡_, refl, ap, sym, _∙_, subst}
+use mathlib.Core.Path.{_≡_, ap, sym, _∙_, subst}
 use borrow.Author.Tests.{le-leb, lt-leb}
 use lib.Dec.{lit<}
 use lib.IntN.{pos}
 use lib.ListN.{length, take, drop}
-use Rattle.claims.specs.declared.claim.Claim.{Claim}
 use Rattle.keys.specs.Store.{limit}
-use Rattle.claims.specs.Question.{Question, firstNo, settle}
-use Rattle.claims.proofs.QuestionLaws.{Numbered, firstNo-yes, firstNo-no, firstNo-append-zero, firstNo-append-no, settle-done, settle-refused}
+use Rattle.claims.specs.Question.{Question, firstNo}
+use Rattle.claims.proofs.QuestionLaws.{Numbered, firstNo-yes, firstNo-no, firstNo-append-zero, firstNo-append-no, settle-refused}
 use Rattle.rule.specs.declared.node.Node.{Node}
 use Rattle.rule.specs.declared.answer.Rest.{Rest}
 use Rattle.rule.specs.declared.answer.Taken.{Taken}
 use Rattle.rule.specs.Node.{nodeInOrder, nodeKeys}
 use Rattle.rule.specs.Question.{question15}
-use Rattle.rule.specs.Table.{tableLimit}
 use Rattle.rule.specs.Call.{writtenOver}
 use Rattle.rule.proofs.NodeLaws.{nodeInOrder-ordered, ordered-nodeInOrder}
 use Rattle.nodes.specs.Lent.{nodeWith, takenWith}
@@ -26,14 +24,15 @@ use Rattle.wire.specs.declared.answer.Framed.{Framed}
 use Rattle.wire.specs.declared.answer.Imaged.{Imaged}
 use Rattle.wire.specs.Run.{claim}
 use Rattle.wire.specs.Frame.{frameLimit, headSize, frameCount, frameClaims, allPass, readFrameQuestions, readFrame}
-use Rattle.wire.specs.Image.{imageLimit, keySection, claimSection, sectionLength, nodeBytes, Shaped, readImageQuestions, readImage}
+use Rattle.wire.specs.Image.{imageLimit, nodeBytes, Shaped, readImageQuestions, readImage}
 use Rattle.wire.specs.Lent.{writeImageIn, imageInLent}
 use Rattle.wire.proofs.Frames.{head-yes, sized-yes, take-fourOf, readFrame-number, readFrame-yes, readFrame-0}
-use Rattle.wire.proofs.Images.{readImage-number, readImage-yes, readImage-0, ordered-counts, length-nodeBytes, ordered-countable, writeImageIn-0}
+use Rattle.wire.proofs.Images.{readImage-number, readImage-yes, readImage-0, ordered-counts, length-nodeBytes, ordered-withinLimits, writeImageIn-0}
 use Rattle.wire.proofs.Runs.{length-readRun}
-use Rattle.host.specs.Taking.{questions6, takenInTurn, takenUntil}
+use Rattle.host.specs.Taking.{questions6, takenUntil}
 use Rattle.host.specs.Frames.{framesLimit}
-use Rattle.host.specs.Call.{minus, nodeIn, takingQuestions, takeFrameQuestions, nodeAfter, frameTaken, frameTakenOut, TakenFrom, beatImageQuestions, nodeServed, framesSent, imageBeaten, imageBeatenOut, imageBeatenFrames}
+use Rattle.host.specs.Call.{minus, nodeIn, takingQuestions, takeFrameQuestions, nodeAfter, frameTaken, frameTakenOut, beatImageQuestions, nodeServed, framesSent, imageBeaten, imageBeatenOut, imageBeatenFrames}
+use Rattle.host.specs.Known.{TakenFrom}
 use Rattle.host.proofs.Turns.{questions6-numbered, takenUntil-number, takenUntil-node, ordered-takenInTurn}
 
 -- ---- what reading tells
@@ -71,7 +70,7 @@ module _ (n : Node) (shaped : Shaped n) (ordered : nodeInOrder n ≡ true) where
       → (record { number = 0; length = length (nodeBytes n) } ≡ writeImageIn n (length out)) × (writtenOver (nodeBytes n) out ≡ imageInLent n out)
   writeImageIn-room out h =
       let l = length-image in
-      writeImageIn-0 n out (ordered-countable n out (shaped .keys) ordered) (omega arith)
+      writeImageIn-0 n out (ordered-withinLimits n out (shaped .keys) ordered) (omega arith)
 
 -- ---- taking a frame: the questions before 15
 

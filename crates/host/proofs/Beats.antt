@@ -1,20 +1,19 @@
 -- A beat of a node in order, as src/sent.rt runs it on a lent run of words: what it returns, that its claims are read back from the words, pass 13 and fit the
 -- frames, and that the node stays in order. Assumes nothing.
-use Prim.Native.Nat.{ℕ, _+_, _*_, _/_, _≤_}
+use Prim.Native.Nat.{ℕ, _*_, _/_, _≤_}
 use native.Mathlib.Omega.{arith}
 use mathlib.Core.Bool.{true}
-use mathlib.Core.List.{List, [], _∷_, _++_}
-use mathlib.Core.Path.{_≡_, ap, sym, _∙_, subst}
+use mathlib.Core.List.{List}
+use mathlib.Core.Path.{_≡_, ap, _∙_}
 use borrow.Author.Tests.{le-leb}
 use lib.ListN.{length, drop}
 use Rattle.claims.specs.declared.claim.Claim.{Claim}
 use Rattle.keys.specs.Store.{limit}
 use Rattle.claims.specs.Question.{firstNo}
-use Rattle.keys.proofs.Rising.{Rising}
 use Rattle.keys.proofs.Order.{inOrder-rising, inOrder-count, length-keysOf}
 use Rattle.rule.specs.declared.node.Node.{Node}
 use Rattle.rule.specs.declared.answer.Beaten.{Beaten}
-use Rattle.rule.specs.Table.{tableLimit, beatLimit, sending}
+use Rattle.rule.specs.Table.{beatLimit, sending}
 use Rattle.rule.specs.Node.{nodeKeys, pendingOf, nodeInOrder}
 use Rattle.rule.specs.Call.{writtenOver, claimWords, beatQuestions}
 use Rattle.nodes.specs.Serving.{beatenIn, beatenInLent}
@@ -24,9 +23,8 @@ use Rattle.nodes.proofs.ServeLaws.{beatenIn-beaten, beatenInLent-beatenLent}
 use Rattle.rule.proofs.TableLaws.{length-sending}
 use Rattle.rule.proofs.Words.{length-claimWords, length-writtenOver}
 use Rattle.wire.specs.Frame.{allPass}
-use Rattle.wire.specs.Image.{Shaped}
 use Rattle.wire.specs.Run.{readRun}
-use Rattle.host.specs.Frames.{framesBytes, framesLength, framesLimit, inWords}
+use Rattle.host.specs.Frames.{framesLimit, inWords}
 use Rattle.host.specs.Call.{nodeServed, framesSent}
 use Rattle.host.proofs.Grouping.{length-framesBytes, framesLength-limit}
 use Rattle.host.proofs.Passing.{sending-passes}

@@ -1,19 +1,18 @@
 -- Claims in frames of four: `fours` and `framesBytes` of specs/Frames. In order: enough groups are enough; no claim is lost; one frame and then the rest; how long
 -- the frames are. Assumes nothing.
-use Prim.Native.Nat.{ℕ, zero, suc, _+_, _-_, _*_, _/_, _≤_, _<_, min}
+use Prim.Native.Nat.{ℕ, zero, suc, _+_, _-_, _≤_, _<_, min}
 use native.Mathlib.Omega.{arith}
 use mathlib.Core.List.{List, [], _∷_, _++_, flatten}
 use mathlib.Core.Logic.{⊎-elim}
-use mathlib.Core.Path.{_≡_, refl, ap, ap₂, sym, _∙_}
+use mathlib.Core.Path.{_≡_, refl, ap, sym}
 use lib.ListN.{length, take, drop, length-append, length-take, length-drop, take-append-drop, drop-of-length-le}
 use lib.Seq.{take-all}
 use Rattle.claims.specs.declared.claim.Claim.{Claim}
 use Rattle.keys.proofs.Tests.{lt-or-le}
 use Rattle.rule.specs.Table.{beatLimit}
-use Rattle.wire.specs.Claim.{claimSize}
-use Rattle.wire.specs.Frame.{frameLimit, headSize, frameLength, frameBytes}
+use Rattle.wire.specs.Frame.{frameLimit, frameLength, frameBytes}
 use Rattle.wire.proofs.FrameTrips.{length-frameBytes}
-use Rattle.host.specs.Frames.{groups, fours, inFrames, framesBytes, framesFor, framesLength, framesLimit}
+use Rattle.host.specs.Frames.{groups, fours, inFrames, framesBytes, framesLength, framesLimit}
 
 -- the size that document 01 names
 pub frames-size : framesLimit ≡ 3486

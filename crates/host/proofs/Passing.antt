@@ -2,7 +2,7 @@
 use Prim.Native.Nat.{ℕ, _≤_}
 use native.Mathlib.Omega.{arith}
 use mathlib.Core.Bool.{true}
-use mathlib.Core.List.{List, [], _∷_, _++_, List·Memᴰ, List·Memᴰ·head, List·Memᴰ·tail, List·Memᴰ·not-nil, List·Memᴰ·append-cases, List·Memᴰ·eq-of-singleton}
+use mathlib.Core.List.{List, [], _∷_, List·Memᴰ, List·Memᴰ·head, List·Memᴰ·tail, List·Memᴰ·not-nil, List·Memᴰ·append-cases, List·Memᴰ·eq-of-singleton}
 use mathlib.Core.Logic.{⊎-elim}
 use mathlib.Core.Path.{_≡_, refl, sym, _∙_, subst}
 use borrow.Author.Tests.{eq-eqb}
@@ -10,8 +10,7 @@ use lib.Dec.{eqb}
 use lib.ListN.{length}
 use Rattle.claims.specs.declared.claim.Claim.{Claim}
 use Rattle.keys.specs.Store.{limit}
-use Rattle.claims.specs.Claim.{claimOf, wholeClaim, between}
-use Rattle.claims.specs.Reply.{hear}
+use Rattle.claims.specs.Claim.{wholeClaim, between}
 use Rattle.claims.specs.Call.{judged}
 use Rattle.keys.proofs.Tests.{and-both}
 use Rattle.keys.proofs.Rising.{Rising, Sub, rising-length}

@@ -2,10 +2,9 @@
 use Prim.Native.Nat.{ℕ, zero, suc, _+_, _-_, _*_, _≤_, _<_, min}
 use native.Mathlib.Nat.{zero-add}
 use native.Mathlib.Omega.{arith}
-use mathlib.Core.Bool.{true, _&&_}
+use mathlib.Core.Bool.{true}
 use mathlib.Core.List.{List, [], _∷_, _++_, append-nil}
-use mathlib.Core.Path.{_≡_, refl, ap, ap₂, sym, _∙_}
-use borrow.Author.Tests.{le-leb}
+use mathlib.Core.Path.{_≡_, refl, ap, sym, _∙_}
 use borrow.Rule.Slice.PartMut.{putMid, post-is}
 use lib.Dec.{eqb}
 use lib.ListN.{length, take, drop, getD, set, length-append, length-drop, length-take, drop-of-length-le}
@@ -29,7 +28,7 @@ use Rattle.wire.proofs.Places.{length-putAt, putAt-nil, putAt-zero, putAt-appen
 use Rattle.wire.proofs.Runs.{length-readRun, set-readRun}
 use Rattle.rule.proofs.NodeLaws.{length-blanks}
 use Rattle.host.specs.Frames.{framesBytes, inWords}
-use Rattle.host.proofs.Words.{getD-readRun, readRun-part}
+use Rattle.host.proofs.Words.{getD-readRun}
 use Rattle.host.proofs.Turns.{allPass-getD}
 use Rattle.host.proofs.Grouping.{framesBytes-turn, framesBytes-nil}
 

@@ -3,9 +3,9 @@
 use Prim.Native.Nat.{ℕ, zero, suc, _+_, _≤_, _<_}
 use native.Mathlib.Omega.{arith}
 use native.Mathlib.Numerals.{add-one}
-use mathlib.Core.Bool.{Bool, true, false, cond, _&&_}
-use mathlib.Core.List.{List, [], _∷_, _++_}
-use mathlib.Core.Logic.{_⊎_, ⊎-elim}
+use mathlib.Core.Bool.{Bool, true, false, cond}
+use mathlib.Core.List.{List, [], _∷_}
+use mathlib.Core.Logic.{⊎-elim}
 use mathlib.Core.Path.{_≡_, refl, ap, sym, _∙_, subst}
 use borrow.Author.Tests.{eqb-true, eqb-false, eq-eqb, ne-eqb}
 use lib.Dec.{eqb}
@@ -14,21 +14,20 @@ use lib.Seq.{drop-cons}
 use Rattle.claims.specs.declared.claim.Claim.{Claim}
 use Rattle.claims.specs.Claim.{noClaim}
 use Rattle.claims.specs.Call.{judged}
-use Rattle.claims.specs.Question.{firstNo, question6, claimQuestions}
+use Rattle.claims.specs.Question.{firstNo, question6}
 use Rattle.claims.specs.Reply.{ends, hear}
 use Rattle.keys.specs.Store.{limit}
 use Rattle.keys.proofs.Order.{length-keys-storeOf}
 use Rattle.keys.proofs.Tests.{and-left, and-right, eq-or-ne}
-use Rattle.claims.proofs.QuestionLaws.{Numbered, firstNo-yes, firstNo-no, firstNo-append-zero, claimQuestions-numbered, judged-firstNo}
+use Rattle.claims.proofs.QuestionLaws.{Numbered, firstNo-yes, firstNo-no}
 use Rattle.rule.specs.declared.node.Node.{Node}
 use Rattle.rule.specs.declared.answer.Taken.{Taken}
 use Rattle.rule.specs.Node.{nodeInOrder, nodeKeys, pendingOf}
 use Rattle.rule.specs.Table.{tableWith}
-use Rattle.rule.specs.Question.{nodeQuestion1}
 use Rattle.rule.specs.Call.{takeQuestions, taken}
 use Rattle.nodes.specs.Lent.{takenNext}
 use Rattle.rule.proofs.NodeLaws.{Ordered, nodeInOrder-ordered, ordered-nodeInOrder, nodeKeys-nodeOf, store-nodeOf}
-use Rattle.rule.proofs.CallLaws.{takeQuestions-yes, taken-done, taken-refused, ordered-taken}
+use Rattle.rule.proofs.CallLaws.{takeQuestions-6, takeQuestions-yes, taken-done, taken-refused, ordered-taken}
 use Rattle.nodes.proofs.TakeLaws.{takenNext-taken, ordered-takenNext}
 use Rattle.wire.specs.Frame.{allPass}
 use Rattle.wire.specs.Image.{Shaped}
@@ -74,16 +73,11 @@ takenUntil-end r cs i h e = rw (drop-of-length-le cs h) (λ j. record { number =
 
 -- ---- all of them
 
--- what is left to ask of a claim that passes 2 to 5 is 6
+-- a claim that passes 2 to 5
 module _ (n : Node) (c : Claim) (o : Ordered n) (pass : judged c ≡ 0) where
-  only-6 : firstNo (takeQuestions n c) ≡ firstNo (question6 (ends c) (nodeKeys n) ∷ [])
-  only-6 =
-      firstNo-yes (nodeQuestion1 n) (claimQuestions c ++ (question6 (ends c) (nodeKeys n) ∷ [])) (ordered-nodeInOrder n o)
-      ∙ firstNo-append-zero (claimQuestions c) (question6 (ends c) (nodeKeys n) ∷ []) (claimQuestions-numbered c) (sym (judged-firstNo c) ∙ pass)
-
   module _ (yes : question6 (ends c) (nodeKeys n) .yes ≡ true) where
     asked : firstNo (takeQuestions n c) ≡ 0
-    asked = only-6 ∙ firstNo-yes (question6 (ends c) (nodeKeys n)) [] yes
+    asked = takeQuestions-6 n c o pass ∙ firstNo-yes (question6 (ends c) (nodeKeys n)) [] yes
 
     pub taken-number : taken n c .number ≡ 0
     taken-number = ap (λ (t : Taken). t .number) (taken-done n c asked)
@@ -96,7 +90,7 @@ module _ (n : Node) (c : Claim) (o : Ordered n) (pass : judged c ≡ 0) where
 
   pub taken-6 : question6 (ends c) (nodeKeys n) .yes ≡ false → taken n c .number ≡ 6
   taken-6 f =
-      let e : firstNo (takeQuestions n c) ≡ 6 = only-6 ∙ firstNo-no (question6 (ends c) (nodeKeys n)) [] f in
+      let e : firstNo (takeQuestions n c) ≡ 6 = takeQuestions-6 n c o pass ∙ firstNo-no (question6 (ends c) (nodeKeys n)) [] f in
       ap (λ (t : Taken). t .number) (taken-refused n c (λ (z : firstNo (takeQuestions n c) ≡ 0). omega arith)) ∙ e
 
 pub questions6-numbered : (cs : List Claim) (l : List ℕ) → Numbered (questions6 cs l)

@@ -1,20 +1,15 @@
 -- What each host call returns, for any bytes, and what its lent buffers hold afterwards (document 01, "Host calls" and "Questions"): the first question
 -- answered no decides, "save that images come first: 14, 1, then 10 to 13, 6, 15". A frame is taken whole or refused whole. Assumes nothing.
 use Prim.Native.Nat.{ℕ}
-use mathlib.Core.Bool.{true}
 use mathlib.Core.List.{List, [], _∷_, _++_}
-use mathlib.Core.Path.{_≡_}
 use lib.IntN.{ℤ, pos, negℤ}
 use lib.ListN.{length}
-use Rattle.keys.specs.Store.{limit}
 use Rattle.claims.specs.Question.{Question, firstNo, settle}
 use Rattle.rule.specs.declared.node.Node.{Node}
-use Rattle.rule.specs.declared.answer.Rest.{Rest}
-use Rattle.rule.specs.Node.{nodeKeys, pendingOf, nodeOf, nodeInOrder}
+use Rattle.rule.specs.Node.{nodeKeys, pendingOf, nodeOf}
 use Rattle.rule.specs.Table.{serve, sending}
 use Rattle.rule.specs.Question.{question15}
 use Rattle.rule.specs.Call.{writtenOver}
-use Rattle.nodes.specs.Lent.{nodeWith}
 use Rattle.wire.specs.Frame.{frameClaims, readFrameQuestions}
 use Rattle.wire.specs.Image.{imageLimit, nodeBytes, readImageQuestions, readImage}
 use Rattle.host.specs.Taking.{questions6, takenInTurn}
@@ -27,12 +22,6 @@ minus number = negℤ (pos number)
 -- the node that an image is of
 abbrev pub nodeIn : List ℕ → Node
 nodeIn image = readImage image .node
-
--- What the code knows of an image that it has loaded: the keys, and in `r` the rest of the node and the number of the first question answered no.
-pub record Loaded (image keys : List ℕ) (r : Rest) : Type 0 where
-  pub number : r .number ≡ readImage image .number
-  pub node : r .number ≡ 0 → nodeWith keys (r .held) (r .table) (r .count) ≡ nodeIn image
-  pub long : r .number ≡ 0 → length keys ≡ limit
 
 -- ---- a frame: "One takes an image and a frame, takes each claim in turn, writes the new image and returns its length."
 
@@ -60,14 +49,6 @@ frameTakenOut image frame out =
     settle (firstNo (takeFrameQuestions image frame (length out)))
     (writtenOver (nodeBytes (nodeAfter image frame)) out)
     (λ k. out)
-
--- What the code knows of the node that it takes a frame into: its keys, and in `r` the rest of it, with the number of the first question before 15 that was
--- answered no. Where there is none, the node is in order.
-pub record TakenFrom (image frame keys : List ℕ) (r : Rest) : Type 0 where
-  pub number : r .number ≡ firstNo (takingQuestions image frame)
-  pub node : r .number ≡ 0 → nodeWith keys (r .held) (r .table) (r .count) ≡ nodeAfter image frame
-  pub ordered : r .number ≡ 0 → nodeInOrder (nodeWith keys (r .held) (r .table) (r .count)) ≡ true
-  pub long : r .number ≡ 0 → length keys ≡ limit
 
 -- ---- a beat: "One takes an image, runs a beat, writes the new image to one buffer and the claims to a second, four to a frame and the rest in a last one,
 -- and returns the length of the frames."

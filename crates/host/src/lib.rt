@@ -18,7 +18,8 @@ use wire::write_image_in;
 ghost use mathlib.Core.Path.{_≡_};
 ghost use lib.ListN.{length};
 ghost use Rattle.keys.specs.Store.{limit, zeros};
-ghost use Rattle.host.specs.Call.{frameTaken, frameTakenOut, TakenFrom, imageBeaten, imageBeatenOut, imageBeatenFrames};
+ghost use Rattle.host.specs.Call.{frameTaken, frameTakenOut, imageBeaten, imageBeatenOut, imageBeatenFrames};
+ghost use Rattle.host.specs.Known.{TakenFrom};
 
 // The node of an image with the claims of a frame taken, in turn, its keys in a lent run of zeros. Asks 14, 1, 10 to 13, and 6 claim by claim.
 fn taken_from(image: &[u8], frame: &[u8], keys: &mut [u64; Store::LIMIT]) -> Rest

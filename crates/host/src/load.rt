@@ -5,7 +5,7 @@ use rule::Rest;
 use wire::read_image_in;
 ghost use mathlib.Core.Path.{_≡_};
 ghost use Rattle.keys.specs.Store.{limit, zeros};
-ghost use Rattle.host.specs.Call.{Loaded};
+ghost use Rattle.host.specs.Known.{Loaded};
 
 // Loads an image. Asks 14 and 1.
 pub(crate) fn load(image: &[u8], keys: &mut [u64; Store::LIMIT]) -> Rest

@@ -1,5 +1,6 @@
 // A beat, and the claims that it sends in frames.
 use claims::Claim;
+use keys::capped;
 use nodes::beat_in;
 use rule::Node;
 use wire::Framed;
@@ -7,7 +8,7 @@ use wire::write_frame;
 use wire::write_image_in;
 ghost use mathlib.Core.Path.{_≡_};
 ghost use mathlib.Core.Bool.{true};
-ghost use Prim.Native.Nat.{_+_, _*_, _≤_, _<_, min};
+ghost use Prim.Native.Nat.{_+_, _*_, _≤_, _<_};
 ghost use lib.ListN.{length, take, drop};
 ghost use Rattle.keys.specs.Store.{limit};
 ghost use Rattle.rule.specs.Node.{nodeInOrder};
@@ -68,13 +69,6 @@ fn write_at(frames: &mut [u8], at: usize, claims: [Claim; Framed::CLAIMS], n: us
 {
     let written = write_frame(claims, n, &mut frames[at..]);
     at + written.length
-}
-
-// The lesser of two numbers.
-fn capped(count: usize, most: usize) -> usize
-    ensures { λ r. ⌜ r ≡ min count most ⌝ }
-{
-    if count < most { count } else { most }
 }
 
 // Writes the first `count` claims of a lent run in frames, and returns their length.

@@ -1,17 +1,17 @@
 -- Adding keys at their places (specs/Lent): one law for each way that `add_in`, `add_two` and `add_both` go. Assumes nothing.
-use mathlib.Core.Path.{_≡_, refl, sym, _∙_, ap}
+use mathlib.Core.Path.{_≡_, refl, _∙_, ap}
 use mathlib.Core.Bool.{Bool, true, false, cond, _&&_}
 use mathlib.Core.List.{List}
-use Prim.Native.Nat.{ℕ, suc, _+_, _-_, _≤_, _<_}
+use Prim.Native.Nat.{ℕ, _+_, _-_, _≤_, _<_}
 use native.Mathlib.Omega.{arith}
-use borrow.Author.Tests.{lt-leb, le-leb, eq-eqb, ne-eqb, leb-true, ltb-true}
+use borrow.Author.Tests.{lt-leb, le-leb, eq-eqb, ne-eqb, ltb-true}
 use lib.Dec.{leb, ltb, eqb}
 use lib.ListN.{length, getD}
 use Rattle.keys.specs.declared.lent.Added.{Added}
 use Rattle.keys.specs.declared.lent.Place.{Place}
 use Rattle.keys.specs.Store.{limit}
-use Rattle.keys.specs.Lent.{quartered, placeAt, placeIn, lacking, putIn, addedAt, noRoom, addOne, keysOne, raised, addTwo, keysTwo, addIn, keysAdding, addBoth, keysBoth}
-use Rattle.keys.proofs.Tests.{and-left, and-right}
+use Rattle.keys.specs.Lent.{quartered, placeAt, placeIn, lacking, putIn, addedAt, noRoom, raised, addTwo, keysTwo, addIn, keysAdding, addBoth, keysBoth}
+use Rattle.keys.proofs.Tests.{and-left}
 use Rattle.keys.proofs.Quartering.{quartered-lt}
 
 pub lacking-le : (p : Place) → lacking p ≤ 1

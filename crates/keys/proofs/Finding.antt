@@ -11,7 +11,6 @@ use native.Mathlib.Omega.{arith}
 use borrow.Author.Tests.{lt-ltb, le-ltb, le-leb, ne-eqb, leb-true, leb-false}
 use lib.Dec.{ltb, leb, eqb}
 use lib.ListN.{length, getD, length-append, List·getD-append}
-use Rattle.keys.specs.declared.lent.Place.{Place}
 use Rattle.keys.specs.Store.{position, holds}
 use Rattle.keys.specs.Lent.{halved, quarterOf, quartered, placeAt, placeIn}
 use Rattle.keys.proofs.Tests.{lt-or-le}

@@ -2,12 +2,10 @@
 -- What halving finds among rising keys is in Finding. Assumes nothing.
 use mathlib.Core.Path.{_≡_, refl, sym, _∙_, ap}
 use mathlib.Core.Bool.{Bool, true, false, cond}
-use mathlib.Core.Logic.{_⊎_, ⊎-elim}
+use mathlib.Core.Logic.{⊎-elim}
 use mathlib.Core.List.{List}
 use Prim.Native.Nat.{ℕ, zero, suc, _+_, _-_, _/_, _≤_, _<_}
-use native.Mathlib.Nat.{add-zero}
 use native.Mathlib.Omega.{arith}
-use borrow.Author.Tests.{le-leb, lt-leb}
 use lib.Dec.{leb}
 use lib.ListN.{getD}
 use Rattle.keys.specs.Lent.{halved}
@@ -51,14 +49,6 @@ module _ (keys : List ℕ) (key : ℕ) where
   halved-turn base zero h = absurd (omega arith)
   halved-turn base (suc n) h =
       halved-fuel n (cond (leb (getD keys (base + suc n / 2) 0) key) (base + suc n / 2) base) (suc n - suc n / 2) (omega arith)
-
-  pub halved-up : (base size : ℕ) → 1 < size → getD keys (base + size / 2) 0 ≤ key
-      → halved size keys key base size ≡ halved (size - size / 2) keys key (base + size / 2) (size - size / 2)
-  halved-up base size h g = halved-turn base size h ∙ rw (le-leb (getD keys (base + size / 2) 0) key g)
-
-  pub halved-down : (base size : ℕ) → 1 < size → key < getD keys (base + size / 2) 0
-      → halved size keys key base size ≡ halved (size - size / 2) keys key base (size - size / 2)
-  halved-down base size h g = halved-turn base size h ∙ rw (lt-leb (getD keys (base + size / 2) 0) key g)
 
 -- what halving finds is one of the keys
 pub halved-lt : (n : ℕ) (keys : List ℕ) (key base size : ℕ) → 0 < size → halved n keys key base size < base + size

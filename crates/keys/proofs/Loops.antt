@@ -1,7 +1,7 @@
 -- What is left of a run computes the answer: the laws of the loops of src/leaf.rt that read a run of keys. Of each loop: how a turn goes on, and
 -- what the answer is where it stops. Not here: halving (Halving), putting a key in (Putting). Assumes nothing.
 use mathlib.Core.Path.{_≡_, refl, _∙_}
-use mathlib.Core.Bool.{Bool, true, false, _&&_, and-true, and-assoc}
+use mathlib.Core.Bool.{true, false, _&&_, and-true, and-assoc}
 use mathlib.Core.Logic.{⊎-elim}
 use mathlib.Core.List.{List, [], _∷_}
 use Prim.Native.Nat.{ℕ, suc, _+_, _≤_, _<_}

@@ -2,8 +2,8 @@
 -- question 1 again at each step. They are given a run of keys and a count, and no store: question 1 is not theirs, and they are no rule of document 01.
 -- What they mean where the run is a store in order is said by laws (proofs/LentLaws), by the definitions of Store. Assumes nothing.
 use Prim.Native.Nat.{ℕ, zero, suc, _+_, _-_, _*_, _/_}
-use mathlib.Core.Bool.{Bool, true, false, cond, _&&_}
-use mathlib.Core.List.{List, [], _∷_, _++_}
+use mathlib.Core.Bool.{Bool, false, cond, _&&_}
+use mathlib.Core.List.{List, _∷_, _++_}
 use lib.Dec.{ltb, leb, eqb}
 use lib.ListN.{length, take, drop, getD}
 use Rattle.keys.specs.declared.lent.Place.{Place}

@@ -1,7 +1,7 @@
 -- Keys and the store (document 01, the section of that name): the limit, the keys of a store and the store of keys, in order, entering.
 -- A store's keys are a list of numbers; most rules speak of that list, and `keysOf` and `storeOf` lead from the store to it and back.
 -- Not here: what the call `enter` returns (`claims`, specs/Call). Assumes nothing.
-use Prim.Native.Nat.{ℕ, zero, suc, _-_}
+use Prim.Native.Nat.{ℕ, suc, _-_}
 use mathlib.Core.Bool.{Bool, true, false, cond, _&&_}
 use mathlib.Core.List.{List, [], _∷_, _++_}
 use lib.Dec.{ltb, leb, eqb}

@@ -6,7 +6,7 @@ use crate::leaf::quarter;
 use crate::leaf::rises;
 use crate::store::Store;
 ghost use mathlib.Core.Path.{_≡_};
-ghost use mathlib.Core.Bool.{Bool, false};
+ghost use mathlib.Core.Bool.{false};
 ghost use Prim.Native.Nat.{_≤_, _<_};
 ghost use lib.ListN.{length};
 ghost use Rattle.keys.specs.Store.{limit};

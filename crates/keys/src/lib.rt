@@ -1,9 +1,11 @@
 // Keys and the store (document 01, the section of that name): the store, and the calls on a lent run of its keys. What is asked and answered of a
 // store is in `claims`, where `enter` is. Each public call takes any content and states its whole result by equations with definitions of specs/.
+mod count;
 mod leaf;
 mod lent;
 mod store;
 
+pub use count::capped;
 pub use lent::Added;
 pub use lent::Place;
 pub use lent::add_both;

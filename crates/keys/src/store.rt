@@ -1,6 +1,6 @@
 // Keys and the store.
 ghost use mathlib.Core.Path.{_≡_};
-ghost use mathlib.Core.Bool.{Bool, true};
+ghost use mathlib.Core.Bool.{true};
 ghost use Rattle.keys.specs.Store.{emptyStore, inOrder};
 
 // A count from 0 to the limit, and the places. In order: the count is at most the limit, the keys below it rise strictly, every other place is 0.

@@ -3,13 +3,12 @@
 -- and leaves it in order. Assumes nothing.
 use mathlib.Core.Path.{_≡_, refl, sym, _∙_, ap, ap₂, subst}
 use mathlib.Core.Bool.{Bool, true, false, cond}
-use mathlib.Core.Logic.{_⊎_, ⊎-elim}
-use mathlib.Core.List.{List, [], _∷_, _++_, map}
+use mathlib.Core.Logic.{⊎-elim}
+use mathlib.Core.List.{List, [], _∷_, _++_}
 use Prim.Native.Nat.{ℕ, zero, suc, _+_, _-_, _≤_, _<_, min}
 use native.Mathlib.Omega.{arith}
 use borrow.Author.Tests.{lt-ltb, le-ltb, eq-eqb, ne-eqb}
-use lib.Dec.{eqb}
-use lib.ListN.{length, take, drop, length-append, length-take, length-drop, length-map, take-append-drop}
+use lib.ListN.{length, take, drop, length-append, length-take, length-drop, take-append-drop}
 use lib.Seq.{length-take-le, take-take, take-all, take-at, drop-drop}
 use Rattle.claims.specs.declared.claim.Claim.{Claim}
 use Rattle.keys.specs.declared.lent.Added.{Added}
@@ -23,17 +22,16 @@ use Rattle.claims.specs.Lent.{hearIn, keysHearing}
 use Rattle.keys.proofs.Tests.{lt-or-le, eq-or-ne}
 use Rattle.keys.proofs.Rising.{Rising}
 use Rattle.keys.proofs.Order.{inOrder-rising, length-keysOf, storeOf-keysOf, count-storeOf}
-use Rattle.claims.proofs.QuestionLaws.{Passes, passes, firstNo-yes, firstNo-no, firstNo-append-zero, firstNo-append-no, claimQuestions-numbered, judged-firstNo}
+use Rattle.claims.proofs.QuestionLaws.{Passes, passes, firstNo-yes, firstNo-no, firstNo-append-no, judged-firstNo}
 use Rattle.claims.proofs.LentLaws.{hearIn-fits, hearIn-full, keysHearing-fits, keysHearing-refused}
 use Rattle.rule.specs.declared.node.Node.{Node}
 use Rattle.rule.specs.declared.answer.Taken.{Taken}
 use Rattle.rule.specs.Table.{tableLimit, before, insertClaim, tableWith}
 use Rattle.rule.specs.Node.{blanks, pendingOf, nodeKeys, nodeOf, nodeInOrder}
-use Rattle.rule.specs.Question.{nodeQuestion1}
 use Rattle.rule.specs.Call.{writtenOver, takeQuestions, taken}
 use Rattle.nodes.specs.Lent.{nodeWith, placeAmong, isAt, placedAt, placedIn, tableIn, Enlisted, takenAfter, takenNext}
-use Rattle.rule.proofs.NodeLaws.{Ordered, ordered-nodeInOrder, blanks-allUnused}
-use Rattle.rule.proofs.CallLaws.{takeQuestions-yes, taken-done, taken-refused, ordered-taken, length-pendingOf}
+use Rattle.rule.proofs.NodeLaws.{Ordered, blanks-allUnused}
+use Rattle.rule.proofs.CallLaws.{takeQuestions-yes, takeQuestions-6, taken-done, taken-refused, ordered-taken, length-pendingOf}
 use Rattle.nodes.proofs.Placing.{tableIn-tableWith}
 
 -- ---- the table with the claim put in
@@ -113,10 +111,6 @@ module _ (n : Node) (c : Claim) (h : Added) (after : List ℕ) (heard : h ≡ he
 
 -- ---- the refusals of `take`
 
--- how many places a table has, from what is known of an array of structs in a struct
-pub length-mapped : (X Y : Type 0) (f : X → Y) (l : List X) (n : ℕ) → length (map f l) ≡ n → length l ≡ n
-length-mapped X Y f l n e = sym (length-map l f) ∙ e
-
 module _ (n : Node) (c : Claim) where
   pub taken-1 : nodeInOrder n ≡ false → record { number = 1; node = n } ≡ taken n c
   unfolding taken
@@ -175,12 +169,6 @@ module _ (n : Node) (whole : length (n .pending) ≡ tableLimit) (o : Ordered n)
     held-are : n .store .count ≡ length (nodeKeys n)
     held-are = sym (length-keysOf (n .store) long (o .store))
 
-    -- what is left to ask is 6
-    only-6 : firstNo (takeQuestions n c) ≡ firstNo (question6 (ends c) (nodeKeys n) ∷ [])
-    only-6 =
-        firstNo-yes (nodeQuestion1 n) (claimQuestions c ++ (question6 (ends c) (nodeKeys n) ∷ [])) (ordered-nodeInOrder n o)
-        ∙ firstNo-append-zero (claimQuestions c) (question6 (ends c) (nodeKeys n) ∷ []) (claimQuestions-numbered c) (sym (judged-firstNo c) ∙ pass)
-
     table-is : tableIn c (pendingOf n) ≡ tableWith c (pendingOf n)
     table-is = tableIn-tableWith c (pendingOf n) (o .table) (length-pendingOf n o)
 
@@ -201,7 +189,7 @@ module _ (n : Node) (whole : length (n .pending) ≡ tableLimit) (o : Ordered n)
         let k : keysHearing (n .store .keys) (n .store .count) c ≡ storeOf (hear c l) .keys =
         ap₂ (λ (keys : List ℕ) (m : ℕ). keysHearing keys m c) keys-are held-are ∙ keysHearing-fits l rise c (good .ordered) f in
         let yes : firstNo (takeQuestions n c) ≡ 0 =
-        only-6 ∙ firstNo-yes (question6 (ends c) l) [] (lt-ltb (length (insertAll (ends c) l)) (limit + 1) (omega arith)) in
+        takeQuestions-6 n c o pass ∙ firstNo-yes (question6 (ends c) l) [] (lt-ltb (length (insertAll (ends c) l)) (limit + 1) (omega arith)) in
         ap₂ (λ (x : Added) (keys : List ℕ). takenAfter x keys n c) h k
         ∙ (ap (λ (u : List Claim). record { number = 0; node = nodeWith (storeOf (hear c l) .keys) (length (hear c l)) (writtenOver u (n .pending)) (length u) }) table-is
         ∙ ((λ i. record { number = 0; node = nodeWith (storeOf (hear c l) .keys) (sym (count-storeOf (hear c l)) i) (places-are i) (length t) })
@@ -214,7 +202,7 @@ module _ (n : Node) (whole : length (n .pending) ≡ tableLimit) (o : Ordered n)
         let h : hearIn (n .store .keys) (n .store .count) c ≡ noRoom (length l) =
         ap₂ (λ (keys : List ℕ) (m : ℕ). hearIn keys m c) keys-are held-are ∙ hearIn-full l rise c (good .ordered) f in
         let no : firstNo (takeQuestions n c) ≡ 6 =
-        only-6 ∙ firstNo-no (question6 (ends c) l) [] (le-ltb (length (insertAll (ends c) l)) (limit + 1) (omega arith)) in
+        takeQuestions-6 n c o pass ∙ firstNo-no (question6 (ends c) l) [] (le-ltb (length (insertAll (ends c) l)) (limit + 1) (omega arith)) in
         ap (λ (x : Added). takenAfter x (keysHearing (n .store .keys) (n .store .count) c) n c) h
         ∙ (ap (λ (m : ℕ). record { number = m; node = n }) (sym no)
         ∙ sym (taken-refused n c (λ (e : firstNo (takeQuestions n c) ≡ 0). omega arith)))

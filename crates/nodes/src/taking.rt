@@ -5,11 +5,12 @@ use claims::Claim;
 use claims::hear_in;
 use claims::judge;
 use keys::Store;
+use keys::capped;
 use rule::Node;
 use rule::Rest;
 use rule::Taken;
 ghost use mathlib.Core.Path.{_≡_};
-ghost use Prim.Native.Nat.{_≤_, _<_, min};
+ghost use Prim.Native.Nat.{_≤_, _<_};
 ghost use lib.ListN.{take};
 ghost use Rattle.rule.specs.Table.{tableLimit};
 ghost use Rattle.rule.specs.Call.{writtenOver, taken};
@@ -65,13 +66,6 @@ fn put(table: [Claim; Node::TABLE], count: usize, at: usize, claim: Claim) -> [C
     }
     moved[at] = claim;
     moved
-}
-
-// The lesser of two numbers.
-fn capped(count: usize, most: usize) -> usize
-    ensures { λ r. ⌜ r ≡ min count most ⌝ }
-{
-    if count < most { count } else { most }
 }
 
 // The table with a claim put in at a place, unless it is the one there; of 65 the last is dropped.

@@ -2,7 +2,6 @@
 -- the whole input; where no question is answered no. Assumes nothing.
 use Prim.Native.Nat.{ℕ, _-_, _/_, _≤_}
 use native.Mathlib.Omega.{arith}
-use mathlib.Core.Bool.{_&&_}
 use mathlib.Core.List.{List, [], _∷_, _++_}
 use mathlib.Core.Path.{_≡_, refl, ap, sym, _∙_}
 use borrow.Author.Tests.{leb-true}
@@ -16,7 +15,7 @@ use Rattle.claims.proofs.QuestionLaws.{Numbered, firstNo-zero, firstNo-append-z
 use Rattle.keys.proofs.Tests.{and-right}
 use Rattle.rule.specs.declared.answer.Met.{Met}
 use Rattle.rule.specs.Call.{roundQuestions, roundBy, met, metWords}
-use Rattle.rule.proofs.CallLaws.{met-done, met-refused, metWords-done, metWords-refused, roundQuestions-yes, roundYes-rounded}
+use Rattle.rule.proofs.CallLaws.{met-done, metWords-done, metWords-refused, roundQuestions-yes, roundYes-rounded}
 use Rattle.wire.specs.declared.answer.Imaged.{Imaged}
 use Rattle.wire.specs.declared.answer.Length.{Length}
 use Rattle.wire.specs.Length.{noLength}

@@ -1,12 +1,12 @@
 -- Laws of text at a place of a buffer: one character, one character more, one piece after another. Assumes nothing.
 use Prim.Native.Nat.{ℕ, _+_, _≤_, _<_}
-use native.Mathlib.Nat.{add-zero, add-assoc}
+use native.Mathlib.Nat.{add-zero}
 use native.Mathlib.Numerals.{add-one}
 use native.Mathlib.Omega.{arith}
 use mathlib.Core.List.{List, [], _∷_, _++_}
-use mathlib.Core.Path.{_≡_, refl, ap, sym, _∙_}
+use mathlib.Core.Path.{_≡_, refl, sym, _∙_}
 use lib.ListN.{length, take, getD, set, length-append}
-use lib.Seq.{take-suc, take-all, length-take-le}
+use lib.Seq.{take-suc, length-take-le}
 use Rattle.wire.specs.Place.{putAt}
 use Rattle.wire.proofs.Places.{length-putAt, putAt-nil, putAt-snoc, putAt-append}
 use Rattle.rehearsal.specs.Written.{Written}

@@ -1,27 +1,25 @@
 -- The core of a round on flat words (specs/Core) is the round of specs/Round, where both runs are stores in order and the records are enough. The records
 -- are the queue itself: what waits stands, in its order, where its deliveries will be recorded. In order: a state of the core laid out from the keys of
 -- both stores, what waits and what is delivered; one delivery; deliveries until none waits; the whole claim; both halves. Assumes nothing.
-use Prim.Native.Nat.{ℕ, zero, suc, _+_, _-_, _*_, _/_, _≤_, _<_}
-use mathlib.Core.Bool.{Bool, true, false, cond, _&&_}
+use Prim.Native.Nat.{ℕ, zero, suc, _+_, _-_, _*_, _≤_, _<_}
 use mathlib.Core.List.{List, [], _∷_, _++_, map, append-assoc, append-nil, List·Memᴰ·head}
 use mathlib.Core.Path.{_≡_, refl, sym, ap, ap₂, _∙_, subst}
 use native.Mathlib.Omega.{arith}
-use borrow.Author.Tests.{eq-eqb, ne-eqb, lt-ltb, le-ltb, le-leb}
-use lib.Dec.{ltb, leb, eqb}
-use lib.ListN.{length, take, drop, getD, length-append, length-map}
+use borrow.Author.Tests.{eq-eqb, ne-eqb, lt-ltb, le-leb}
+use lib.ListN.{length, getD, length-append, length-map}
 use Rattle.claims.specs.declared.claim.Claim.{Claim}
 use Rattle.keys.specs.Store.{limit, storeOf}
 use Rattle.claims.specs.Claim.{claimOf, wholeClaim}
 use Rattle.claims.specs.Reply.{hear, reply, claimsOf}
 use Rattle.claims.specs.Lent.{makeIn, keysHearing, replyIn}
-use Rattle.keys.proofs.Rising.{Rising, Sub, rising-length}
+use Rattle.keys.proofs.Rising.{Rising, rising-length}
 use Rattle.claims.proofs.QuestionLaws.{Passes}
 use Rattle.claims.proofs.ReplyLaws.{hear-rising, hear-sub}
 use Rattle.claims.proofs.LentLaws.{keysHearing-fits, replyIn-fits, makeIn-store}
 use Rattle.rule.specs.declared.delivery.Delivery.{Delivery}
-use Rattle.rule.specs.Round.{End, leftEnd, rightEnd, senderNumber, Pair, pair, keysAt, holding, Entry, waits, receiver, keysBefore, delivered, answers, Line, Run, run, noting, runAll, half, followed, roundOf, transcript, union}
+use Rattle.rule.specs.Round.{End, leftEnd, rightEnd, senderNumber, Pair, pair, Entry, waits, receiver, keysBefore, delivered, answers, Line, Run, run, half, roundOf, transcript, union}
 use Rattle.rule.specs.Call.{deliveryWords, writtenOver}
-use Rattle.rounds.specs.Core.{recordsIn, claimIn, putRecord, putRecords, nextAfter, Core, toRight, toLeft, step, steps, finish, wholeWords, wholeNext, opened, reopened, both}
+use Rattle.rounds.specs.Core.{recordsIn, claimIn, putRecords, nextAfter, Core, step, steps, finish, wholeWords, wholeNext, opened, reopened, both}
 use Rattle.rule.proofs.Pair.{Rises, unionOf, rises-pair}
 use Rattle.rule.proofs.Entry.{Sound, weights, sound-limit, length-waits}
 use Rattle.rule.proofs.Deliver.{adding-within}

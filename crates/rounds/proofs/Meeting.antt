@@ -1,23 +1,20 @@
 -- `round_words` (src/flat.rt): one law for each of its two ways, from the core to the definitions of specs/Call. Assumes nothing.
-use Prim.Native.Nat.{ℕ, _+_, _*_, _/_, _≤_, _<_}
-use mathlib.Core.Bool.{true}
-use mathlib.Core.List.{List, [], _∷_, _++_, map, append-nil}
-use mathlib.Core.Path.{_≡_, refl, sym, ap, ap₂, _∙_, subst}
-use native.Mathlib.Omega.{arith}
+use Prim.Native.Nat.{ℕ, _/_}
+use mathlib.Core.List.{List, [], append-nil}
+use mathlib.Core.Path.{_≡_, sym, ap, ap₂, _∙_, subst}
 use lib.ListN.{length, length-map}
 use Rattle.keys.specs.declared.store.Store.{Store}
-use Rattle.keys.specs.Store.{limit, keysOf, storeOf, inOrder}
+use Rattle.keys.specs.Store.{limit, keysOf, storeOf}
 use Rattle.claims.specs.Question.{firstNo}
 use Rattle.keys.proofs.Order.{inOrder-rising, length-keysOf, storeOf-keysOf, count-storeOf}
 use Rattle.keys.proofs.LentLaws.{orderedIn-inOrder}
-use Rattle.rule.specs.declared.answer.Met.{Met}
 use Rattle.rule.specs.declared.delivery.Delivery.{Delivery}
 use Rattle.rounds.specs.declared.flat.Reached.{Reached}
-use Rattle.rule.specs.Round.{Line, roundOf, transcript, union}
+use Rattle.rule.specs.Round.{Line, transcript}
 use Rattle.rule.specs.Call.{roundQuestions, roundBy, met, metWords, deliveryWords, writtenOver}
 use Rattle.rounds.specs.Core.{asked, Core, both, Stepped}
 use Rattle.rule.proofs.CallLaws.{RoundYes, roundQuestions-yes, met-done, met-refused, metWords-done, metWords-refused}
-use Rattle.rounds.proofs.CoreLaws.{Laid, laid-both, noted}
+use Rattle.rounds.proofs.CoreLaws.{Laid, laid-both}
 
 -- a store by its parts
 store-is : (s : Store) (keys : List ℕ) (count : ℕ) → keys ≡ s .keys → count ≡ s .count → record { keys = keys; count = count } ≡ s

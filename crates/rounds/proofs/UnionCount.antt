@@ -1,16 +1,14 @@
 -- Counting the union of two rising runs by walking both at once (src/flat.rt, `union_count`): the lesser of two first keys is the union's first key.
 -- The invariant: the keys counted and those of the union of what is left are those of the union of all. Assumes nothing.
-use Prim.Native.Nat.{ℕ, zero, suc, _+_, _-_, _≤_, _<_}
-use mathlib.Core.List.{List, [], _∷_, _++_, List·Memᴰ, List·Memᴰ·head, List·Memᴰ·tail, List·Memᴰ·cases-cons, List·Memᴰ·not-nil}
-use mathlib.Core.Logic.{_⊎_, inl, inr, ⊎-elim}
-use mathlib.Core.Path.{_≡_, refl, sym, ap, _∙_, subst}
+use Prim.Native.Nat.{ℕ, suc, _+_, _-_, _≤_, _<_}
+use mathlib.Core.List.{List, [], _∷_, List·Memᴰ, List·Memᴰ·head, List·Memᴰ·tail, List·Memᴰ·cases-cons, List·Memᴰ·not-nil}
+use mathlib.Core.Logic.{_⊎_, ⊎-elim}
+use mathlib.Core.Path.{_≡_, sym, ap, _∙_, subst}
 use native.Mathlib.Numerals.{add-one}
 use native.Mathlib.Omega.{arith}
 use lib.ListN.{length, drop, getD, length-drop, drop-of-length-le}
 use lib.Seq.{drop-cons}
-use Rattle.keys.specs.Store.{insertAll}
-use Rattle.keys.proofs.Rising.{Rising, Sub, above-mem, mem-above, sub-tail, rising-drop}
-use Rattle.keys.proofs.Insert.{insertAll-held}
+use Rattle.keys.proofs.Rising.{Rising, above-mem, mem-above, rising-drop}
 use Rattle.rule.specs.Round.{union}
 use Rattle.rule.proofs.Union.{union-rising, union-left, union-right, union-sub, union-mem, union-is}
 

@@ -1,14 +1,12 @@
 -- Records laid out as words (specs/Call, `deliveryWords`, `writtenOver`; specs/Core, `putRecord`, `claimIn`): how long they are, what is read at a record,
 -- and that a record put after those that are written is one record more. Assumes nothing.
-use Prim.Native.Nat.{ℕ, zero, suc, _+_, _-_, _*_, _/_, _%_, _≤_, _<_}
-use mathlib.Core.Bool.{true, cond}
+use Prim.Native.Nat.{ℕ, _+_, _*_, _%_, _≤_, _<_}
 use mathlib.Core.List.{List, [], _∷_, _++_, map, append-assoc, append-nil}
 use mathlib.Core.Path.{_≡_, refl, sym, ap, ap₂, _∙_}
 use native.Mathlib.Omega.{arith}
 use borrow.Author.Tests.{lt-ltb}
-use lib.Dec.{ltb}
-use lib.ListN.{length, take, drop, getD, length-append, length-drop}
-use lib.Seq.{sets, sets-eq, getD-append-add, take-append-seam, drop-append-add, drop-drop}
+use lib.ListN.{length, take, drop, getD, length-append}
+use lib.Seq.{sets-eq, getD-append-add, take-append-seam, drop-append-add, drop-drop}
 use Rattle.claims.specs.declared.claim.Claim.{Claim}
 use Rattle.keys.specs.Store.{limit}
 use Rattle.claims.proofs.ClaimLaws.{claim-ext}
@@ -16,7 +14,7 @@ use Rattle.rule.specs.declared.delivery.Delivery.{Delivery}
 use Rattle.rule.specs.Call.{deliveryWords, writtenOver}
 use Rattle.rounds.specs.Core.{recordWords, recordsIn, claimIn, putRecord, next, putRecords, nextAfter}
 use Rattle.rule.proofs.Words.{length-deliveryWords, deliveryWords-append, length-writtenOver}
-use Rattle.rounds.proofs.Records.{claimIn-some, next-some, next-length, length-putRecord}
+use Rattle.rounds.proofs.Records.{claimIn-some, next-some, next-length}
 
 -- the record of a claim from one end
 abbrev pub delivery : ℕ → Claim → Delivery

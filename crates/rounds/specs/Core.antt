@@ -9,7 +9,6 @@ use mathlib.Core.List.{List, [], _∷_}
 use lib.Dec.{ltb, eqb}
 use lib.ListN.{length, take, getD}
 use lib.Seq.{sets}
-use Rattle.claims.specs.declared.answer.Answer.{Answer}
 use Rattle.claims.specs.declared.claim.Claim.{Claim}
 use Rattle.claims.specs.declared.lent.Told.{Told}
 use Rattle.claims.specs.Claim.{noClaim}

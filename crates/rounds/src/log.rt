@@ -2,7 +2,7 @@
 // The round's core works on words (src/flat.rt). Its words stand in a local array here, and each record is stored once.
 // put, get, copy_out and round hold a reference to structs, so their proofs are walks by hand; the others are covered.
 ghost use mathlib.Core.Path.{_≡_};
-ghost use Prim.Native.Nat.{_≤_, min};
+ghost use Prim.Native.Nat.{_≤_};
 ghost use lib.ListN.{length, set, getD};
 ghost use Rattle.rule.specs.Call.{met, metLent};
 ghost use Rattle.rounds.specs.Log.{noDelivery, deliveryIn, copied, frontRecords, frontWords};
@@ -10,6 +10,7 @@ use crate::flat::round_words;
 use crate::record::RECORD;
 use crate::record::claim_in;
 use keys::Store;
+use keys::capped;
 use rule::Delivery;
 use rule::Met;
 
@@ -63,21 +64,12 @@ fn copy_out(log: &mut [Delivery], words: &[u64], n: usize)
     }
 }
 
-fn lesser(a: usize, b: usize) -> usize
-    ensures { λ r. ⌜ r ≡ min a b ⌝ }
-{
-    if a < b {
-        return a;
-    }
-    b
-}
-
 // A round on the words of so many records, or of all that there are words for.
 fn round_front(left: Store, right: Store, words: &mut [u64], records: usize) -> Met
     ensures { λ r. ⌜ (r ≡ met left right (frontRecords (now (words .entry)) records))
         × (now (words .exit) ≡ frontWords left right (now (words .entry)) records) ⌝ }
 {
-    let n = lesser(records, words.len() / RECORD);
+    let n = capped(records, words.len() / RECORD);
     round_words(left, right, &mut words[..n * RECORD])
 }
 

@@ -2,10 +2,9 @@
 use claims::Answer;
 use claims::Claim;
 ghost use mathlib.Core.Path.{_≡_};
-ghost use Prim.Native.Nat.{_≤_, _<_, _/_};
-ghost use lib.ListN.{length};
+ghost use Prim.Native.Nat.{_<_, _/_};
 ghost use Rattle.claims.specs.Reply.{claimsOf};
-ghost use Rattle.rounds.specs.Core.{claimIn, recordsIn, putRecord, next, putRecords, nextAfter};
+ghost use Rattle.rounds.specs.Core.{claimIn, putRecord, next, putRecords, nextAfter};
 
 // The words of a record.
 pub(crate) const RECORD: usize = 5;

@@ -17,7 +17,7 @@ use Rattle.claims.specs.Reply.{ends, hear}
 use Rattle.claims.specs.Call.{judged}
 use Rattle.keys.proofs.Tests.{eq-or-ne}
 use Rattle.keys.proofs.Order.{inOrder-count, inOrder-rising}
-use Rattle.claims.proofs.QuestionLaws.{firstNo-zero, firstNo-append-zero, firstNo-append-no, settle-done, settle-refused, passes, claimQuestions-numbered, judged-firstNo}
+use Rattle.claims.proofs.QuestionLaws.{firstNo-yes, firstNo-zero, firstNo-append-zero, firstNo-append-no, settle-done, settle-refused, passes, claimQuestions-numbered, judged-firstNo}
 use Rattle.claims.proofs.ReplyLaws.{hear-rising, hear-old, hear-new}
 use Rattle.rule.specs.declared.node.Node.{Node}
 use Rattle.rule.specs.declared.delivery.Delivery.{Delivery}
@@ -27,7 +27,7 @@ use Rattle.rule.specs.Round.{union, transcript}
 use Rattle.rule.specs.Question.{nodeQuestion1, question8, question9, question15}
 use Rattle.rule.specs.Call.{writtenOver, takeQuestions, taken, claimWords, beatQuestions, beaten, beatenLent, roundQuestions, roundBy, met, metLent, deliveryWords, metWords}
 use Rattle.rule.proofs.TableLaws.{climbs-tableWith, climbs-kept, insertClaim-mem, kept-mem, length-tableWith, length-kept}
-use Rattle.rule.proofs.NodeLaws.{Fits, fits-sub, Ordered, nodeInOrder-ordered, ordered-nodeOf}
+use Rattle.rule.proofs.NodeLaws.{Fits, fits-sub, Ordered, ordered-nodeInOrder, nodeInOrder-ordered, ordered-nodeOf}
 use Rattle.rule.proofs.Half.{Rounded, rounded}
 
 -- ---- taking
@@ -55,6 +55,12 @@ takeQuestions-yes n c h =
       room =
           let z : length (insertAll (ends c) (nodeKeys n)) < limit + 1 = ltb-true (length (insertAll (ends c) (nodeKeys n))) (limit + 1) (d .0) in omega arith;
     }
+
+-- what is left to ask of a claim that passes 2 to 5, of a node in order, is 6
+pub takeQuestions-6 : (n : Node) (c : Claim) → Ordered n → judged c ≡ 0 → firstNo (takeQuestions n c) ≡ firstNo (question6 (ends c) (nodeKeys n) ∷ [])
+takeQuestions-6 n c o pass =
+    firstNo-yes (nodeQuestion1 n) (claimQuestions c ++ (question6 (ends c) (nodeKeys n) ∷ [])) (ordered-nodeInOrder n o)
+    ∙ firstNo-append-zero (claimQuestions c) (question6 (ends c) (nodeKeys n) ∷ []) (claimQuestions-numbered c) (sym (judged-firstNo c) ∙ pass)
 
 pub taken-done : (n : Node) (c : Claim) → firstNo (takeQuestions n c) ≡ 0 →
     taken n c ≡ record { number = 0; node = nodeOf (hear c (nodeKeys n)) (tableWith c (pendingOf n)) }

@@ -1,14 +1,14 @@
--- A node in order: `nodeInOrder`, `nodeOf` and `emptyNode` of Node. In order: keys held and claims that fit, by their members; blanks; what "in
+-- A node in order: `nodeInOrder`, `nodeOf` and `emptyNode` of Node. In order: keys held and claims that fit, by their members; blanks and places; what "in
 -- order" says, clause by clause, and that the clauses make it up; a node whose store grew; the node of keys and claims; the empty node.
 -- Not here: the table (TableLaws). Assumes nothing.
 use Prim.Native.Nat.{ℕ, zero, suc, _-_, _≤_}
 use mathlib.Core.Bool.{Bool, true, _&&_}
-use mathlib.Core.List.{List, [], _∷_, _++_, List·Memᴰ, List·Memᴰ·head, List·Memᴰ·tail, List·Memᴰ·not-nil, Memᴰ·cast}
+use mathlib.Core.List.{List, [], _∷_, _++_, List·Memᴰ, List·Memᴰ·head, List·Memᴰ·tail, List·Memᴰ·not-nil, Memᴰ·cast, map}
 use mathlib.Core.Path.{_≡_, refl, sym, ap, _∙_, subst}
 use native.Mathlib.Omega.{arith}
 use borrow.Author.Tests.{leb-true, le-leb, eqb-true, eq-eqb}
 use lib.Dec.{leb, eqb}
-use lib.ListN.{length, drop, length-drop, length-replicate, take-append-drop}
+use lib.ListN.{length, drop, length-drop, length-replicate, take-append-drop, length-map}
 use lib.Seq.{length-take-le, take-append-seam, drop-append-seam}
 use Rattle.claims.specs.declared.claim.Claim.{Claim}
 use Rattle.keys.specs.declared.store.Store.{Store}
@@ -78,6 +78,10 @@ blanks-allUnused (c ∷ cs) h =
     let e : c ≡ noClaim = same-claim c noClaim (and-left (same c noClaim) (allUnused cs) h) in
     let p : cs ≡ blanks (length cs) = blanks-allUnused cs (and-right (same c noClaim) (allUnused cs) h) in
     cc
+
+-- how many places a table has, from what is known of an array of structs in a struct
+pub length-mapped : (X Y : Type 0) (f : X → Y) (l : List X) (n : ℕ) → length (map f l) ≡ n → length l ≡ n
+length-mapped X Y f l n e = sym (length-map l f) ∙ e
 
 -- ---- what "in order" says
 

@@ -35,7 +35,7 @@ use Rattle.wire.specs.Length.{noLength}
 use Rattle.wire.specs.Image.{keySection, claimSection, sections, sectionLength, imageLimit, countOf, behind, countFits, countsFit, toldLength, imageLength, parse, nodeFrom, question14, readImageQuestions, noImage, readImage, imageBytes, sectionBytes, nodeBytes, Shaped, writeImageQuestions, writeImage, imageLent}
 use Rattle.wire.specs.Run.{key, claim, readRun, writeRun}
 use Rattle.wire.specs.Told.{partOf, toldOf, AsTold}
-use Rattle.wire.specs.Lent.{restOf, noRest, readIn, readInLent, countable, writeImageIn, imageInLent}
+use Rattle.wire.specs.Lent.{restOf, noRest, readIn, readInLent, withinLimits, writeImageIn, imageInLent}
 use Rattle.wire.proofs.Places.{putAt-zero, putAt-writtenOver, writtenOver-replicate}
 use Rattle.wire.proofs.Questions.{settle-number}
 use Rattle.wire.proofs.Runs.{length-readRun, length-writeRun, key-faithful, claim-faithful}
@@ -297,8 +297,8 @@ module _ (bs : List ℕ) {r : Rest} (e : r ≡ readIn bs) where
 
 -- ---- writing
 
-pub countable-yes : (keys : List ℕ) (held count : ℕ) → countable keys held count ≡ true → (length keys ≡ limit) × (held ≤ limit) × (count ≤ tableLimit)
-countable-yes keys held count e =
+pub withinLimits-yes : (keys : List ℕ) (held count : ℕ) → withinLimits keys held count ≡ true → (length keys ≡ limit) × (held ≤ limit) × (count ≤ tableLimit)
+withinLimits-yes keys held count e =
     let f = and-right (eqb (length keys) limit) (leb held limit && leb count tableLimit) e in (
       eqb-true (length keys) limit (and-left (eqb (length keys) limit) (leb held limit && leb count tableLimit) e),
       leb-true held limit (and-left (leb held limit) (leb count tableLimit) f),
@@ -363,11 +363,11 @@ module _ (n : Node) where
     writeImage-0 e h = (rw (e, le-leb (length (nodeBytes n)) (length out) h), rw (e, le-leb (length (nodeBytes n)) (length out) h))
 
     -- places and counts decide, and then the room
-    pub writeImageIn-1 : countable (n .store .keys) (n .store .count) (n .count) ≡ false → (noLength 1 ≡ writeImageIn n (length out)) × (out ≡ imageInLent n out)
+    pub writeImageIn-1 : withinLimits (n .store .keys) (n .store .count) (n .count) ≡ false → (noLength 1 ≡ writeImageIn n (length out)) × (out ≡ imageInLent n out)
     unfolding writeImageIn imageInLent
     writeImageIn-1 e = (rw e, rw e)
 
-    module _ (fits : countable (n .store .keys) (n .store .count) (n .count) ≡ true) where
+    module _ (fits : withinLimits (n .store .keys) (n .store .count) (n .count) ≡ true) where
       pub writeImageIn-15 : length out < length (nodeBytes n) → (noLength 15 ≡ writeImageIn n (length out)) × (out ≡ imageInLent n out)
       unfolding writeImageIn imageInLent
       writeImageIn-15 h =
@@ -383,18 +383,18 @@ module _ (n : Node) where
 
     -- where the node is in order, this is the call that asks 1
     module _ (long : length (n .store .keys) ≡ limit) (ordered : nodeInOrder n ≡ true) where
-      pub ordered-countable : countable (n .store .keys) (n .store .count) (n .count) ≡ true
-      ordered-countable =
+      pub ordered-withinLimits : withinLimits (n .store .keys) (n .store .count) (n .count) ≡ true
+      ordered-withinLimits =
           let (few, several) = ordered-counts ordered in
           rw (eq-eqb (length (n .store .keys)) limit long, le-leb (n .store .count) limit few, le-leb (n .count) tableLimit several)
 
       pub writeImageIn-writeImage : writeImageIn n (length out) ≡ writeImage n (length out)
       unfolding writeImageIn writeImage
-      writeImageIn-writeImage = rw (ordered, ordered-countable)
+      writeImageIn-writeImage = rw (ordered, ordered-withinLimits)
 
       pub imageInLent-imageLent : imageInLent n out ≡ imageLent n out
       unfolding imageInLent imageLent
-      imageInLent-imageLent = rw (ordered, ordered-countable)
+      imageInLent-imageLent = rw (ordered, ordered-withinLimits)
 
     -- an image that is written has passed 1 and 15
     pub writeImage-yes : writeImage n (length out) .number ≡ 0 → (nodeInOrder n ≡ true) × (length (nodeBytes n) ≤ length out)

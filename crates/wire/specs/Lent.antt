@@ -33,13 +33,13 @@ unfoldable pub readInLent : List ℕ → List ℕ → List ℕ
 readInLent bs keys = settle (firstNo (question14 bs ∷ [])) (writtenOver (parse bs .keys) keys) (λ k. keys)
 
 -- are all places of the keys there, and both counts not too high?
-abbrev pub countable : List ℕ → ℕ → ℕ → Bool
-countable keys held count = eqb (length keys) limit && (leb held limit && leb count tableLimit)
+abbrev pub withinLimits : List ℕ → ℕ → ℕ → Bool
+withinLimits keys held count = eqb (length keys) limit && (leb held limit && leb count tableLimit)
 
 -- `write_image_in` asks whether places and counts are those of a node, which is a part of question 1, and 15.
 abbrev pub writeImageInQuestions : Node → ℕ → List Question
 writeImageInQuestions n room =
-    question 1 (countable (n .store .keys) (n .store .count) (n .count)) ∷ question15 room (length (nodeBytes n)) ∷ []
+    question 1 (withinLimits (n .store .keys) (n .store .count) (n .count)) ∷ question15 room (length (nodeBytes n)) ∷ []
 
 unfoldable pub writeImageIn : Node → ℕ → Length
 writeImageIn n room =

@@ -12,7 +12,6 @@ use rule::Rest;
 ghost use mathlib.Core.Path.{_≡_};
 ghost use Prim.Native.Nat.{_+_, _*_, _≤_};
 ghost use lib.ListN.{length, take, drop};
-ghost use Rattle.keys.specs.Store.{limit};
 ghost use Rattle.rule.specs.Table.{tableLimit};
 ghost use Rattle.rule.specs.Node.{blanks, emptyNode};
 ghost use Rattle.rule.specs.Call.{writtenOver};
@@ -20,9 +19,9 @@ ghost use Rattle.nodes.specs.Lent.{nodeWith};
 ghost use Rattle.wire.specs.Claim.{keyWidth, claimSize};
 ghost use Rattle.wire.specs.Run.{key as key-layout, claim as claim-layout, readRun, writeRun};
 ghost use Rattle.wire.specs.Place.{putAt};
-ghost use Rattle.wire.specs.Image.{keySection, claimSection, sectionLength, imageLimit, nodeBytes, noImage, readImage, imageLength, writeImage, imageLent};
+ghost use Rattle.wire.specs.Image.{imageLimit, nodeBytes, noImage, readImage, imageLength, writeImage, imageLent};
 ghost use Rattle.wire.specs.Told.{partOf, toldOf, AsTold, HasRoom};
-ghost use Rattle.wire.specs.Lent.{noRest, readIn, readInLent, countable, writeImageIn, imageInLent};
+ghost use Rattle.wire.specs.Lent.{noRest, readIn, readInLent, withinLimits, writeImageIn, imageInLent};
 
 // A section as its count tells it: whether the count is there and not too high, and the count.
 struct Part {
@@ -276,8 +275,8 @@ fn put_image(out: &mut [u8], keys: &[u64], n: usize, table: [Claim; Node::TABLE]
 }
 
 // Whether all places of the keys are there, and both counts not too high.
-fn is_countable(keys: &[u64], held: usize, count: usize) -> bool
-    ensures { λ r. ⌜ r ≡ countable (now (keys .entry)) held count ⌝ }
+fn within_limits(keys: &[u64], held: usize, count: usize) -> bool
+    ensures { λ r. ⌜ r ≡ withinLimits (now (keys .entry)) held count ⌝ }
 {
     if keys.len() != Store::LIMIT {
         return false;
@@ -299,7 +298,7 @@ pub fn write_image_in(
 ) -> Length
     ensures { λ r. ⌜ (r ≡ writeImageIn (nodeWith (now (keys .entry)) held table count) (length (now (out .entry)))) × (now (out .exit) ≡ imageInLent (nodeWith (now (keys .entry)) held table count) (now (out .entry))) ⌝ }
 {
-    if !is_countable(keys, held, count) {
+    if !within_limits(keys, held, count) {
         return Length {
             number: 1,
             length: 0,

@@ -1,5 +1,4 @@
 -- `main` is safe and ends. The measure is the number of turns that are left. Assumes nothing.
-use Prim.Native.Nat.{_≤_, _-_}
 use mathlib.Core.Path.{_≡_}
 use lib.ListN.{length}
 use borrow.Author.Needs.{needs}

@@ -1,8 +1,6 @@
 -- `minutefrost_beat` meets its contract: one law for each way. Assumes nothing.
-use Prim.Native.Nat.{ℕ, _≤_, _<_}
+use Prim.Native.Nat.{_≤_, _<_}
 use native.Mathlib.Omega.{arith}
-use mathlib.Core.Bool.{true}
-use mathlib.Core.List.{List}
 use mathlib.Core.Path.{_≡_, refl, ap, sym, _∙_}
 use borrow.Author.Needs.{needs}
 use lib.Dec.{lit<}
@@ -11,10 +9,8 @@ use lib.ListN.{length}
 use Rattle.keys.specs.Store.{zeros}
 use Rattle.rule.specs.declared.node.Node.{Node}
 use Rattle.nodes.specs.Lent.{nodeWith}
-use Rattle.rule.specs.Node.{nodeInOrder}
 use Rattle.rule.specs.Call.{writtenOver}
 use Rattle.wire.specs.Image.{imageLimit, nodeBytes, readImage}
-use Rattle.host.specs.Frames.{framesLimit}
 use Rattle.host.specs.Call.{nodeIn, nodeServed, framesSent}
 use Rattle.host.proofs.Signs.{returned, fits-minus, fits-pos}
 use Rattle.host.proofs.Answers.{readImage-ordered, beaten-image, beaten-out, beaten-frames, beaten-0}

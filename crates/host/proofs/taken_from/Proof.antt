@@ -1,9 +1,7 @@
 -- `taken_from` meets its contract: one law for each way. Assumes nothing.
-use mathlib.Core.Bool.{true}
 use mathlib.Core.Path.{_≡_, ap, sym, _∙_}
 use borrow.Author.Needs.{needs}
 use Rattle.rule.specs.declared.node.Node.{Node}
-use Rattle.rule.specs.Node.{nodeInOrder}
 use Rattle.nodes.specs.Lent.{nodeWith}
 use Rattle.wire.specs.declared.answer.Framed.{Framed}
 use Rattle.wire.specs.Frame.{frameClaims}

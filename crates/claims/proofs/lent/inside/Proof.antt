@@ -1,5 +1,4 @@
 -- `claims::lent::inside` meets its contract. Assumes nothing.
-use borrow.Author.Needs.{needs}
 use denote.Ref.{now}
 use Rattle.claims.proofs.Lending.{within-fall, within-past, within-short, within-limit}
 use Rattle.claims.proofs.lent.inside.Statement.{statement}

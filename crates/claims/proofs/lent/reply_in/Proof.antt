@@ -1,5 +1,4 @@
 -- `claims::lent::reply_in` meets its contract. Assumes nothing.
-use native.Mathlib.Omega.{arith}
 use borrow.Author.Needs.{needs}
 use denote.Ref.{now}
 use Rattle.claims.proofs.Lending.{reply-full, reply-told}

@@ -1,6 +1,6 @@
 -- `claims::sums::sums_of` meets its contract. The invariant of each sum: the sum of all keys is that so far and that of the keys from i on. Assumes nothing.
 use mathlib.Core.Path.{_≡_}
-use Prim.Native.Nat.{ℕ, _≤_, _-_}
+use Prim.Native.Nat.{_≤_, _-_}
 use native.Mathlib.Omega.{arith}
 use borrow.Author.Needs.{needs}
 use denote.Ref.{now}

@@ -1,5 +1,4 @@
 -- `reply::refusal` meets its contract: a byte taken from zero. Assumes nothing.
-use native.Mathlib.Omega.{arith}
 use Prim.Native.Nat.{_<_}
 use borrow.Author.Needs.{needs}
 use Rattle.host.proofs.Signs.{minus-fits, minus-value}

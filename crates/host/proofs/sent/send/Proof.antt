@@ -1,19 +1,17 @@
 -- `sent::send` meets its contract: the beat, then the image, then the frames. Assumes nothing.
-use Prim.Native.Nat.{ℕ, _*_, _≤_}
+use Prim.Native.Nat.{ℕ, _*_}
 use native.Mathlib.Omega.{arith}
-use mathlib.Core.Bool.{true}
 use mathlib.Core.List.{List}
-use mathlib.Core.Path.{_≡_, ap, sym, _∙_, subst}
+use mathlib.Core.Path.{_≡_, ap, sym, _∙_}
 use borrow.Author.Needs.{needs}
 use lib.ListN.{length, replicate, length-replicate}
 use Rattle.rule.specs.Table.{beatLimit}
 use Rattle.rule.specs.Call.{writtenOver}
-use Rattle.rule.specs.Node.{nodeInOrder}
 use Rattle.rule.specs.declared.node.Node.{Node}
 use Rattle.wire.specs.Image.{nodeBytes, Shaped}
 use Rattle.nodes.specs.Lent.{nodeWith}
-use Rattle.nodes.proofs.TakeLaws.{length-mapped}
-use Rattle.host.specs.Call.{nodeServed, framesSent}
+use Rattle.rule.proofs.NodeLaws.{length-mapped}
+use Rattle.host.specs.Call.{nodeServed}
 use Rattle.host.specs.Frames.{framesBytes}
 use Rattle.host.proofs.Beats.{nodeServed-ordered, length-framesSent, beat-node, beat-read, beat-room, beat-pass}
 use Rattle.host.proofs.Answers.{writeImageIn-room}

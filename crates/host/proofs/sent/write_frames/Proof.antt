@@ -1,13 +1,12 @@
 -- `sent::write_frames` meets its contract. The invariant: what is left to write makes up the whole. Assumes nothing.
-use Prim.Native.Nat.{_+_, _-_, _*_, _≤_, _<_, min}
+use Prim.Native.Nat.{_-_, _*_, _≤_, _<_, min}
 use native.Mathlib.Omega.{arith}
-use mathlib.Core.Bool.{true}
 use mathlib.Core.List.{List}
-use mathlib.Core.Path.{_≡_, ap, sym, _∙_}
+use mathlib.Core.Path.{_≡_, sym, _∙_}
 use borrow.Author.Needs.{needs}
 use lib.ListN.{length, take, drop}
 use Rattle.claims.specs.declared.claim.Claim.{Claim}
-use Rattle.wire.specs.Frame.{frameLimit, frameBytes, allPass, fourOf}
+use Rattle.wire.specs.Frame.{frameLimit}
 use Rattle.wire.specs.Run.{readRun}
 use Rattle.wire.proofs.Frames.{take-fourOf}
 use Rattle.wire.proofs.Runs.{length-readRun}

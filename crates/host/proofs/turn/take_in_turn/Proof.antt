@@ -1,5 +1,5 @@
 -- `turn::take_in_turn` meets its contract. The invariant: the node is in order, and what it has yet to take decides. Assumes nothing.
-use Prim.Native.Nat.{ℕ, _+_, _-_, _≤_, _<_}
+use Prim.Native.Nat.{ℕ, _-_, _≤_, _<_}
 use native.Mathlib.Omega.{arith}
 use mathlib.Core.Bool.{true}
 use mathlib.Core.List.{List}
@@ -15,7 +15,7 @@ use Rattle.rule.specs.Table.{tableLimit}
 use Rattle.rule.specs.Node.{nodeInOrder}
 use Rattle.nodes.specs.Lent.{nodeWith, takenWith, takenNext}
 use Rattle.wire.specs.Image.{Shaped}
-use Rattle.nodes.proofs.TakeLaws.{length-mapped}
+use Rattle.rule.proofs.NodeLaws.{length-mapped}
 use Rattle.host.specs.Taking.{takenUntil}
 use Rattle.host.proofs.Turns.{turn-refused, turn-done, turn-ordered, turn-long, takenUntil-end}
 use Rattle.host.proofs.turn.take_in_turn.Statement.{statement}

@@ -1,6 +1,6 @@
 -- `keys::leaf::put` meets its contract. The invariant: whatever is set at place i, the run is then that with it put in at i. Assumes nothing.
 use mathlib.Core.Path.{_≡_}
-use Prim.Native.Nat.{ℕ, _≤_}
+use Prim.Native.Nat.{_≤_}
 use native.Mathlib.Omega.{arith}
 use borrow.Author.Needs.{needs}
 use denote.Ref.{now}

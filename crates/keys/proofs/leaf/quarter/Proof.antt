@@ -1,6 +1,6 @@
 -- `keys::leaf::quarter` meets its contract. The invariant: quartering what is left gives what quartering all of it gives. Assumes nothing.
 use mathlib.Core.Path.{_≡_, refl, sym, _∙_}
-use Prim.Native.Nat.{_≤_, _<_, _+_, _-_, _*_, _/_}
+use Prim.Native.Nat.{_≤_, _<_, _+_, _*_, _/_}
 use native.Mathlib.Omega.{arith}
 use borrow.Author.Needs.{needs}
 use denote.Ref.{now}

@@ -1,6 +1,4 @@
 -- `keys::lent::add_both` meets its contract. Assumes nothing.
-use Prim.Native.Nat.{_≤_}
-use native.Mathlib.Omega.{arith}
 use borrow.Author.Needs.{needs}
 use denote.Ref.{now}
 use Rattle.keys.proofs.Adding.{placeIn-le, both-one, both-two}

@@ -1,7 +1,5 @@
 -- `keys::lent::add_in` meets its contract. Assumes nothing.
-use mathlib.Core.Path.{_≡_, refl}
 use Prim.Native.Nat.{_≤_}
-use native.Mathlib.Omega.{arith}
 use borrow.Author.Needs.{needs}
 use denote.Ref.{now}
 use Rattle.keys.proofs.Adding.{placeIn-le, put-fits, add-full, add-room}

@@ -1,6 +1,5 @@
 -- `keys::lent::place_in` meets its contract. Assumes nothing.
 use Prim.Native.Nat.{_<_}
-use native.Mathlib.Omega.{arith}
 use borrow.Author.Needs.{needs}
 use denote.Ref.{now}
 use Rattle.keys.proofs.Lending.{place-none, place-short, place-lt, place-after, place-at}

@@ -6,7 +6,7 @@ use lib.ListN.{length}
 use Rattle.rule.specs.declared.node.Node.{Node}
 use Rattle.rule.specs.Table.{tableLimit}
 use Rattle.nodes.specs.Lent.{nodeWith}
-use Rattle.nodes.proofs.TakeLaws.{length-mapped}
+use Rattle.rule.proofs.NodeLaws.{length-mapped}
 use Rattle.nodes.proofs.Beating.{beatIn-many, beatIn-short, beatIn-room, beatIn-done}
 use Rattle.nodes.proofs.beats.beat_in.Statement.{statement}
 use Rattle.nodes.proofs.beats.beat_in.Tie as tie

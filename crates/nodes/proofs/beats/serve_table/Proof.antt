@@ -10,7 +10,7 @@ use lib.Seq.{length-take-le, getD-take}
 use Rattle.claims.specs.Claim.{noClaim}
 use Rattle.rule.specs.Node.{blanks}
 use Rattle.rule.proofs.TableLaws.{length-claimsOf}
-use Rattle.nodes.proofs.TakeLaws.{length-mapped}
+use Rattle.rule.proofs.NodeLaws.{length-mapped}
 use Rattle.nodes.proofs.Serve.{Left, left-all, left-stays, left-leaves, left-none}
 use Rattle.nodes.proofs.beats.serve_table.Statement.{statement}
 use Rattle.nodes.proofs.beats.serve_table.Tie as tie

@@ -1,9 +1,6 @@
 -- `nodes::order::ordered_lent` meets its contract. Assumes nothing.
 use mathlib.Core.Path.{_∙_}
-use borrow.Author.Needs.{needs}
 use borrow.Author.Tests.{eq-eqb, ne-eqb}
-use denote.Ref.{now}
-use lib.ListN.{length}
 use Rattle.keys.specs.Store.{limit}
 use Rattle.nodes.proofs.order.ordered_lent.Statement.{statement}
 use Rattle.nodes.proofs.order.ordered_lent.Tie as tie

@@ -1,13 +1,13 @@
 -- `rehearsal::digits::put_decimal` meets its contract. The invariant: once the text of the rest is put before what is written, the buffer is as it is
 -- to be. Assumes nothing.
-use Prim.Native.Nat.{_+_, _≤_}
+use Prim.Native.Nat.{_≤_}
 use native.Mathlib.Omega.{arith}
-use mathlib.Core.Path.{_≡_, sym, _∙_}
+use mathlib.Core.Path.{_≡_, _∙_}
 use borrow.Author.Needs.{needs}
 use lib.ListN.{length}
 use Rattle.wire.specs.Place.{putAt}
 use Rattle.rehearsal.specs.Decimal.{decimal, digitLimit}
-use Rattle.rehearsal.proofs.DecimalLaws.{length-decimal-some, length-decimal-step, length-decimal-digit, putAt-decimal, putAt-digit}
+use Rattle.rehearsal.proofs.DecimalLaws.{length-decimal-some, length-decimal-step, putAt-decimal, putAt-digit}
 use Rattle.rehearsal.proofs.digits.put_decimal.Statement.{statement}
 use Rattle.rehearsal.proofs.digits.put_decimal.Tie as tie
 

@@ -1,8 +1,6 @@
 -- `rehearsal::page::put_four` meets its contract: one field after another. Assumes nothing.
 use native.Mathlib.Omega.{arith}
-use mathlib.Core.Path.{_∙_}
 use borrow.Author.Needs.{needs}
-use denote.Ref.{now}
 use Rattle.rehearsal.specs.Text.{fourAt}
 use Rattle.rehearsal.proofs.WrittenLaws.{written-then}
 use Rattle.rehearsal.proofs.page.put_four.Statement.{statement}

@@ -1,8 +1,6 @@
 -- `rehearsal::page::put_labelled` meets its contract: the word, then the field. Assumes nothing.
 use native.Mathlib.Omega.{arith}
-use mathlib.Core.Path.{_∙_}
 use borrow.Author.Needs.{needs}
-use denote.Ref.{now}
 use Rattle.rehearsal.proofs.WrittenLaws.{written-then}
 use Rattle.rehearsal.proofs.page.put_labelled.Statement.{statement}
 use Rattle.rehearsal.proofs.page.put_labelled.Tie as tie

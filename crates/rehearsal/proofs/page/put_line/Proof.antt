@@ -1,5 +1,4 @@
 -- `rehearsal::page::put_line` meets its contract: the letter, four fields, the line feed. Assumes nothing.
-use Prim.Native.Nat.{_<_}
 use native.Mathlib.Omega.{arith}
 use mathlib.Core.Path.{_≡_, _∙_}
 use borrow.Author.Needs.{needs}

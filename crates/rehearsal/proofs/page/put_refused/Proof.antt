@@ -1,8 +1,6 @@
 -- `rehearsal::page::put_refused` meets its contract: one piece after another. Assumes nothing.
 use native.Mathlib.Omega.{arith}
-use mathlib.Core.Path.{_∙_}
 use borrow.Author.Needs.{needs}
-use denote.Ref.{now}
 use Rattle.rehearsal.proofs.WrittenLaws.{written-then}
 use Rattle.rehearsal.proofs.page.put_refused.Statement.{statement}
 use Rattle.rehearsal.proofs.page.put_refused.Tie as tie

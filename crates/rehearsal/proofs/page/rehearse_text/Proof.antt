@@ -1,13 +1,9 @@
 -- `rehearsal::page::rehearse_text` meets its contract: one law for each way. Assumes nothing.
 use Prim.Native.Nat.{_≤_}
 use native.Mathlib.Omega.{arith}
-use mathlib.Core.Path.{ap, subst}
-use mathlib.Core.List.{List}
 use borrow.Author.Needs.{needs}
 use denote.Ref.{now}
-use lib.ListN.{length}
 use Rattle.rehearsal.specs.Text.{lentRecords}
-use Rattle.rehearsal.specs.Written.{Written}
 use Rattle.rehearsal.proofs.WrittenLaws.{written-then}
 use Rattle.rehearsal.proofs.TextLaws.{written-front, printed-refused, told-fits, printed-told}
 use Rattle.rehearsal.proofs.page.rehearse_text.Statement.{statement}

@@ -1,6 +1,5 @@
 -- `rounds::flat::deliver` meets its contract. Assumes nothing.
 use borrow.Author.Needs.{needs}
-use native.Mathlib.Omega.{arith}
 use denote.Ref.{now}
 use Rattle.rounds.proofs.Records.{step-right, step-left}
 use Rattle.rounds.proofs.flat.deliver.Statement.{statement}

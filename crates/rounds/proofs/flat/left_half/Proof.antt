@@ -1,9 +1,7 @@
 -- `rounds::flat::left_half` meets its contract. Assumes nothing.
-use mathlib.Core.Path.{_≡_}
 use borrow.Author.Needs.{needs}
 use native.Mathlib.Omega.{arith}
 use denote.Ref.{now}
-use Rattle.rounds.specs.Core.{finish}
 use Rattle.rounds.proofs.Steps.{whole-fits, opened-core}
 use Rattle.rounds.proofs.flat.left_half.Statement.{statement}
 use Rattle.rounds.proofs.flat.left_half.Tie as tie

@@ -6,8 +6,8 @@ use Rattle.rounds.proofs.LogLaws.{length-take-front, front-met}
 use Rattle.rounds.proofs.log.round_front.Statement.{statement}
 use Rattle.rounds.proofs.log.round_front.Tie as tie
 
-lesser-requires : tie.Need-lesser-requires
-lesser-requires c κs = search needs
+capped-requires : tie.Need-capped-requires
+capped-requires c κs = search needs
 
 mul-round-words : tie.Need-mul-round-words
 mul-round-words c = search needs
@@ -18,7 +18,7 @@ slice-relend-prefix-round-words c = search needs
 slice-aggregate-round-words : tie.Need-slice-aggregate-round-words
 slice-aggregate-round-words c =
     let s = c .before .before .before in
-    sym (length-take-front (now (s .args .words)) (s .args .records) (c .before .lesser .result) (c .before .lesser .ensures))
+    sym (length-take-front (now (s .args .words)) (s .args .records) (c .before .capped .result) (c .before .capped .ensures))
 
 round-words-requires : tie.Need-round-words-requires
 round-words-requires c κs = search needs
@@ -29,14 +29,14 @@ same-length c = search needs
 returns : tie.Need-returns
 returns c =
     let s = c .before .before .before .before .before .before in
-    front-met (now (s .args .words)) (s .args .records) (c .before .before .before .before .lesser .result) (c .before .before .before .before .lesser .ensures)
+    front-met (now (s .args .words)) (s .args .records) (c .before .before .before .before .capped .result) (c .before .before .before .before .capped .ensures)
     (s .args .left) (s .args .right) (c .before .before .round-words .result) (c .before .before .round-words .last .1 .1 .0) (c .before .before .round-words .ensures)
 
 pub round-front-spec : {M : Type 1} → statement M
 round-front-spec =
     tie.close
     (tie.spec
-    lesser-requires
+    capped-requires
     mul-round-words
     slice-relend-prefix-round-words
     slice-aggregate-round-words

@@ -1,6 +1,5 @@
 -- `rounds::record::claim_in` meets its contract. Assumes nothing.
 use borrow.Author.Needs.{needs}
-use native.Mathlib.Omega.{arith}
 use denote.Ref.{now}
 use Rattle.rounds.proofs.Records.{claimIn-some, claimIn-none}
 use Rattle.rounds.proofs.record.claim_in.Statement.{statement}

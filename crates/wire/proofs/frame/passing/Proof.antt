@@ -10,7 +10,7 @@ use lib.ListN.{take, drop}
 use lib.Seq.{getD-take, length-take-le}
 use Rattle.claims.specs.Call.{judged}
 use Rattle.claims.specs.Claim.{noClaim}
-use Rattle.nodes.proofs.TakeLaws.{length-mapped}
+use Rattle.rule.proofs.NodeLaws.{length-mapped}
 use Rattle.wire.specs.Frame.{allPass}
 use Rattle.wire.proofs.Frames.{allPass-no, allPass-turn, allPass-end}
 use Rattle.wire.proofs.frame.passing.Statement.{statement}

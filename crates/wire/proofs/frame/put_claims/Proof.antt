@@ -5,7 +5,7 @@ use mathlib.Core.Path.{_≡_, refl, sym, _∙_}
 use borrow.Author.Needs.{needs}
 use lib.ListN.{length, take}
 use Rattle.claims.specs.Claim.{noClaim}
-use Rattle.nodes.proofs.TakeLaws.{length-mapped}
+use Rattle.rule.proofs.NodeLaws.{length-mapped}
 use Rattle.wire.specs.Frame.{headSize}
 use Rattle.wire.specs.Place.{putAt}
 use Rattle.wire.specs.Run.{claim, writeRun}

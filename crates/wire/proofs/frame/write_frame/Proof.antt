@@ -5,7 +5,7 @@ use mathlib.Core.Path.{_≡_, sym, _∙_}
 use borrow.Author.Needs.{needs}
 use lib.ListN.{length}
 use Rattle.claims.specs.Question.{firstNo}
-use Rattle.nodes.proofs.TakeLaws.{length-mapped}
+use Rattle.rule.proofs.NodeLaws.{length-mapped}
 use Rattle.wire.specs.Frame.{frameLimit, frameLength, writeFrameQuestions}
 use Rattle.wire.proofs.Frames.{countable-yes, writable-yes, writeFrame-no, writeFrame-0, frameLent-no, frameLent-0}
 use Rattle.wire.proofs.frame.write_frame.Statement.{statement}

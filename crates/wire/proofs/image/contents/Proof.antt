@@ -1,6 +1,5 @@
 -- `image::contents` meets its contract. Assumes nothing.
 use Prim.Native.Nat.{_+_, _≤_}
-use native.Mathlib.Omega.{arith}
 use borrow.Author.Needs.{needs}
 use lib.ListN.{length}
 use Rattle.keys.specs.Store.{limit}

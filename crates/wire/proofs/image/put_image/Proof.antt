@@ -2,7 +2,7 @@
 use borrow.Author.Needs.{needs}
 use Rattle.rule.specs.declared.node.Node.{Node}
 use Rattle.nodes.specs.Lent.{nodeWith}
-use Rattle.nodes.proofs.TakeLaws.{length-mapped}
+use Rattle.rule.proofs.NodeLaws.{length-mapped}
 use Rattle.wire.specs.Image.{Shaped}
 use Rattle.wire.proofs.Images.{nodeBytes-put}
 use Rattle.wire.proofs.image.put_image.Statement.{statement}

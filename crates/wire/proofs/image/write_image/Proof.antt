@@ -1,5 +1,4 @@
 -- `image::write_image` meets its contract: 1 is asked, and then the image written. Assumes nothing.
-use mathlib.Core.Bool.{true}
 use mathlib.Core.Path.{_≡_, sym, _∙_}
 use borrow.Author.Needs.{needs}
 use borrow.Author.Tests.{not-true, not-false}

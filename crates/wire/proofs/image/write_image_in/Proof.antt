@@ -1,5 +1,5 @@
 -- `image::write_image_in` meets its contract: one law for each way. Assumes nothing.
-use Prim.Native.Nat.{ℕ, _≤_, _<_, _+_, _*_}
+use Prim.Native.Nat.{_≤_, _+_, _*_}
 use native.Mathlib.Omega.{arith}
 use mathlib.Core.Bool.{true}
 use mathlib.Core.Path.{_≡_, sym, _∙_}
@@ -10,11 +10,11 @@ use Rattle.keys.specs.Store.{limit}
 use Rattle.rule.specs.declared.node.Node.{Node}
 use Rattle.rule.specs.Table.{tableLimit}
 use Rattle.nodes.specs.Lent.{nodeWith}
-use Rattle.nodes.proofs.TakeLaws.{length-mapped}
+use Rattle.rule.proofs.NodeLaws.{length-mapped}
 use Rattle.wire.specs.Claim.{keyWidth, countWidth, claimSize}
-use Rattle.wire.specs.Image.{keySection, claimSection, sectionLength, nodeBytes}
-use Rattle.wire.specs.Lent.{countable}
-use Rattle.wire.proofs.Images.{countable-yes, length-nodeBytes, writeImageIn-1, writeImageIn-15, writeImageIn-0}
+use Rattle.wire.specs.Image.{nodeBytes}
+use Rattle.wire.specs.Lent.{withinLimits}
+use Rattle.wire.proofs.Images.{withinLimits-yes, length-nodeBytes, writeImageIn-1, writeImageIn-15, writeImageIn-0}
 use Rattle.wire.proofs.image.write_image_in.Statement.{statement}
 use Rattle.wire.proofs.image.write_image_in.Tie as tie
 
@@ -25,11 +25,11 @@ given s = nodeWith (s .args .keys .now) (s .args .held) (s .args .table) (s .arg
 places : (s : tie.Start) → length (s .args .table) ≡ tableLimit
 places s = search (needs, length-mapped)
 
-fits : (e : tie.Else1) → let a = e .before .before .before .before .args in countable (a .keys .now) (a .held) (a .count) ≡ true
-fits e = sym (e .before .is-countable .ensures) ∙ not-false _ (e .if1 .left)
+fits : (e : tie.Else1) → let a = e .before .before .before .before .args in withinLimits (a .keys .now) (a .held) (a .count) ≡ true
+fits e = sym (e .before .within-limits .ensures) ∙ not-false _ (e .if1 .left)
 
 counts : (e : tie.Else1) → let a = e .before .before .before .before .args in (length (a .keys .now) ≡ limit) × (a .held ≤ limit) × (a .count ≤ tableLimit)
-counts e = let a = e .before .before .before .before .args in countable-yes (a .keys .now) (a .held) (a .count) (fits e)
+counts e = let a = e .before .before .before .before .args in withinLimits-yes (a .keys .now) (a .held) (a .count) (fits e)
 
 -- the length as the code adds it up
 long : (e : tie.Else1) → let s = e .before .before .before .before in
@@ -39,11 +39,11 @@ long e =
     let (whole, few, several) = counts e in
     rw (length-nodeBytes (given s) (record { keys = whole; pending = places s }) few several) (omega arith)
 
-is-countable-requires : tie.Need-is-countable-requires
-is-countable-requires c κs = search needs
+within-limits-requires : tie.Need-within-limits-requires
+within-limits-requires c κs = search needs
 
 returns : tie.Need-returns
-returns c = let s = c .before .before .before .before in writeImageIn-1 (given s) (s .args .out .now) (sym (c .before .is-countable .ensures) ∙ not-true _ (c .if1 .taken))
+returns c = let s = c .before .before .before .before in writeImageIn-1 (given s) (s .args .out .now) (sym (c .before .within-limits .ensures) ∙ not-true _ (c .if1 .taken))
 
 mul-length : tie.Need-mul-length
 mul-length c = let h = counts c in search needs
@@ -86,7 +86,7 @@ pub write-image-in-spec : {M : Type 1} → statement M
 write-image-in-spec =
     tie.close
     (tie.spec
-    is-countable-requires
+    within-limits-requires
     returns
     mul-length
     add-length

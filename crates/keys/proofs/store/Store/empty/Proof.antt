@@ -1,6 +1,5 @@
 -- `keys::store::Store::empty` meets its contract. Assumes nothing.
 use mathlib.Core.Path.{refl}
-use borrow.Author.Needs.{needs}
 use Rattle.keys.specs.Store.{zeros, emptyStore, inOrder}
 use Rattle.keys.proofs.store.Store.empty.Statement.{statement}
 use Rattle.keys.proofs.store.Store.empty.Tie as tie

@@ -1,10 +1,9 @@
--- `image::is_countable` meets its contract. Assumes nothing.
-use Prim.Native.Nat.{_≤_}
+-- `image::within_limits` meets its contract. Assumes nothing.
 use native.Mathlib.Omega.{arith}
 use borrow.Author.Tests.{eq-eqb, ne-eqb, le-leb, lt-leb}
 use Rattle.keys.specs.Store.{limit}
-use Rattle.wire.proofs.image.is_countable.Statement.{statement}
-use Rattle.wire.proofs.image.is_countable.Tie as tie
+use Rattle.wire.proofs.image.within_limits.Statement.{statement}
+use Rattle.wire.proofs.image.within_limits.Tie as tie
 
 returns : tie.Need-returns
 returns c = rw (ne-eqb _ limit (c .if1 .taken))
@@ -15,5 +14,5 @@ returns-2 c = rw (eq-eqb _ limit (c .before .if1 .left), lt-leb (c .before .befo
 returns-3 : tie.Need-returns-3
 returns-3 c = rw (eq-eqb _ limit (c .before .if1 .left), le-leb (c .before .before .args .held) limit (omega (arith, c .if2 .left)))
 
-pub is-countable-spec : {M : Type 1} → statement M
-is-countable-spec = tie.close (tie.spec returns returns-2 returns-3)
+pub within-limits-spec : {M : Type 1} → statement M
+within-limits-spec = tie.close (tie.spec returns returns-2 returns-3)
