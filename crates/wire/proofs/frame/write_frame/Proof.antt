@@ -54,7 +54,7 @@ returns-2 c = let e = c .before .before .before .before .before .before .before 
     let h = c .before .before .before .before .before .before .put-head .ensures in
     let p = c .before .before .put-claims .ensures in
     let long : length (a .claims) ≡ frameLimit = search (needs, length-mapped) in
-    (writeFrame-0 (a .claims) (a .n) (length (a .out .now)) (told e), cc (frameLent-0 (a .claims) (a .n) (a .out .now) long (told e)))
+    (writeFrame-0 (a .claims) (a .n) (length (a .out .now)) (told e), rw (p, h) (frameLent-0 (a .claims) (a .n) (a .out .now) long (told e)))
 
 pub write-frame-spec : {M : Type 1} → statement M
 write-frame-spec =
