@@ -96,13 +96,20 @@ pub fn compare(cases: u64, draw: impl Fn(&mut Rng) -> Case) -> Seen {
         for ((seed, case), reply) in drawn.iter().zip(replies) {
             seen.number(case.number);
             case.ways.iter().for_each(|way| seen.way(way));
-            if reply != case.expected {
-                let told = difference(&case.given, &reply, &case.expected);
-                panic!("MINUTEFROST_SEED={seed}: {:?} differs\n{told}", case.call);
+            if let Some(told) = case.differs(&reply) {
+                panic!("MINUTEFROST_SEED={seed}: {told}");
             }
         }
     }
     seen
+}
+
+impl Case {
+    /// Where a reply is not what was expected, in words.
+    pub fn differs(&self, reply: &Card) -> Option<String> {
+        let told = || difference(&self.given, reply, &self.expected);
+        (*reply != self.expected).then(|| format!("{:?} differs\n{}", self.call, told()))
+    }
 }
 
 /// The first places where a reply is not what was expected.

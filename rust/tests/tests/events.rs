@@ -40,7 +40,9 @@ struct Told {
 /// Makes the call of a case by the drill, and demands the expected reply.
 fn ask(drill: &mut Drill, case: &Case) -> Card {
     let reply = drill.ask(case.call, &case.given);
-    assert!(reply == case.expected, "{:?} differs", case.call);
+    if let Some(told) = case.differs(&reply) {
+        panic!("{told}");
+    }
     reply
 }
 

@@ -7,7 +7,7 @@
 use std::thread;
 
 use second::*;
-use tests::cases::{Seen, for_seeds, one_seed};
+use tests::cases::{Seen, for_seeds, one_seed, seeds};
 use tests::draw::{Rng, frame_of, image_of};
 
 /// How often each number and each way must be seen.
@@ -223,33 +223,34 @@ fn beats() {
 #[test]
 fn runs_on_small_stacks() {
     const STACK: usize = 128 << 10;
-    let batch = |batch: u64| -> Vec<(u64, Asked, Left)> {
-        let case = |at| {
-            let seed = 10_000 * batch + at;
-            let mut rng = Rng(seed);
-            let asked = if at % 2 == 0 {
-                take_asked(&mut rng)
-            } else {
-                beat_asked(&mut rng)
-            };
-            let wanted = asked.by_second(seed);
-            (seed, asked, wanted)
+    let drawn = |seed| {
+        let mut rng = Rng(seed);
+        let asked = if seed % 2 == 0 {
+            take_asked(&mut rng)
+        } else {
+            beat_asked(&mut rng)
         };
-        (0..500).map(case).collect()
+        let wanted = asked.by_second(seed);
+        (seed, asked, wanted)
     };
-    let start = |batch: Vec<(u64, Asked, Left)>| {
-        let run = move || {
-            let differs = |(seed, asked, wanted): &(u64, Asked, Left)| {
-                (asked.by_archive(*seed) != *wanted).then_some(*seed)
-            };
-            batch.iter().find_map(differs)
+    let cases: Vec<(u64, Asked, Left)> = seeds(2_000).map(drawn).collect();
+    let differs = |part: &[(u64, Asked, Left)]| {
+        let case = |(seed, asked, wanted): &(u64, Asked, Left)| {
+            (asked.by_archive(*seed) != *wanted).then_some(*seed)
         };
-        let small = thread::Builder::new().stack_size(STACK);
-        small.spawn(run).expect("a thread starts")
+        part.iter().find_map(case)
     };
-    let threads: Vec<_> = (0..4).map(|at| start(batch(at))).collect();
-    for thread in threads {
-        let differs = thread.join().expect("a thread ends");
-        assert_eq!(differs, None, "the seed of a case that differs");
-    }
+    thread::scope(|scope| {
+        let mut threads = Vec::new();
+        for part in cases.chunks(500) {
+            let small = thread::Builder::new().stack_size(STACK);
+            let thread = small.spawn_scoped(scope, move || differs(part));
+            threads.push(thread.expect("a thread starts"));
+        }
+        for thread in threads {
+            if let Some(seed) = thread.join().expect("a thread ends") {
+                panic!("MINUTEFROST_SEED={seed} differs on a small stack");
+            }
+        }
+    });
 }
