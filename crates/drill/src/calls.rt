@@ -1,98 +1,137 @@
 // Each call, on the words and bytes of a request: its arguments are read, the call is made, and its answer is put in place.
 use crate::card;
+use crate::raw::MOST;
 use crate::raw::get;
 use crate::raw::put;
 use claims::Answer;
 use claims::Claim;
+use claims::Store;
+use rounds::Beaten;
+use rounds::Met;
+use rounds::Node;
+ghost use Prim.Native.Nat.{_≤_};
+ghost use lib.ListN.{length};
 
-// Makes one call; false where there is none of this number, or more is lent than is there.
-pub fn serve(call: u64, words: &mut [u64], bytes: &mut [u8]) -> bool {
-    if call < 8 {
-        return on_words(call, words);
-    }
-    if call < 13 {
-        return on_bytes(call, words, bytes);
-    }
-    if call == 13 {
-        return ordered(words);
-    }
-    if call == 14 {
-        return empty(words);
-    }
-    false
+// What came of a call: whether it could be made, and the number and the count of its answer.
+struct Said {
+    made: bool,
+    number: u8,
+    count: usize,
 }
 
-fn on_words(call: u64, words: &mut [u64]) -> bool {
+impl Said {
+    const NOTHING: Said = Said {
+        made: false,
+        number: 0,
+        count: 0,
+    };
+}
+
+// Makes one call; false where there is none of this number, or more is lent than is there.
+pub fn serve(call: u64, words: &mut [u64; MOST], n: usize, bytes: &mut [u8]) -> bool {
+    let said = make_call(call, words, n, bytes);
+    if !said.made {
+        return false;
+    }
+    put(words, card::NUMBER, said.number as u64);
+    put(words, card::COUNT, said.count as u64);
+    true
+}
+
+// How many words a call needs, without those that it is lent; where there is no such call, more than there are.
+fn needed(call: u64) -> usize {
+    let by_number = [
+        usize::MAX,
+        card::RIGHT, // enter
+        card::RIGHT, // make
+        card::RIGHT, // reply
+        card::LEFT, // judge
+        card::PAST_NODE, // take
+        card::PAST_NODE, // beat
+        card::PAST_BOTH, // round_words
+        card::LEFT, // read_frame
+        card::LEFT, // write_frame
+        card::PAST_NODE, // read_image
+        card::PAST_NODE, // write_image
+        card::LEFT, // image_length
+        card::PAST_NODE, // ordered
+        card::RIGHT, // Store::empty
+    ];
+    if call < 15 {
+        return by_number[call as usize];
+    }
+    usize::MAX
+}
+
+// Makes one call, if there is one of this number and all that it needs is there. Calls 8 to 12 are lent the first of the bytes.
+fn make_call(call: u64, words: &mut [u64; MOST], n: usize, bytes: &mut [u8]) -> Said {
+    if n < needed(call) {
+        return Said::NOTHING;
+    }
+    if call < 8 || 12 < call {
+        return on_words(call, words, n);
+    }
+    let lent = get(words, card::SECOND) as usize;
+    if bytes.len() < lent {
+        return Said::NOTHING;
+    }
+    on_bytes(call, words, &mut bytes[0..lent])
+}
+
+fn on_words(call: u64, words: &mut [u64; MOST], n: usize) -> Said {
     match call {
         1 => enter(words),
         2 => make(words),
         3 => reply(words),
         4 => judge(words),
         5 => take(words),
-        6 => beat(words),
-        7 => round_words(words),
-        _ => false,
+        6 => beat(words, n),
+        7 => round_words(words, n),
+        13 => ordered(words),
+        _ => empty(words),
     }
 }
 
-fn on_bytes(call: u64, words: &mut [u64], bytes: &mut [u8]) -> bool {
-    let lent = get(words, card::SECOND) as usize;
-    if words.len() < card::LEFT {
-        return false;
-    }
-    if bytes.len() < lent {
-        return false;
-    }
+fn on_bytes(call: u64, words: &mut [u64; MOST], lent: &mut [u8]) -> Said {
     match call {
-        8 => read_frame(words, &bytes[0..lent]),
-        9 => write_frame(words, &mut bytes[0..lent]),
-        10 => read_image(words, &bytes[0..lent]),
-        11 => write_image(words, &mut bytes[0..lent]),
-        12 => image_length(words, &bytes[0..lent]),
-        _ => false,
+        8 => read_frame(words, lent),
+        9 => write_frame(words, lent),
+        10 => read_image(words, lent),
+        11 => write_image(words, lent),
+        _ => image_length(lent),
     }
 }
 
-// The number and the count of an answer.
-fn put_answer(words: &mut [u64], number: u8, count: usize) {
-    put(words, card::NUMBER, number as u64);
-    put(words, card::COUNT, count as u64);
-}
-
-fn enter(words: &mut [u64]) -> bool {
-    if words.len() < card::RIGHT {
-        return false;
-    }
+fn enter(words: &mut [u64; MOST]) -> Said {
     let store = card::store_at(words, card::LEFT);
     let entered = claims::enter(store, get(words, card::FIRST));
     let after = entered.store;
-    put_answer(words, entered.number, 0);
     card::put_store(words, card::LEFT, after);
-    true
+    Said {
+        made: true,
+        number: entered.number,
+        count: 0,
+    }
 }
 
-fn make(words: &mut [u64]) -> bool {
-    if words.len() < card::RIGHT {
-        return false;
-    }
+fn make(words: &mut [u64; MOST]) -> Said {
     let store = card::store_at(words, card::LEFT);
     let first = get(words, card::FIRST) as usize;
     let last = get(words, card::SECOND) as usize;
     let made = claims::make(store, first, last);
     let claim = made.claim;
-    put_answer(words, made.number, 0);
     card::put_claim(words, card::CLAIMS, claim);
-    true
+    Said {
+        made: true,
+        number: made.number,
+        count: 0,
+    }
 }
 
 // The number, the kind and both claims of a reply.
-fn put_reply(words: &mut [u64], number: u8, kind: usize, one: Claim, two: Claim) {
-    put_answer(words, number, kind);
-    card::put_claim(words, card::CLAIMS + 4, one);
-    card::put_claim(words, card::CLAIMS + 8, two);
-}
+struct Parts(u8, usize, Claim, Claim);
 
-fn told(words: &mut [u64], answer: Answer) {
+fn parts_of(answer: Answer) -> Parts {
     let none = Claim {
         lo: 0,
         hi: 0,
@@ -100,156 +139,180 @@ fn told(words: &mut [u64], answer: Answer) {
         cnt: 0,
     };
     match answer {
-        Answer::Refused(number) => put_reply(words, number, 0, none, none),
-        Answer::Match => put_reply(words, 0, 0, none, none),
-        Answer::Ask(own) => put_reply(words, 0, 1, own, none),
-        Answer::One(claim) => put_reply(words, 0, 2, claim, none),
-        Answer::Two(one, two) => put_reply(words, 0, 3, one, two),
+        Answer::Refused(number) => Parts(number, 0, none, none),
+        Answer::Match => Parts(0, 0, none, none),
+        Answer::Ask(own) => Parts(0, 1, own, none),
+        Answer::One(claim) => Parts(0, 2, claim, none),
+        Answer::Two(one, two) => Parts(0, 3, one, two),
     }
 }
 
-fn reply(words: &mut [u64]) -> bool {
-    if words.len() < card::RIGHT {
-        return false;
+fn put_told(words: &mut [u64; MOST], answer: Answer) -> Said {
+    let parts = parts_of(answer);
+    let one = parts.2;
+    let two = parts.3;
+    card::put_claim(words, card::CLAIMS + 4, one);
+    card::put_claim(words, card::CLAIMS + 8, two);
+    Said {
+        made: true,
+        number: parts.0,
+        count: parts.1,
     }
+}
+
+fn reply(words: &mut [u64; MOST]) -> Said {
     let store = card::store_at(words, card::LEFT);
     let claim = card::claim_at(words, card::CLAIMS);
     let replied = claims::reply(store, claim);
     let after = replied.store;
     let answer = replied.answer;
     card::put_store(words, card::LEFT, after);
-    told(words, answer);
-    true
+    put_told(words, answer)
 }
 
-fn judge(words: &mut [u64]) -> bool {
-    if words.len() < card::LEFT {
-        return false;
-    }
+fn judge(words: &[u64; MOST]) -> Said {
     let claim = card::claim_at(words, card::CLAIMS);
-    put_answer(words, claims::judge(claim), 0);
-    true
+    Said {
+        made: true,
+        number: claims::judge(claim),
+        count: 0,
+    }
 }
 
-fn take(words: &mut [u64]) -> bool {
-    if words.len() < card::PAST_NODE {
-        return false;
-    }
+fn take(words: &mut [u64; MOST]) -> Said {
     let node = card::node_in(words);
     let claim = card::claim_at(words, card::CLAIMS);
     let taken = rounds::take(node, claim);
     let after = taken.node;
-    put_answer(words, taken.number, 0);
     card::put_node(words, after);
-    true
+    Said {
+        made: true,
+        number: taken.number,
+        count: 0,
+    }
 }
 
-fn beat(words: &mut [u64]) -> bool {
-    if words.len() < card::PAST_NODE {
-        return false;
-    }
-    let lent = get(words, card::SECOND) as usize;
-    if words.len() - card::PAST_NODE < lent {
-        return false;
+// A part can be lent of a slice, and not of an array behind a reference: so this and `met_on` take the words as a slice.
+fn beat_on(node: Node, words: &mut [u64], end: usize) -> Beaten
+    requires { ⌜ (1302 ≤ end) × (end ≤ length (now words)) ⌝ }
+{
+    rounds::beat(node, &mut words[card::PAST_NODE..end])
+}
+
+fn beat(words: &mut [u64; MOST], n: usize) -> Said {
+    let end = card::end_of_lent(words, n, card::PAST_NODE);
+    if end < card::PAST_NODE {
+        return Said::NOTHING;
     }
     let node = card::node_in(words);
-    let end = card::PAST_NODE + lent;
-    let beaten = rounds::beat(node, &mut words[card::PAST_NODE..end]);
+    let beaten = beat_on(node, &mut words[..], end);
     let after = beaten.node;
-    put_answer(words, beaten.number, beaten.written);
     card::put_node(words, after);
-    true
+    Said {
+        made: true,
+        number: beaten.number,
+        count: beaten.written,
+    }
 }
 
-fn round_words(words: &mut [u64]) -> bool {
-    if words.len() < card::PAST_BOTH {
-        return false;
-    }
-    let lent = get(words, card::SECOND) as usize;
-    if words.len() - card::PAST_BOTH < lent {
-        return false;
+fn met_on(left: Store, right: Store, words: &mut [u64], end: usize) -> Met
+    requires { ⌜ (2070 ≤ end) × (end ≤ length (now words)) ⌝ }
+{
+    rounds::round_words(left, right, &mut words[card::PAST_BOTH..end])
+}
+
+fn round_words(words: &mut [u64; MOST], n: usize) -> Said {
+    let end = card::end_of_lent(words, n, card::PAST_BOTH);
+    if end < card::PAST_BOTH {
+        return Said::NOTHING;
     }
     let left = card::store_at(words, card::LEFT);
     let right = card::store_at(words, card::RIGHT);
-    let end = card::PAST_BOTH + lent;
-    let met = rounds::round_words(left, right, &mut words[card::PAST_BOTH..end]);
+    let met = met_on(left, right, &mut words[..], end);
     let one = met.left;
     let other = met.right;
-    put_answer(words, met.number, met.deliveries);
     card::put_store(words, card::LEFT, one);
     card::put_store(words, card::RIGHT, other);
-    true
+    Said {
+        made: true,
+        number: met.number,
+        count: met.deliveries,
+    }
 }
 
-fn read_frame(words: &mut [u64], lent: &[u8]) -> bool {
+fn read_frame(words: &mut [u64; MOST], lent: &[u8]) -> Said {
     let framed = wire::read_frame(lent);
     let four = framed.claims;
-    put_answer(words, framed.number, framed.count);
-    card::put_claim(words, card::CLAIMS, four[0]);
-    card::put_claim(words, card::CLAIMS + 4, four[1]);
-    card::put_claim(words, card::CLAIMS + 8, four[2]);
-    card::put_claim(words, card::CLAIMS + 12, four[3]);
-    true
-}
-
-fn write_frame(words: &mut [u64], lent: &mut [u8]) -> bool {
-    let four = [
-        card::claim_at(words, card::CLAIMS),
-        card::claim_at(words, card::CLAIMS + 4),
-        card::claim_at(words, card::CLAIMS + 8),
-        card::claim_at(words, card::CLAIMS + 12),
-    ];
-    let written = wire::write_frame(four, get(words, card::FIRST) as usize, lent);
-    put_answer(words, written.number, written.length);
-    true
-}
-
-fn read_image(words: &mut [u64], lent: &[u8]) -> bool {
-    if words.len() < card::PAST_NODE {
-        return false;
+    card::put_four(words, four);
+    Said {
+        made: true,
+        number: framed.number,
+        count: framed.count,
     }
+}
+
+fn write_frame(words: &[u64; MOST], lent: &mut [u8]) -> Said {
+    let four = card::four_in(words);
+    let written = wire::write_frame(four, get(words, card::FIRST) as usize, lent);
+    Said {
+        made: true,
+        number: written.number,
+        count: written.length,
+    }
+}
+
+fn read_image(words: &mut [u64; MOST], lent: &[u8]) -> Said {
     let imaged = wire::read_image(lent);
     let node = imaged.node;
-    put_answer(words, imaged.number, 0);
     card::put_node(words, node);
-    true
+    Said {
+        made: true,
+        number: imaged.number,
+        count: 0,
+    }
 }
 
-fn write_image(words: &mut [u64], lent: &mut [u8]) -> bool {
-    if words.len() < card::PAST_NODE {
-        return false;
-    }
+fn write_image(words: &[u64; MOST], lent: &mut [u8]) -> Said {
     let node = card::node_in(words);
     let written = wire::write_image(node, lent);
-    put_answer(words, written.number, written.length);
-    true
-}
-
-fn image_length(words: &mut [u64], lent: &[u8]) -> bool {
-    let told = wire::image_length(lent);
-    put_answer(words, told.number, told.length);
-    true
-}
-
-fn ordered(words: &mut [u64]) -> bool {
-    if words.len() < card::PAST_NODE {
-        return false;
+    Said {
+        made: true,
+        number: written.number,
+        count: written.length,
     }
+}
+
+fn image_length(lent: &[u8]) -> Said {
+    let told = wire::image_length(lent);
+    Said {
+        made: true,
+        number: told.number,
+        count: told.length,
+    }
+}
+
+fn ordered(words: &[u64; MOST]) -> Said {
     let node = card::node_in(words);
     if rounds::ordered(node) {
-        put_answer(words, 0, 1);
-    } else {
-        put_answer(words, 0, 0);
+        return Said {
+            made: true,
+            number: 0,
+            count: 1,
+        };
     }
-    true
+    Said {
+        made: true,
+        number: 0,
+        count: 0,
+    }
 }
 
-fn empty(words: &mut [u64]) -> bool {
-    if words.len() < card::RIGHT {
-        return false;
-    }
-    let store = keys::Store::empty();
-    put_answer(words, 0, 0);
+fn empty(words: &mut [u64; MOST]) -> Said {
+    let store = Store::empty();
     card::put_store(words, card::LEFT, store);
-    true
+    Said {
+        made: true,
+        number: 0,
+        count: 0,
+    }
 }

@@ -1,8 +1,9 @@
 // Claims, stores and nodes in the words of a request, at the places that main.rt tells.
+use crate::raw::MOST;
 use crate::raw::get;
 use crate::raw::put;
 use claims::Claim;
-use keys::Store;
+use claims::Store;
 use rounds::Node;
 ghost use Prim.Native.Nat.{_≤_};
 
@@ -29,7 +30,7 @@ pub const PAST_NODE: usize = TABLE + 4 * Node::TABLE;
 
 pub const PAST_BOTH: usize = RIGHT + 1 + Store::LIMIT;
 
-pub fn claim_at(words: &[u64], at: usize) -> Claim
+pub fn claim_at(words: &[u64; MOST], at: usize) -> Claim
     requires { ⌜ at ≤ 1000000 ⌝ }
 {
     Claim {
@@ -40,7 +41,7 @@ pub fn claim_at(words: &[u64], at: usize) -> Claim
     }
 }
 
-pub fn put_claim(words: &mut [u64], at: usize, claim: Claim)
+pub fn put_claim(words: &mut [u64; MOST], at: usize, claim: Claim)
     requires { ⌜ at ≤ 1000000 ⌝ }
 {
     put(words, at, claim.lo);
@@ -49,7 +50,42 @@ pub fn put_claim(words: &mut [u64], at: usize, claim: Claim)
     put(words, at + 3, claim.cnt as u64);
 }
 
-pub fn store_at(words: &[u64], at: usize) -> Store
+// The four claims of a frame.
+pub fn four_in(words: &[u64; MOST]) -> [Claim; 4] {
+    [
+        claim_at(words, CLAIMS),
+        claim_at(words, CLAIMS + 4),
+        claim_at(words, CLAIMS + 8),
+        claim_at(words, CLAIMS + 12),
+    ]
+}
+
+pub fn put_four(words: &mut [u64; MOST], four: [Claim; 4]) {
+    let mut i: usize = 0;
+    while i < 4 {
+        put_claim(words, CLAIMS + 4 * i, four[i]);
+        i += 1;
+    }
+}
+
+// The place after the last word that a call is lent from a place on; 0 where the n words of the request end before it.
+pub fn end_of_lent(words: &[u64; MOST], n: usize, from: usize) -> usize
+    ensures { λ r. ⌜ r ≤ 16384 ⌝ }
+{
+    let lent = get(words, SECOND) as usize;
+    if MOST < n {
+        return 0;
+    }
+    if n < from {
+        return 0;
+    }
+    if n - from < lent {
+        return 0;
+    }
+    from + lent
+}
+
+pub fn store_at(words: &[u64; MOST], at: usize) -> Store
     requires { ⌜ at ≤ 1000000 ⌝ }
 {
     let mut store = Store::empty();
@@ -62,7 +98,7 @@ pub fn store_at(words: &[u64], at: usize) -> Store
     store
 }
 
-pub fn put_store(words: &mut [u64], at: usize, store: Store)
+pub fn put_store(words: &mut [u64; MOST], at: usize, store: Store)
     requires { ⌜ at ≤ 1000000 ⌝ }
 {
     put(words, at, store.count as u64);
@@ -74,7 +110,7 @@ pub fn put_store(words: &mut [u64], at: usize, store: Store)
 }
 
 // The claims of a table.
-fn table_in(words: &[u64]) -> [Claim; Node::TABLE] {
+fn table_in(words: &[u64; MOST]) -> [Claim; Node::TABLE] {
     let mut table = [Claim {
         lo: 0,
         hi: 0,
@@ -89,7 +125,7 @@ fn table_in(words: &[u64]) -> [Claim; Node::TABLE] {
     table
 }
 
-fn put_table(words: &mut [u64], table: [Claim; Node::TABLE]) {
+fn put_table(words: &mut [u64; MOST], table: [Claim; Node::TABLE]) {
     let mut i: usize = 0;
     while i < Node::TABLE {
         put_claim(words, TABLE + 4 * i, table[i]);
@@ -97,7 +133,7 @@ fn put_table(words: &mut [u64], table: [Claim; Node::TABLE]) {
     }
 }
 
-pub fn node_in(words: &[u64]) -> Node {
+pub fn node_in(words: &[u64; MOST]) -> Node {
     let store = store_at(words, LEFT);
     let pending = table_in(words);
     Node {
@@ -107,7 +143,7 @@ pub fn node_in(words: &[u64]) -> Node {
     }
 }
 
-pub fn put_node(words: &mut [u64], node: Node) {
+pub fn put_node(words: &mut [u64; MOST], node: Node) {
     let store = node.store;
     let pending = node.pending;
     put_store(words, LEFT, store);

@@ -37,83 +37,66 @@ fn malformed() -> bool {
     false
 }
 
-// Fills the first n of some bytes from the input, and says whether there were so many.
-fn fill(bytes: &mut [u8], n: usize) -> bool {
-    if bytes.len() < n {
-        return false;
-    }
-    if n == 0 {
-        return true;
-    }
-    io::read_full(STDIN_FILENO, &mut bytes[0..n]) == n
-}
-
-// Writes the first n of some bytes.
-fn tell(bytes: &[u8], n: usize) -> bool {
-    if bytes.len() < n {
-        return false;
-    }
-    io::write_all(STDOUT_FILENO, &bytes[0..n])
+// Fills some bytes from the input, and says whether there were so many.
+fn fill(bytes: &mut [u8]) -> bool {
+    io::read_full(STDIN_FILENO, bytes) == bytes.len()
 }
 
 // Reads the words of a request.
-fn read_words(space: &mut [u8], words: &mut [u64], n: usize) -> bool {
+fn read_words(words: &mut [u64; raw::MOST], n: usize) -> bool {
     if raw::MOST < n {
         return false;
     }
-    if !fill(space, 8 * n) {
+    let mut space = raw::space();
+    let end = 8 * n;
+    let part = &mut space[0..end];
+    if !fill(part) {
         return false;
     }
-    raw::decode(space, words, n);
+    raw::decode(part, words, n);
     true
 }
 
-// Makes the call on the words and bytes of the request, and no others.
-fn answer(call: u64, words: &mut [u64], n: usize, bytes: &mut [u8], m: usize) -> bool {
-    if words.len() < n {
-        return false;
-    }
-    if bytes.len() < m {
-        return false;
-    }
-    calls::serve(call, &mut words[0..n], &mut bytes[0..m])
-}
-
 // Writes the mark and the words of a reply.
-fn tell_words(space: &mut [u8], words: &[u64], n: usize) -> bool {
+fn tell_words(words: &[u64; raw::MOST], n: usize) -> bool {
     if raw::MOST < n {
         return false;
     }
-    raw::encode(words, space, n);
-    tell(space, 8 * n + 1)
+    let mut space = raw::space();
+    raw::encode(words, n, &mut space);
+    let end = 8 * n + 1;
+    io::write_all(STDOUT_FILENO, &space[0..end])
 }
 
-// One request, after its head.
-fn body(
-    call: u64,
-    space: &mut [u8],
-    words: &mut [u64],
-    n: usize,
-    bytes: &mut [u8],
-    m: usize,
-) -> bool {
-    if !read_words(space, words, n) {
+// One request, after its head: it has the first n of these words, and all of these bytes.
+fn answer(call: u64, words: &mut [u64; raw::MOST], n: usize, bytes: &mut [u8]) -> bool {
+    if !read_words(words, n) {
         return malformed();
     }
-    if !fill(bytes, m) {
+    if !fill(bytes) {
         return malformed();
     }
-    if !answer(call, words, n, bytes, m) {
+    if !calls::serve(call, words, n, bytes) {
         return malformed();
     }
-    if !tell_words(space, words, n) {
+    if !tell_words(words, n) {
         return false;
     }
-    tell(bytes, m)
+    io::write_all(STDOUT_FILENO, bytes)
+}
+
+// One request, after its head, of n words and m bytes.
+fn body(call: u64, n: usize, m: usize) -> bool {
+    if raw::MOST < m {
+        return malformed();
+    }
+    let mut words = [0u64; raw::MOST];
+    let mut bytes = [0u8; raw::MOST];
+    answer(call, &mut words, n, &mut bytes[0..m])
 }
 
 // One request; false where there is none or it could not be read.
-fn turn(space: &mut [u8], words: &mut [u64], bytes: &mut [u8]) -> bool {
+fn turn() -> bool {
     let mut head = [0u8; HEAD];
     let got = io::read_full(STDIN_FILENO, &mut head);
     if got == 0 {
@@ -122,19 +105,17 @@ fn turn(space: &mut [u8], words: &mut [u64], bytes: &mut [u8]) -> bool {
     if got < HEAD {
         return malformed();
     }
-    let call = raw::word_at(&head, 0);
-    let n = raw::word_at(&head, 8) as usize;
-    let m = raw::word_at(&head, 16) as usize;
-    body(call, space, words, n, bytes, m)
+    let told = &head[..];
+    let call = raw::word_at(told, 0);
+    let n = raw::word_at(told, 8) as usize;
+    let m = raw::word_at(told, 16) as usize;
+    body(call, n, m)
 }
 
 // Nothing says that the input ends, so the turns are counted down from a number that no run uses up.
 fn main() {
-    let mut space = [0u8; raw::SPACE];
-    let mut words = [0u64; raw::MOST];
-    let mut bytes = [0u8; raw::MOST];
     let mut turns = u64::MAX;
-    while turns > 0 && turn(&mut space, &mut words, &mut bytes) {
+    while turns > 0 && turn() {
         turns -= 1;
     }
 }

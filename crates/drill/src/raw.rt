@@ -1,11 +1,20 @@
 // Words in bytes, high byte first. Each function is total: a byte or word that is not there is read as 0 and not written.
 ghost use Prim.Native.Nat.{_≤_};
+ghost use lib.ListN.{length};
+ghost use mathlib.Core.Path.{_≡_};
 
 // The most words, and the most bytes, of a request.
 pub const MOST: usize = 16384;
 
 // The bytes of so many words, and of the mark before a reply's.
-pub const SPACE: usize = 8 * MOST + 1;
+const SPACE: usize = 8 * MOST + 1;
+
+// Room for those bytes, marks until words are put there. The check counts so many bytes slowly, so it does that here alone.
+pub fn space() -> [u8; SPACE]
+    ensures { λ r. ⌜ 131073 ≡ length r ⌝ }
+{
+    [b'='; SPACE]
+}
 
 // A byte as a number.
 fn wide(x: u8) -> u64 {
@@ -19,58 +28,40 @@ fn byte_at(bytes: &[u8], at: usize) -> u64 {
     0
 }
 
-// The low byte of a number.
-fn low(x: u64) -> u8 {
-    (x % 256) as u8
-}
-
+// Puts the low byte of a number.
 fn put_byte(bytes: &mut [u8], at: usize, x: u64) {
     if at < bytes.len() {
-        bytes[at] = low(x);
+        bytes[at] = (x % 256) as u8;
     }
 }
 
 pub fn word_at(bytes: &[u8], at: usize) -> u64
     requires { ⌜ at ≤ 1000000 ⌝ }
 {
-    byte_at(bytes, at) << 56
-        | byte_at(bytes, at + 1) << 48
-        | byte_at(bytes, at + 2) << 40
-        | byte_at(bytes, at + 3) << 32
-        | byte_at(bytes, at + 4) << 24
-        | byte_at(bytes, at + 5) << 16
-        | byte_at(bytes, at + 6) << 8
-        | byte_at(bytes, at + 7)
+    let mut x = 0;
+    let mut i = 0;
+    while i < 8 {
+        x = x << 8 | byte_at(bytes, at + i);
+        i += 1;
+    }
+    x
 }
 
-fn put_word(bytes: &mut [u8], at: usize, x: u64)
-    requires { ⌜ at ≤ 1000000 ⌝ }
-{
-    put_byte(bytes, at, x >> 56);
-    put_byte(bytes, at + 1, x >> 48);
-    put_byte(bytes, at + 2, x >> 40);
-    put_byte(bytes, at + 3, x >> 32);
-    put_byte(bytes, at + 4, x >> 24);
-    put_byte(bytes, at + 5, x >> 16);
-    put_byte(bytes, at + 6, x >> 8);
-    put_byte(bytes, at + 7, x);
-}
-
-pub fn get(words: &[u64], at: usize) -> u64 {
-    if at < words.len() {
+pub fn get(words: &[u64; MOST], at: usize) -> u64 {
+    if at < MOST {
         return words[at];
     }
     0
 }
 
-pub fn put(words: &mut [u64], at: usize, x: u64) {
-    if at < words.len() {
+pub fn put(words: &mut [u64; MOST], at: usize, x: u64) {
+    if at < MOST {
         words[at] = x;
     }
 }
 
 // The first n words, read from bytes.
-pub fn decode(bytes: &[u8], words: &mut [u64], n: usize)
+pub fn decode(bytes: &[u8], words: &mut [u64; MOST], n: usize)
     requires { ⌜ n ≤ 16384 ⌝ }
 {
     let mut i = 0;
@@ -80,14 +71,14 @@ pub fn decode(bytes: &[u8], words: &mut [u64], n: usize)
     }
 }
 
-// The mark of a reply and the first n words, written to bytes.
-pub fn encode(words: &[u64], bytes: &mut [u8], n: usize)
+// The first n words, written to the bytes after the first.
+pub fn encode(words: &[u64; MOST], n: usize, bytes: &mut [u8])
     requires { ⌜ n ≤ 16384 ⌝ }
 {
-    put_byte(bytes, 0, 61);
+    let end = 8 * n;
     let mut i = 0;
-    while i < n {
-        put_word(bytes, 8 * i + 1, get(words, i));
+    while i < end {
+        put_byte(bytes, i + 1, get(words, i / 8) >> (56 - 8 * (i % 8)));
         i += 1;
     }
 }

@@ -1,13 +1,11 @@
 -- `card::put_table` is safe and ends. The measure is the places that are left. Assumes nothing.
 use Prim.Native.Nat.{_≤_, _-_}
-use mathlib.Core.Path.{_≡_}
-use lib.ListN.{length}
 use borrow.Author.Needs.{needs}
 use Rattle.drill.proofs.card.put_table.Statement.{statement}
 use Rattle.drill.proofs.card.put_table.Tie as tie
 
 abbrev Inv-loop : tie.InvT-loop
-Inv-loop words₀ table i₀ words i = (i ≤ 64) × (length words ≡ length words₀)
+Inv-loop words₀ table i₀ words i = i ≤ 64
 
 abbrev μ-loop : tie.MeasureT-loop
 μ-loop words₀ table i₀ words i = 64 - i
@@ -39,9 +37,6 @@ loop-less c = search needs
 loop-again : tie.Need-loop-again Inv-loop μ-loop
 loop-again c = search needs
 
-same-length : tie.Need-same-length Inv-loop μ-loop
-same-length c = search needs
-
 returns : tie.Need-returns Inv-loop μ-loop
 returns c = search needs
 
@@ -60,5 +55,4 @@ put-table-spec =
     add-i
     loop-less
     loop-again
-    same-length
     returns)

@@ -1,13 +1,11 @@
 -- `raw::decode` is safe and ends. The measure is the words that are left. Assumes nothing.
 use Prim.Native.Nat.{_≤_, _-_}
-use mathlib.Core.Path.{_≡_}
-use lib.ListN.{length}
 use borrow.Author.Needs.{needs}
 use Rattle.drill.proofs.raw.decode.Statement.{statement}
 use Rattle.drill.proofs.raw.decode.Tie as tie
 
 abbrev Inv-loop : tie.InvT-loop
-Inv-loop bytes words₀ n i₀ words i = (i ≤ n) × (length words ≡ length words₀)
+Inv-loop bytes words₀ n i₀ words i = i ≤ n
 
 abbrev μ-loop : tie.MeasureT-loop
 μ-loop bytes words₀ n i₀ words i = n - i
@@ -33,9 +31,6 @@ loop-less c = search needs
 loop-again : tie.Need-loop-again Inv-loop μ-loop
 loop-again c = search needs
 
-same-length : tie.Need-same-length Inv-loop μ-loop
-same-length c = search needs
-
 returns : tie.Need-returns Inv-loop μ-loop
 returns c = search needs
 
@@ -52,5 +47,4 @@ decode-spec =
     add-i
     loop-less
     loop-again
-    same-length
     returns)

@@ -1,4 +1,4 @@
--- `raw::encode` is safe and ends. The measure is the words that are left. Assumes nothing.
+-- `raw::encode` is safe and ends. The measure is the bytes that are left. Assumes nothing.
 use Prim.Native.Nat.{_≤_, _-_}
 use mathlib.Core.Path.{_≡_}
 use lib.ListN.{length}
@@ -7,28 +7,34 @@ use Rattle.drill.proofs.raw.encode.Statement.{statement}
 use Rattle.drill.proofs.raw.encode.Tie as tie
 
 abbrev Inv-loop : tie.InvT-loop
-Inv-loop words bytes₀ n i₀ bytes i = (i ≤ n) × (length bytes ≡ length bytes₀)
+Inv-loop words n bytes₀ end i₀ bytes i = (i ≤ end) × (length bytes ≡ length bytes₀)
 
 abbrev μ-loop : tie.MeasureT-loop
-μ-loop words bytes₀ n i₀ bytes i = n - i
+μ-loop words n bytes₀ end i₀ bytes i = end - i
 
-put-byte-requires : tie.Need-put-byte-requires Inv-loop μ-loop
-put-byte-requires c κs = search needs
+mul-end : tie.Need-mul-end Inv-loop μ-loop
+mul-end c = search needs
 
 loop-holds : tie.Need-loop-holds Inv-loop μ-loop
 loop-holds c = search needs
 
-mul-put-word : tie.Need-mul-put-word Inv-loop μ-loop
-mul-put-word c = search needs
-
-add-put-word : tie.Need-add-put-word Inv-loop μ-loop
-add-put-word c = search needs
+add-put-byte : tie.Need-add-put-byte Inv-loop μ-loop
+add-put-byte c = search needs
 
 get-requires : tie.Need-get-requires Inv-loop μ-loop
 get-requires c κs = search needs
 
-put-word-requires : tie.Need-put-word-requires Inv-loop μ-loop
-put-word-requires c κs = search needs
+mul-put-byte : tie.Need-mul-put-byte Inv-loop μ-loop
+mul-put-byte c = search needs
+
+sub-put-byte : tie.Need-sub-put-byte Inv-loop μ-loop
+sub-put-byte c = search needs
+
+shr-put-byte : tie.Need-shr-put-byte Inv-loop μ-loop
+shr-put-byte c = search needs
+
+put-byte-requires : tie.Need-put-byte-requires Inv-loop μ-loop
+put-byte-requires c κs = search needs
 
 add-i : tie.Need-add-i Inv-loop μ-loop
 add-i c = search needs
@@ -51,12 +57,14 @@ encode-spec =
     (tie.spec
     Inv-loop
     μ-loop
-    put-byte-requires
+    mul-end
     loop-holds
-    mul-put-word
-    add-put-word
+    add-put-byte
     get-requires
-    put-word-requires
+    mul-put-byte
+    sub-put-byte
+    shr-put-byte
+    put-byte-requires
     add-i
     loop-less
     loop-again
