@@ -1,7 +1,7 @@
 // The rehearsal of an input: two images end to end, and one round of their stores.
 use crate::answer::Rehearsed;
 use keys::Store;
-use rounds::round_words;
+use transcript::round_words;
 use wire::image_length;
 use wire::read_image;
 ghost use mathlib.Core.Path.{_≡_};

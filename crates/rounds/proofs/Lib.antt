@@ -1,14 +1,8 @@
--- The laws of the code of a round, each way that it goes.
---   Records, Steps, UnionCount, Asking   the functions of src/record.rt and src/flat.rt
---   WordsLaws, CoreLaws, Meeting         the core of a round on flat words is the round
---   ArrayLent, Narrow, LogLaws, LogWalk  the functions of src/log.rt
-mod Records
-mod Steps
-mod UnionCount
-mod Asking
-mod WordsLaws
-mod CoreLaws
-mod Meeting
+-- The laws of the code of src/log.rt, each way that it goes.
+--   ArrayLent   an array lent as a slice
+--   Narrow      senders and counts that fit their fields
+--   LogLaws     records and words, and that a round on its words is the round
+--   LogWalk     what the walks by hand have in common
 mod ArrayLent
 mod Narrow
 mod LogLaws

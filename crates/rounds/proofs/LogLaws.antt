@@ -20,11 +20,11 @@ use Rattle.rule.specs.declared.delivery.Delivery.{Delivery}
 use Rattle.rule.specs.declared.answer.Met.{Met}
 use Rattle.rule.specs.Round.{union, Line, transcript}
 use Rattle.rule.specs.Call.{writtenOver, deliveryWords, roundQuestions, roundBy, met, metLent, metWords}
-use Rattle.rounds.specs.Core.{recordsIn, claimIn}
+use Rattle.transcript.specs.Core.{recordsIn, claimIn}
 use Rattle.rounds.specs.Log.{noDelivery, deliveryIn, copied, frontRecords, frontWords}
 use Rattle.rule.proofs.CallLaws.{RoundYes, roundQuestions-yes, met-done, met-refused, met-bounded, roundYes-rounded, metLent-done, metLent-refused, metWords-done}
 use Rattle.rule.proofs.Words.{length-deliveryWords}
-use Rattle.rounds.proofs.WordsLaws.{length-over, sender-at, claim-at}
+use Rattle.transcript.proofs.WordsLaws.{length-over, sender-at, claim-at}
 use Rattle.rounds.proofs.Narrow.{Narrow, AllNarrow, allNarrow-getD, round-narrow}
 
 -- ---- a record in words

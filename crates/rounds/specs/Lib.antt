@@ -1,5 +1,3 @@
--- What the code of a round does to any content, step by step: an interface between our own functions, and no rule of document 01.
---   Core  the round's core on flat words
+-- What the code between a round's words and its records does to any content: an interface between our own functions, and no rule of document 01.
 --   Log   records in a lent slice of delivery structs
-pub mod Core
 pub mod Log

@@ -10,7 +10,7 @@ use Rattle.keys.specs.declared.store.Store.{Store}
 use Rattle.claims.specs.Claim.{noClaim}
 use Rattle.rule.specs.declared.delivery.Delivery.{Delivery}
 use Rattle.rule.specs.Call.{metWords}
-use Rattle.rounds.specs.Core.{recordsIn, claimIn}
+use Rattle.transcript.specs.Core.{recordsIn, claimIn}
 
 -- the record of zeros, which stands where there is none
 abbrev pub noDelivery : Delivery

@@ -1,11 +1,8 @@
-// The upper library (document 01, "A round", "Pending table and beat"): a round of two stores; the calls on nodes and the types come with it from `nodes` and `rule`.
+// The upper library (document 01, "A round", "Pending table and beat"): a round of two stores over records; the round on words, the calls on nodes
+// and the types come with it from `transcript`, `nodes` and `rule`.
 // Each public call takes any content and states its whole result, and every lent place, by an equation with a definition.
-mod flat;
 mod log;
-mod record;
 
-pub use flat::Reached;
-pub use flat::round_words;
 pub use log::get;
 pub use log::put;
 pub use log::round;
@@ -17,3 +14,4 @@ pub use rule::Delivery;
 pub use rule::Met;
 pub use rule::Node;
 pub use rule::Taken;
+pub use transcript::round_words;

@@ -1,18 +1,18 @@
 // The lent run of transcript records, as a slice of delivery structs (document 01, "A round"): a record stored, a record read, and the round over them.
-// The round's core works on words (src/flat.rt). Its words stand in a local array here, and each record is stored once.
+// The round's core works on words (`transcript`). Its words stand in a local array here, and each record is stored once.
 // put, get, copy_out and round hold a reference to structs, so their proofs are walks by hand; the others are covered.
 ghost use mathlib.Core.Path.{_≡_};
 ghost use Prim.Native.Nat.{_≤_};
 ghost use lib.ListN.{length, set, getD};
 ghost use Rattle.rule.specs.Call.{met, metLent};
 ghost use Rattle.rounds.specs.Log.{noDelivery, deliveryIn, copied, frontRecords, frontWords};
-use crate::flat::round_words;
-use crate::record::RECORD;
-use crate::record::claim_in;
 use keys::Store;
 use keys::capped;
 use rule::Delivery;
 use rule::Met;
+use transcript::RECORD;
+use transcript::claim_in;
+use transcript::round_words;
 
 // The words of all the records that a round can fill.
 const WORDS: usize = RECORD * Delivery::RECORDS;

@@ -54,7 +54,7 @@ use Rattle.keys.proofs.store.Store.Laws as S′
 use Rattle.rule.specs.declared.delivery.Delivery.{Delivery}
 use Rattle.rule.specs.declared.answer.Met.{Met}
 use Rattle.rule.specs.Call.{met, metLent}
-use Rattle.rounds.specs.Core.{recordsIn}
+use Rattle.transcript.specs.Core.{recordsIn}
 use Rattle.rounds.specs.Log.{copied, frontRecords, frontWords}
 use Rattle.rounds.proofs.LogLaws.{met-front, met-lent, met-short}
 use Rattle.rounds.proofs.LogWalk.{word, records}
