@@ -6,9 +6,9 @@ use crate::raw::put;
 use claims::Answer;
 use claims::Claim;
 use claims::Store;
-use rounds::Beaten;
-use rounds::Met;
-use rounds::Node;
+use rule::Beaten;
+use rule::Met;
+use rule::Node;
 ghost use Prim.Native.Nat.{_≤_};
 ghost use lib.ListN.{length};
 
@@ -182,7 +182,7 @@ fn judge(words: &[u64; MOST]) -> Said {
 fn take(words: &mut [u64; MOST]) -> Said {
     let node = card::node_in(words);
     let claim = card::claim_at(words, card::CLAIMS);
-    let taken = rounds::take(node, claim);
+    let taken = nodes::take(node, claim);
     let after = taken.node;
     card::put_node(words, after);
     Said {
@@ -196,7 +196,7 @@ fn take(words: &mut [u64; MOST]) -> Said {
 fn beat_on(node: Node, words: &mut [u64], end: usize) -> Beaten
     requires { ⌜ (1302 ≤ end) × (end ≤ length (now words)) ⌝ }
 {
-    rounds::beat(node, &mut words[card::PAST_NODE..end])
+    beats::beat(node, &mut words[card::PAST_NODE..end])
 }
 
 fn beat(words: &mut [u64; MOST], n: usize) -> Said {
@@ -218,7 +218,7 @@ fn beat(words: &mut [u64; MOST], n: usize) -> Said {
 fn met_on(left: Store, right: Store, words: &mut [u64], end: usize) -> Met
     requires { ⌜ (2070 ≤ end) × (end ≤ length (now words)) ⌝ }
 {
-    rounds::round_words(left, right, &mut words[card::PAST_BOTH..end])
+    transcript::round_words(left, right, &mut words[card::PAST_BOTH..end])
 }
 
 fn round_words(words: &mut [u64; MOST], n: usize) -> Said {
@@ -293,7 +293,7 @@ fn image_length(lent: &[u8]) -> Said {
 
 fn ordered(words: &[u64; MOST]) -> Said {
     let node = card::node_in(words);
-    if rounds::ordered(node) {
+    if nodes::ordered(node) {
         return Said {
             made: true,
             number: 0,

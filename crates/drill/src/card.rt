@@ -4,7 +4,7 @@ use crate::raw::get;
 use crate::raw::put;
 use claims::Claim;
 use claims::Store;
-use rounds::Node;
+use rule::Node;
 ghost use Prim.Native.Nat.{_≤_};
 
 // The number and count of the answer, both arguments.

@@ -16,10 +16,10 @@ use Rattle.rule.specs.declared.answer.Beaten.{Beaten}
 use Rattle.rule.specs.Table.{beatLimit, sending}
 use Rattle.rule.specs.Node.{nodeKeys, pendingOf, nodeInOrder}
 use Rattle.rule.specs.Call.{writtenOver, claimWords, beatQuestions}
-use Rattle.nodes.specs.Serving.{beatenIn, beatenInLent}
+use Rattle.beats.specs.Serving.{beatenIn, beatenInLent}
 use Rattle.rule.proofs.NodeLaws.{Ordered, nodeInOrder-ordered, ordered-nodeInOrder}
 use Rattle.rule.proofs.CallLaws.{beaten-done, beatenLent-done, ordered-beaten, length-pendingOf}
-use Rattle.nodes.proofs.ServeLaws.{beatenIn-beaten, beatenInLent-beatenLent}
+use Rattle.beats.proofs.ServeLaws.{beatenIn-beaten, beatenInLent-beatenLent}
 use Rattle.rule.proofs.TableLaws.{length-sending}
 use Rattle.rule.proofs.Words.{length-claimWords, length-writtenOver}
 use Rattle.wire.specs.Frame.{allPass}

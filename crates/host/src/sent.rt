@@ -1,7 +1,7 @@
 // A beat, and the claims that it sends in frames.
+use beats::beat_in;
 use claims::Claim;
 use keys::capped;
-use nodes::beat_in;
 use rule::Node;
 use wire::Framed;
 use wire::write_frame;

@@ -1,12 +1,12 @@
--- `nodes::beats::write_claim` meets its contract. Assumes nothing.
+-- `beats::beats::write_claim` meets its contract. Assumes nothing.
 use native.Mathlib.Omega.{arith}
 use borrow.Author.Needs.{needs}
 use denote.Ref.{now}
 use Prim.Native.Nat.{_*_}
 use lib.ListN.{length-set}
-use Rattle.nodes.proofs.Writing.{write-words}
-use Rattle.nodes.proofs.beats.write_claim.Statement.{statement}
-use Rattle.nodes.proofs.beats.write_claim.Tie as tie
+use Rattle.beats.proofs.Writing.{write-words}
+use Rattle.beats.proofs.beats.write_claim.Statement.{statement}
+use Rattle.beats.proofs.beats.write_claim.Tie as tie
 
 mul-i : tie.Need-mul-i
 mul-i c = search needs

@@ -18,10 +18,10 @@ use Rattle.keys.specs.Lent.{placeIn}
 use Rattle.claims.specs.Lent.{answerIn}
 use Rattle.rule.specs.Table.{tableLimit, remains, Served}
 use Rattle.rule.specs.Node.{blanks}
-use Rattle.nodes.specs.Serving.{answerTo, serveIn, keptWith, wroteAt}
+use Rattle.beats.specs.Serving.{answerTo, serveIn, keptWith, wroteAt}
 use Rattle.rule.proofs.TableLaws.{length-claimsOf}
 use Rattle.rule.proofs.NodeLaws.{length-blanks}
-use Rattle.nodes.proofs.Writing.{sets-writtenOver, wroteAt-append}
+use Rattle.beats.proofs.Writing.{sets-writtenOver, wroteAt-append}
 
 -- ---- `answer_to`
 

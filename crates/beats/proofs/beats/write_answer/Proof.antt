@@ -1,11 +1,11 @@
--- `nodes::beats::write_answer` meets its contract. Assumes nothing.
+-- `beats::beats::write_answer` meets its contract. Assumes nothing.
 use borrow.Author.Needs.{needs}
 use denote.Ref.{now}
 use mathlib.Core.Path.{ap}
 use Rattle.claims.specs.Reply.{claimsOf}
-use Rattle.nodes.proofs.Writing.{wrote-none, wrote-one, wrote-two}
-use Rattle.nodes.proofs.beats.write_answer.Statement.{statement}
-use Rattle.nodes.proofs.beats.write_answer.Tie as tie
+use Rattle.beats.proofs.Writing.{wrote-none, wrote-one, wrote-two}
+use Rattle.beats.proofs.beats.write_answer.Statement.{statement}
+use Rattle.beats.proofs.beats.write_answer.Tie as tie
 
 enum-told : tie.Need-enum-told
 enum-told c = search needs

@@ -1,4 +1,4 @@
--- `nodes::beats::serve_table` meets its contract. The invariant: what is left of the table computes what comes out. Assumes nothing.
+-- `beats::beats::serve_table` meets its contract. The invariant: what is left of the table computes what comes out. Assumes nothing.
 use Prim.Native.Nat.{_+_, _*_, _-_, _≤_}
 use native.Mathlib.Omega.{arith}
 use mathlib.Core.Path.{_≡_, refl, sym, _∙_}
@@ -11,9 +11,9 @@ use Rattle.claims.specs.Claim.{noClaim}
 use Rattle.rule.specs.Node.{blanks}
 use Rattle.rule.proofs.TableLaws.{length-claimsOf}
 use Rattle.rule.proofs.NodeLaws.{length-mapped}
-use Rattle.nodes.proofs.Serve.{Left, left-all, left-stays, left-leaves, left-none}
-use Rattle.nodes.proofs.beats.serve_table.Statement.{statement}
-use Rattle.nodes.proofs.beats.serve_table.Tie as tie
+use Rattle.beats.proofs.Serve.{Left, left-all, left-stays, left-leaves, left-none}
+use Rattle.beats.proofs.beats.serve_table.Statement.{statement}
+use Rattle.beats.proofs.beats.serve_table.Tie as tie
 
 abbrev Inv-loop : tie.InvT-loop
 Inv-loop keys count pending lent₀ at table kept₀ n₀ written₀ i₀ lent kept n written i =

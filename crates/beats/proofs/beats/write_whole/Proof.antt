@@ -1,9 +1,9 @@
--- `nodes::beats::write_whole` meets its contract. Assumes nothing.
+-- `beats::beats::write_whole` meets its contract. Assumes nothing.
 use borrow.Author.Needs.{needs}
 use denote.Ref.{now}
-use Rattle.nodes.proofs.Writing.{whole-none, whole-one}
-use Rattle.nodes.proofs.beats.write_whole.Statement.{statement}
-use Rattle.nodes.proofs.beats.write_whole.Tie as tie
+use Rattle.beats.proofs.Writing.{whole-none, whole-one}
+use Rattle.beats.proofs.beats.write_whole.Statement.{statement}
+use Rattle.beats.proofs.beats.write_whole.Tie as tie
 
 returns : tie.Need-returns
 returns c = let s = c .before .before .before in whole-none (now (s .args .keys)) (s .args .count) (now (s .args .lent)) (c .if1 .taken)

@@ -26,7 +26,7 @@ use Rattle.rule.specs.declared.node.Node.{Node}
 use Rattle.rule.specs.Table.{tableLimit, beatLimit, remains, Served, serve, sending}
 use Rattle.rule.specs.Node.{blanks, pendingOf, nodeKeys, nodeOf}
 use Rattle.rule.specs.Call.{writtenOver, claimWords, beaten, beatenLent}
-use Rattle.nodes.specs.Serving.{answerTo, serveIn, wholeIn, sendingIn, servedBy, sentBy, beatenIn, beatenInLent}
+use Rattle.beats.specs.Serving.{answerTo, serveIn, wholeIn, sendingIn, servedBy, sentBy, beatenIn, beatenInLent}
 use Rattle.rule.proofs.NodeLaws.{Fits, Ordered, ordered-nodeInOrder}
 
 -- ---- a run of keys that is a store in order

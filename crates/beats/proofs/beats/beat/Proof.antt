@@ -1,13 +1,13 @@
--- `nodes::beats::beat` meets its contract. Assumes nothing.
+-- `beats::beats::beat` meets its contract. Assumes nothing.
 use mathlib.Core.Path.{_≡_, sym, _∙_}
 use borrow.Author.Needs.{needs}
 use borrow.Author.Tests.{not-true, not-false}
 use denote.Ref.{now}
 use lib.ListN.{length}
 use Rattle.keys.specs.Store.{limit}
-use Rattle.nodes.proofs.Beating.{beat-1, beat-ordered}
-use Rattle.nodes.proofs.beats.beat.Statement.{statement}
-use Rattle.nodes.proofs.beats.beat.Tie as tie
+use Rattle.beats.proofs.Beating.{beat-1, beat-ordered}
+use Rattle.beats.proofs.beats.beat.Statement.{statement}
+use Rattle.beats.proofs.beats.beat.Tie as tie
 
 -- the store has all its places
 long : (s : tie.Start) → length (s .args .node .store .keys) ≡ limit

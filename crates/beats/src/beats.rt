@@ -1,10 +1,10 @@
 // The beat of a node.
-use crate::order::ordered;
 use claims::Answer;
 use claims::Claim;
 use claims::answer_in;
 use claims::make_in;
 use keys::place_in;
+use nodes::ordered;
 use rule::Beaten;
 use rule::Node;
 ghost use mathlib.Core.Path.{_≡_};
@@ -14,8 +14,8 @@ ghost use lib.ListN.{length, take};
 ghost use Rattle.claims.specs.Reply.{claimsOf};
 ghost use Rattle.rule.specs.Table.{tableLimit, remains};
 ghost use Rattle.rule.specs.Call.{beaten, beatenLent};
 ghost use Rattle.nodes.specs.Lent.{nodeWith};
-ghost use Rattle.nodes.specs.Serving.{answerTo, serveIn, wholeIn, wroteAt, keptWith, beatenWith, beatenIn, beatenInLent};
+ghost use Rattle.beats.specs.Serving.{answerTo, serveIn, wholeIn, wroteAt, keptWith, beatenWith, beatenIn, beatenInLent};
 
 // The words of a claim in a lent run: lo, hi, sum, cnt.
 const WORDS: usize = 4;

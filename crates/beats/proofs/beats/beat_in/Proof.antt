@@ -1,15 +1,15 @@
--- `nodes::beats::beat_in` meets its contract. Assumes nothing.
+-- `beats::beats::beat_in` meets its contract. Assumes nothing.
 use borrow.Author.Needs.{needs}
 use denote.Ref.{now}
 use mathlib.Core.Path.{_≡_}
 use lib.ListN.{length}
 use Rattle.rule.specs.declared.node.Node.{Node}
 use Rattle.rule.specs.Table.{tableLimit}
 use Rattle.nodes.specs.Lent.{nodeWith}
 use Rattle.rule.proofs.NodeLaws.{length-mapped}
-use Rattle.nodes.proofs.Beating.{beatIn-many, beatIn-short, beatIn-room, beatIn-done}
-use Rattle.nodes.proofs.beats.beat_in.Statement.{statement}
-use Rattle.nodes.proofs.beats.beat_in.Tie as tie
+use Rattle.beats.proofs.Beating.{beatIn-many, beatIn-short, beatIn-room, beatIn-done}
+use Rattle.beats.proofs.beats.beat_in.Statement.{statement}
+use Rattle.beats.proofs.beats.beat_in.Tie as tie
 
 -- the node that beats
 abbrev given : tie.Start → Node

@@ -1,7 +1,7 @@
--- `nodes::beats::stays` meets its contract. Assumes nothing.
+-- `beats::beats::stays` meets its contract. Assumes nothing.
 use borrow.Author.Needs.{needs}
-use Rattle.nodes.proofs.beats.stays.Statement.{statement}
-use Rattle.nodes.proofs.beats.stays.Tie as tie
+use Rattle.beats.proofs.beats.stays.Statement.{statement}
+use Rattle.beats.proofs.beats.stays.Tie as tie
 
 enum-told : tie.Need-enum-told
 enum-told c = search needs

@@ -1,9 +1,9 @@
--- `nodes::beats::answer_to` meets its contract. Assumes nothing.
+-- `beats::beats::answer_to` meets its contract. Assumes nothing.
 use borrow.Author.Needs.{needs}
 use denote.Ref.{now}
-use Rattle.nodes.proofs.Serve.{answer-placed}
-use Rattle.nodes.proofs.beats.answer_to.Statement.{statement}
-use Rattle.nodes.proofs.beats.answer_to.Tie as tie
+use Rattle.beats.proofs.Serve.{answer-placed}
+use Rattle.beats.proofs.beats.answer_to.Statement.{statement}
+use Rattle.beats.proofs.beats.answer_to.Tie as tie
 
 place-in-requires : tie.Need-place-in-requires
 place-in-requires c κs = search needs
