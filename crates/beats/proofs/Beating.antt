@@ -12,12 +12,12 @@ use Rattle.keys.specs.Store.{limit}
 use Rattle.claims.specs.Lent.{makeIn}
 use Rattle.rule.specs.declared.node.Node.{Node}
 use Rattle.rule.specs.declared.answer.Beaten.{Beaten}
-use Rattle.beats.specs.declared.beats.Kept.{Kept}
 use Rattle.rule.specs.Table.{tableLimit, beatLimit}
 use Rattle.rule.specs.Node.{pendingOf, nodeInOrder}
 use Rattle.rule.specs.Call.{writtenOver, claimWords, beaten, beatenLent}
-use Rattle.beats.specs.Serving.{keptWith, wholeIn, wroteAt, servedBy, sentBy, beatenWith, beatenIn, beatenInLent}
 use Rattle.rule.proofs.NodeLaws.{nodeInOrder-ordered}
+use Rattle.beats.specs.declared.beats.Kept.{Kept}
+use Rattle.beats.specs.Serving.{keptWith, wholeIn, wroteAt, servedBy, sentBy, beatenWith, beatenIn, beatenInLent}
 use Rattle.beats.proofs.Writing.{wroteAt-append, wroteAt-writtenOver}
 use Rattle.beats.proofs.Serve.{length-sentIn}
 use Rattle.beats.proofs.ServeLaws.{beatenIn-beaten, beatenInLent-beatenLent}

@@ -9,18 +9,18 @@ use native.Mathlib.Numerals.{add-one}
 use native.Mathlib.Omega.{arith}
 use lib.ListN.{length, drop, getD, set, length-append, drop-of-length-le}
 use lib.Seq.{sets, drop-cons}
+use Rattle.keys.specs.declared.lent.Place.{Place}
+use Rattle.keys.specs.Lent.{placeIn}
 use Rattle.claims.specs.declared.claim.Claim.{Claim}
 use Rattle.claims.specs.declared.answer.Answer.{Answer}
-use Rattle.keys.specs.declared.lent.Place.{Place}
 use Rattle.claims.specs.Claim.{noClaim}
 use Rattle.claims.specs.Reply.{claimsOf}
-use Rattle.keys.specs.Lent.{placeIn}
 use Rattle.claims.specs.Lent.{answerIn}
 use Rattle.rule.specs.Table.{tableLimit, remains, Served}
 use Rattle.rule.specs.Node.{blanks}
-use Rattle.beats.specs.Serving.{answerTo, serveIn, keptWith, wroteAt}
 use Rattle.rule.proofs.TableLaws.{length-claimsOf}
 use Rattle.rule.proofs.NodeLaws.{length-blanks}
+use Rattle.beats.specs.Serving.{answerTo, serveIn, keptWith, wroteAt}
 use Rattle.beats.proofs.Writing.{sets-writtenOver, wroteAt-append}
 
 -- ---- `answer_to`

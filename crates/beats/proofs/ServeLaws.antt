@@ -8,26 +8,26 @@ use native.Mathlib.Omega.{arith}
 use borrow.Author.Tests.{le-leb, lt-ltb, ne-eqb}
 use lib.Dec.{leb}
 use lib.ListN.{length}
-use Rattle.claims.specs.declared.claim.Claim.{Claim}
 use Rattle.keys.specs.declared.lent.Place.{Place}
 use Rattle.keys.specs.declared.store.Store.{Store}
 use Rattle.keys.specs.Store.{limit, storeOf}
+use Rattle.keys.proofs.Rising.{Rising}
+use Rattle.keys.proofs.Order.{inOrder-count, inOrder-rising, length-keysOf, storeOf-keysOf}
+use Rattle.keys.proofs.LentLaws.{placeIn-store}
+use Rattle.claims.specs.declared.claim.Claim.{Claim}
 use Rattle.claims.specs.Claim.{wholeClaim}
 use Rattle.claims.specs.Question.{settle}
 use Rattle.claims.specs.Reply.{answer, reply, claimsOf}
 use Rattle.claims.specs.Lent.{answerIn}
-use Rattle.keys.proofs.Rising.{Rising}
-use Rattle.keys.proofs.Order.{inOrder-count, inOrder-rising, length-keysOf, storeOf-keysOf}
 use Rattle.claims.proofs.QuestionLaws.{passes, judged-firstNo}
 use Rattle.claims.proofs.ReplyLaws.{hear-held}
-use Rattle.keys.proofs.LentLaws.{placeIn-store}
 use Rattle.claims.proofs.LentLaws.{makeIn-store, answerIn-store}
 use Rattle.rule.specs.declared.node.Node.{Node}
 use Rattle.rule.specs.Table.{tableLimit, beatLimit, remains, Served, serve, sending}
 use Rattle.rule.specs.Node.{blanks, pendingOf, nodeKeys, nodeOf}
 use Rattle.rule.specs.Call.{writtenOver, claimWords, beaten, beatenLent}
-use Rattle.beats.specs.Serving.{answerTo, serveIn, wholeIn, sendingIn, servedBy, sentBy, beatenIn, beatenInLent}
 use Rattle.rule.proofs.NodeLaws.{Fits, Ordered, ordered-nodeInOrder}
+use Rattle.beats.specs.Serving.{answerTo, serveIn, wholeIn, sendingIn, servedBy, sentBy, beatenIn, beatenInLent}
 
 -- ---- a run of keys that is a store in order
 

@@ -15,8 +15,8 @@ use Rattle.claims.specs.declared.answer.Made.{Made}
 use Rattle.claims.specs.Reply.{claimsOf}
 use Rattle.claims.specs.Lent.{makeIn}
 use Rattle.rule.specs.Call.{writtenOver, claimWords}
-use Rattle.beats.specs.Serving.{wholeIn, wroteAt}
 use Rattle.rule.proofs.Words.{length-claimWords, claimWords-append}
+use Rattle.beats.specs.Serving.{wholeIn, wroteAt}
 
 -- ---- stores of lists
 

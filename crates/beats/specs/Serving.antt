@@ -7,20 +7,20 @@ use mathlib.Core.List.{List, [], _∷_, _++_}
 use lib.Dec.{leb, eqb}
 use lib.ListN.{length}
 use lib.Seq.{sets}
+use Rattle.keys.specs.Lent.{placeIn}
 use Rattle.claims.specs.declared.claim.Claim.{Claim}
 use Rattle.claims.specs.declared.answer.Answer.{Answer}
 use Rattle.claims.specs.Question.{Question, firstNo, settle, question}
 use Rattle.claims.specs.Reply.{claimsOf}
-use Rattle.keys.specs.Lent.{placeIn}
 use Rattle.claims.specs.Lent.{makeIn, answerIn}
 use Rattle.rule.specs.declared.node.Node.{Node}
 use Rattle.rule.specs.declared.answer.Beaten.{Beaten}
-use Rattle.beats.specs.declared.beats.Kept.{Kept}
 use Rattle.rule.specs.Table.{tableLimit, beatLimit, Served, remains}
 use Rattle.rule.specs.Node.{blanks, pendingOf}
 use Rattle.rule.specs.Question.{question15}
 use Rattle.rule.specs.Call.{claimWords, writtenOver}
 use Rattle.nodes.specs.Lent.{nodeWith}
+use Rattle.beats.specs.declared.beats.Kept.{Kept}
 
 -- the answer to a claim by a run of keys in which its lo and hi are sought; none is added
 unfoldable pub answerTo : List ℕ → ℕ → Claim → Answer

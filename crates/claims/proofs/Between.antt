@@ -12,10 +12,10 @@ use borrow.Author.Tests.{le-leb, lt-leb}
 use lib.Dec.{leb}
 use lib.ListN.{length, length-append}
 use Rattle.keys.specs.Store.{insert}
-use Rattle.claims.specs.Claim.{between}
 use Rattle.keys.proofs.Tests.{Order, less, equal, greater, order, lt-or-le}
 use Rattle.keys.proofs.Rising.{Rising, Sub, above-mem, above-sub, rising-append, rising-length, rising-ext, append-sub}
 use Rattle.keys.proofs.Insert.{insert-after, insert-here, insert-before, mem-insert-new, mem-insert-old, insert-mem, insert-rising}
+use Rattle.claims.specs.Claim.{between}
 
 -- ---- the cases
 

@@ -9,24 +9,24 @@ use native.Mathlib.Omega.{arith}
 use borrow.Author.Tests.{lt-ltb, le-ltb, ne-eqb}
 use lib.Dec.{ltb, leb}
 use lib.ListN.{length}
+use Rattle.keys.specs.declared.lent.Added.{Added}
+use Rattle.keys.specs.declared.store.Store.{Store}
+use Rattle.keys.specs.Store.{limit, keysOf, storeOf, inOrder, insert, insertAll}
+use Rattle.keys.specs.Lent.{orderedIn, addIn, keysAdding}
+use Rattle.keys.proofs.Tests.{lt-or-le}
+use Rattle.keys.proofs.Rising.{Rising}
+use Rattle.keys.proofs.Order.{inOrder-count, inOrder-rising, length-keysOf, storeOf-keysOf, count-storeOf}
+use Rattle.keys.proofs.LentLaws.{orderedIn-inOrder, addIn-fits, addIn-full, keysAdding-fits, keysAdding-full}
 use Rattle.claims.specs.declared.answer.Answer.the-variants.{Refused}
 use Rattle.claims.specs.declared.answer.Made.{Made}
 use Rattle.claims.specs.declared.claim.Claim.{Claim}
-use Rattle.keys.specs.declared.lent.Added.{Added}
 use Rattle.claims.specs.declared.lent.Told.{Told}
-use Rattle.keys.specs.declared.store.Store.{Store}
-use Rattle.keys.specs.Store.{limit, keysOf, storeOf, inOrder, insert, insertAll}
 use Rattle.claims.specs.Claim.{claimOf, noClaim}
 use Rattle.claims.specs.Question.{firstNo, settle, question6, claimQuestions}
 use Rattle.claims.specs.Reply.{ends, hear}
 use Rattle.claims.specs.Call.{judged, entered, made, replied}
-use Rattle.keys.specs.Lent.{orderedIn, addIn, keysAdding}
 use Rattle.claims.specs.Lent.{makeIn, keysHearing, replyIn}
-use Rattle.keys.proofs.Tests.{lt-or-le}
-use Rattle.keys.proofs.Rising.{Rising}
-use Rattle.keys.proofs.Order.{inOrder-count, inOrder-rising, length-keysOf, storeOf-keysOf, count-storeOf}
 use Rattle.claims.proofs.QuestionLaws.{Passes, passes, claimQuestions-numbered, firstNo-append-zero, firstNo-append-no}
-use Rattle.keys.proofs.LentLaws.{orderedIn-inOrder, addIn-fits, addIn-full, keysAdding-fits, keysAdding-full}
 use Rattle.claims.proofs.LentLaws.{makeIn-store, keysHearing-fits, keysHearing-full, replyIn-fits, replyIn-full}
 
 -- a store by its parts

@@ -7,8 +7,8 @@ use mathlib.Core.Bool.{false}
 use mathlib.Core.Path.{_≡_, refl}
 use native.Mathlib.Omega.{arith}
 use borrow.Author.Tests.{le-leb}
-use Rattle.claims.specs.declared.answer.Answer.the-variants.{Match}
 use Rattle.keys.specs.Store.{zeros, storeOf, emptyStore, inOrder}
+use Rattle.claims.specs.declared.answer.Answer.the-variants.{Match}
 use Rattle.claims.specs.Claim.{between}
 use Rattle.claims.specs.Reply.{answer, reply, falseMatch}
 use Rattle.claims.specs.Call.{made, replied, judged}

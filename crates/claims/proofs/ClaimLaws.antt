@@ -12,13 +12,13 @@ use borrow.Author.Tests.{eqb-true, eq-eqb}
 use lib.Dec.{eqb}
 use lib.ListN.{length, getD}
 use lib.Seq.{take-all}
-use Rattle.claims.specs.declared.claim.Claim.{Claim}
 use Rattle.keys.specs.Store.{limit}
+use Rattle.keys.proofs.Tests.{and-left, and-right, and-both}
+use Rattle.keys.proofs.Rising.{Rising}
+use Rattle.claims.specs.declared.claim.Claim.{Claim}
 use Rattle.claims.specs.Claim.{span, xorAll, claimOf, wholeClaim, between}
 use Rattle.claims.specs.Question.{firstNo, claimQuestions}
 use Rattle.claims.specs.Reply.{same}
-use Rattle.keys.proofs.Tests.{and-left, and-right, and-both}
-use Rattle.keys.proofs.Rising.{Rising}
 use Rattle.claims.proofs.Xor.{xorAll-one, xorAll-two}
 use Rattle.claims.proofs.Between.{length-rising-range}
 use Rattle.claims.proofs.Span.{first, last, first-le, le-last, first-le-last, first-lt-last, one-key, two-keys, first-between, last-between}

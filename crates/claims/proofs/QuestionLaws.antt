@@ -10,11 +10,11 @@ use native.Mathlib.Omega.{arith}
 use borrow.Author.Tests.{leb-true, le-leb, eqb-true, eq-eqb, ne-eqb}
 use lib.Bits.{bitXor}
 use lib.Dec.{leb, eqb}
-use Rattle.claims.specs.declared.claim.Claim.{Claim}
 use Rattle.keys.specs.Store.{limit}
+use Rattle.keys.proofs.Tests.{and-left, and-right, and-both, lt-or-le, eq-or-ne}
+use Rattle.claims.specs.declared.claim.Claim.{Claim}
 use Rattle.claims.specs.Question.{Question, firstNo, settle, question2, question3, question4, question5, claimQuestions}
 use Rattle.claims.specs.Call.{judged}
-use Rattle.keys.proofs.Tests.{and-left, and-right, and-both, lt-or-le, eq-or-ne}
 
 -- ---- a question in front
 

@@ -11,17 +11,17 @@ use native.Mathlib.Omega.{arith}
 use borrow.Author.Tests.{ltb-true, ltb-false, eqb-true, eq-eqb}
 use lib.Dec.{ltb, eqb}
 use lib.ListN.{length, getD}
-use Rattle.claims.specs.declared.claim.Claim.{Claim}
-use Rattle.claims.specs.declared.answer.Answer.{Answer}
-use Rattle.claims.specs.declared.answer.Answer.the-variants.{Refused, Match, Ask, One, Two}
 use Rattle.keys.specs.Store.{position}
-use Rattle.claims.specs.Claim.{span, xorAll, claimOf, between}
-use Rattle.claims.specs.Reply.{adding, hear, own, same, half, help, answer, reply, numberOf, claimsOf, matches, sameKeys, falseMatch}
 use Rattle.keys.proofs.Tests.{and-left, and-right, and-both, Order, less, equal, greater, order}
 use Rattle.keys.proofs.Rising.{Rising, Sub, mem-length, rising-getD}
 use Rattle.keys.proofs.Insert.{mem-insertAll-old, mem-insertAll-new, insertAll-mem, insertAll-sub}
 use Rattle.keys.proofs.Insert.{insertAll-rising, insertAll-held, insertAll-same, length-insertAll-ge}
 use Rattle.keys.proofs.Position.{getD-position, position-mono}
+use Rattle.claims.specs.declared.claim.Claim.{Claim}
+use Rattle.claims.specs.declared.answer.Answer.{Answer}
+use Rattle.claims.specs.declared.answer.Answer.the-variants.{Refused, Match, Ask, One, Two}
+use Rattle.claims.specs.Claim.{span, xorAll, claimOf, between}
+use Rattle.claims.specs.Reply.{adding, hear, own, same, half, help, answer, reply, numberOf, claimsOf, matches, sameKeys, falseMatch}
 use Rattle.claims.proofs.Xor.{xorAll-one, xorAll-two}
 use Rattle.claims.proofs.Between.{inside, mem-between, between-one, between-inside, length-between-inside}
 use Rattle.claims.proofs.Span.{first, last, first-between, last-between, first-span, last-span, length-span, span-join, between-span, span-inside}

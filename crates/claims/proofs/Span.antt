@@ -9,9 +9,9 @@ use native.Mathlib.Nat.{le-of-suc-le-suc, not-suc-le-zero}
 use native.Mathlib.Omega.{arith}
 use lib.ListN.{length, take, drop, getD, length-drop}
 use lib.Seq.{length-take-le, getD-take, getD-drop, take-add, drop-drop}
-use Rattle.claims.specs.Claim.{span, between}
 use Rattle.keys.proofs.Rising.{Rising, above-mem, rising-head, rising-append-left, rising-append-right, rising-append-lt, rising-take, rising-drop, rising-ext}
 use Rattle.keys.proofs.Rising.{mem-getD, mem-length, mem-index, rising-getD, rising-getD-le, getD-rising-lt}
+use Rattle.claims.specs.Claim.{span, between}
 use Rattle.claims.proofs.Between.{between-within, between-below, between-all, between-none, between-append, between-mem, mem-between}
 use Rattle.claims.proofs.Between.{between-rising, between-widen, inside, inside-mem}
 

@@ -2,13 +2,13 @@
 -- "A refusal returns its number, the given store or node, and zeros for any claim or count." Assumes nothing.
 use Prim.Native.Nat.{ℕ}
 use mathlib.Core.List.{List, [], _∷_, _++_}
-use Rattle.claims.specs.declared.claim.Claim.{Claim}
 use Rattle.keys.specs.declared.store.Store.{Store}
+use Rattle.keys.specs.Store.{keysOf, storeOf, insert}
+use Rattle.claims.specs.declared.claim.Claim.{Claim}
 use Rattle.claims.specs.declared.answer.Entered.{Entered}
 use Rattle.claims.specs.declared.answer.Made.{Made}
 use Rattle.claims.specs.declared.answer.Replied.{Replied}
 use Rattle.claims.specs.declared.answer.Answer.the-variants.{Refused}
-use Rattle.keys.specs.Store.{keysOf, storeOf, insert}
 use Rattle.claims.specs.Claim.{claimOf, noClaim}
 use Rattle.claims.specs.Question.{Question, firstNo, settle, question1, question6, question7, claimQuestions}
 use Rattle.claims.specs.Reply.{ends, hear, reply}

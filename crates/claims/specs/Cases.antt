@@ -3,13 +3,13 @@
 use Prim.Native.Nat.{ℕ}
 use mathlib.Core.Bool.{Bool, true}
 use mathlib.Core.List.{List, [], _∷_}
-use Rattle.claims.specs.declared.claim.Claim.{Claim}
 use Rattle.keys.specs.declared.store.Store.{Store}
+use Rattle.keys.specs.Store.{emptyStore, storeOf}
+use Rattle.claims.specs.declared.claim.Claim.{Claim}
 use Rattle.claims.specs.declared.answer.Answer.{Answer}
 use Rattle.claims.specs.declared.answer.Answer.the-variants.{Match, Ask, One, Two}
 use Rattle.claims.specs.declared.answer.Made.{Made}
 use Rattle.claims.specs.declared.answer.Replied.{Replied}
-use Rattle.keys.specs.Store.{emptyStore, storeOf}
 use Rattle.claims.specs.Claim.{between}
 use Rattle.claims.specs.Reply.{falseMatch}
 use Rattle.claims.specs.Call.{made, replied, judged}

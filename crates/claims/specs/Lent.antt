@@ -7,14 +7,14 @@ use mathlib.Core.Bool.{Bool, cond, _&&_}
 use mathlib.Core.List.{List}
 use lib.Dec.{ltb, leb, eqb}
 use lib.ListN.{length, take, drop}
+use Rattle.keys.specs.declared.lent.Added.{Added}
+use Rattle.keys.specs.Store.{limit}
+use Rattle.keys.specs.Lent.{addBoth, keysBoth}
 use Rattle.claims.specs.declared.claim.Claim.{Claim}
 use Rattle.claims.specs.declared.answer.Answer.{Answer}
 use Rattle.claims.specs.declared.answer.Answer.the-variants.{Refused}
 use Rattle.claims.specs.declared.answer.Made.{Made}
 use Rattle.claims.specs.declared.lent.Told.{Told}
-use Rattle.keys.specs.declared.lent.Added.{Added}
-use Rattle.keys.specs.Store.{limit}
-use Rattle.keys.specs.Lent.{addBoth, keysBoth}
 use Rattle.claims.specs.Claim.{claimOf, noClaim, xorAll}
 use Rattle.claims.specs.Reply.{decide, help}
 

@@ -6,9 +6,9 @@ use mathlib.Core.List.{List, [], _∷_}
 use lib.Bits.{bitXor}
 use lib.Dec.{ltb, leb, eqb}
 use lib.ListN.{length}
-use Rattle.claims.specs.declared.claim.Claim.{Claim}
 use Rattle.keys.specs.declared.store.Store.{Store}
 use Rattle.keys.specs.Store.{limit, inOrder, insertAll}
+use Rattle.claims.specs.declared.claim.Claim.{Claim}
 
 -- a question that was put: its number, and whether the answer was yes
 pub record Question : Type 0 where

@@ -4,10 +4,10 @@ use Prim.Native.Nat.{ℕ, _+_, _-_, _/_}
 use mathlib.Core.Bool.{Bool, true, false, cond, not, _&&_}
 use mathlib.Core.List.{List, [], _∷_}
 use lib.Dec.{ltb, eqb}
+use Rattle.keys.specs.Store.{position, insertAll}
 use Rattle.claims.specs.declared.claim.Claim.{Claim}
 use Rattle.claims.specs.declared.answer.Answer.{Answer}
 use Rattle.claims.specs.declared.answer.Answer.the-variants.{Refused, Match, Ask, One, Two}
-use Rattle.keys.specs.Store.{position, insertAll}
 use Rattle.claims.specs.Claim.{claimOf, between}
 
 -- the ends of a claim, which question 6 counts where they are missing

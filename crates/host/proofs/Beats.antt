@@ -7,21 +7,21 @@ use mathlib.Core.List.{List}
 use mathlib.Core.Path.{_≡_, ap, _∙_}
 use borrow.Author.Tests.{le-leb}
 use lib.ListN.{length, drop}
-use Rattle.claims.specs.declared.claim.Claim.{Claim}
 use Rattle.keys.specs.Store.{limit}
-use Rattle.claims.specs.Question.{firstNo}
 use Rattle.keys.proofs.Order.{inOrder-rising, inOrder-count, length-keysOf}
+use Rattle.claims.specs.declared.claim.Claim.{Claim}
+use Rattle.claims.specs.Question.{firstNo}
 use Rattle.rule.specs.declared.node.Node.{Node}
 use Rattle.rule.specs.declared.answer.Beaten.{Beaten}
 use Rattle.rule.specs.Table.{beatLimit, sending}
 use Rattle.rule.specs.Node.{nodeKeys, pendingOf, nodeInOrder}
 use Rattle.rule.specs.Call.{writtenOver, claimWords, beatQuestions}
-use Rattle.beats.specs.Serving.{beatenIn, beatenInLent}
 use Rattle.rule.proofs.NodeLaws.{Ordered, nodeInOrder-ordered, ordered-nodeInOrder}
 use Rattle.rule.proofs.CallLaws.{beaten-done, beatenLent-done, ordered-beaten, length-pendingOf}
-use Rattle.beats.proofs.ServeLaws.{beatenIn-beaten, beatenInLent-beatenLent}
 use Rattle.rule.proofs.TableLaws.{length-sending}
 use Rattle.rule.proofs.Words.{length-claimWords, length-writtenOver}
+use Rattle.beats.specs.Serving.{beatenIn, beatenInLent}
+use Rattle.beats.proofs.ServeLaws.{beatenIn-beaten, beatenInLent-beatenLent}
 use Rattle.wire.specs.Frame.{allPass}
 use Rattle.wire.specs.Run.{readRun}
 use Rattle.host.specs.Frames.{framesLimit, inWords}

@@ -7,8 +7,8 @@ use mathlib.Core.Logic.{⊎-elim}
 use mathlib.Core.Path.{_≡_, refl, ap, sym}
 use lib.ListN.{length, take, drop, length-append, length-take, length-drop, take-append-drop, drop-of-length-le}
 use lib.Seq.{take-all}
-use Rattle.claims.specs.declared.claim.Claim.{Claim}
 use Rattle.keys.proofs.Tests.{lt-or-le}
+use Rattle.claims.specs.declared.claim.Claim.{Claim}
 use Rattle.rule.specs.Table.{beatLimit}
 use Rattle.wire.specs.Frame.{frameLimit, frameLength, frameBytes}
 use Rattle.wire.proofs.FrameTrips.{length-frameBytes}

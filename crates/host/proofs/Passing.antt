@@ -8,12 +8,12 @@ use mathlib.Core.Path.{_≡_, refl, sym, _∙_, subst}
 use borrow.Author.Tests.{eq-eqb}
 use lib.Dec.{eqb}
 use lib.ListN.{length}
-use Rattle.claims.specs.declared.claim.Claim.{Claim}
 use Rattle.keys.specs.Store.{limit}
-use Rattle.claims.specs.Claim.{wholeClaim, between}
-use Rattle.claims.specs.Call.{judged}
 use Rattle.keys.proofs.Tests.{and-both}
 use Rattle.keys.proofs.Rising.{Rising, Sub, rising-length}
+use Rattle.claims.specs.declared.claim.Claim.{Claim}
+use Rattle.claims.specs.Claim.{wholeClaim, between}
+use Rattle.claims.specs.Call.{judged}
 use Rattle.claims.proofs.Between.{between-rising, between-sub}
 use Rattle.claims.proofs.Span.{first, last}
 use Rattle.claims.proofs.QuestionLaws.{Passes, passes, passes-firstNo, judged-firstNo}

@@ -9,15 +9,16 @@ use borrow.Rule.Slice.PartMut.{putMid, post-is}
 use lib.Dec.{eqb}
 use lib.ListN.{length, take, drop, getD, set, length-append, length-drop, length-take, drop-of-length-le}
 use lib.Seq.{drop-drop, getD-drop, take-all}
-use Rattle.claims.specs.declared.claim.Claim.{Claim}
 use Rattle.keys.specs.Store.{limit}
+use Rattle.keys.proofs.Tests.{and-left, and-right}
+use Rattle.claims.specs.declared.claim.Claim.{Claim}
 use Rattle.claims.specs.Claim.{noClaim}
 use Rattle.claims.specs.Call.{judged}
 use Rattle.claims.specs.Question.{firstNo}
-use Rattle.keys.proofs.Tests.{and-left, and-right}
 use Rattle.claims.proofs.QuestionLaws.{passes, judged-firstNo}
 use Rattle.rule.specs.Node.{blanks}
 use Rattle.rule.specs.Call.{writtenOver}
+use Rattle.rule.proofs.NodeLaws.{length-blanks}
 use Rattle.wire.specs.declared.answer.Length.{Length}
 use Rattle.wire.specs.Frame.{frameLimit, frameLength, frameBytes, countable, allPass, writeFrameQuestions, writeFrame, frameLent}
 use Rattle.wire.specs.Run.{readRun}
@@ -26,7 +27,6 @@ use Rattle.wire.proofs.Frames.{countable-of, writable-0, writeFrame-0, frameLen
 use Rattle.wire.proofs.FrameTrips.{length-frameBytes}
 use Rattle.wire.proofs.Places.{length-putAt, putAt-nil, putAt-zero, putAt-append}
 use Rattle.wire.proofs.Runs.{length-readRun, set-readRun}
-use Rattle.rule.proofs.NodeLaws.{length-blanks}
 use Rattle.host.specs.Frames.{framesBytes, inWords}
 use Rattle.host.proofs.Words.{getD-readRun}
 use Rattle.host.proofs.Turns.{allPass-getD}

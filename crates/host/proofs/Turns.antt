@@ -11,23 +11,23 @@ use borrow.Author.Tests.{eqb-true, eqb-false, eq-eqb, ne-eqb}
 use lib.Dec.{eqb}
 use lib.ListN.{length, drop, getD, drop-of-length-le}
 use lib.Seq.{drop-cons}
+use Rattle.keys.specs.Store.{limit}
+use Rattle.keys.proofs.Order.{length-keys-storeOf}
+use Rattle.keys.proofs.Tests.{and-left, and-right, eq-or-ne}
 use Rattle.claims.specs.declared.claim.Claim.{Claim}
 use Rattle.claims.specs.Claim.{noClaim}
 use Rattle.claims.specs.Call.{judged}
 use Rattle.claims.specs.Question.{firstNo, question6}
 use Rattle.claims.specs.Reply.{ends, hear}
-use Rattle.keys.specs.Store.{limit}
-use Rattle.keys.proofs.Order.{length-keys-storeOf}
-use Rattle.keys.proofs.Tests.{and-left, and-right, eq-or-ne}
 use Rattle.claims.proofs.QuestionLaws.{Numbered, firstNo-yes, firstNo-no}
 use Rattle.rule.specs.declared.node.Node.{Node}
 use Rattle.rule.specs.declared.answer.Taken.{Taken}
 use Rattle.rule.specs.Node.{nodeInOrder, nodeKeys, pendingOf}
 use Rattle.rule.specs.Table.{tableWith}
 use Rattle.rule.specs.Call.{takeQuestions, taken}
-use Rattle.nodes.specs.Lent.{takenNext}
 use Rattle.rule.proofs.NodeLaws.{Ordered, nodeInOrder-ordered, ordered-nodeInOrder, nodeKeys-nodeOf, store-nodeOf}
 use Rattle.rule.proofs.CallLaws.{takeQuestions-6, takeQuestions-yes, taken-done, taken-refused, ordered-taken}
+use Rattle.nodes.specs.Lent.{takenNext}
 use Rattle.nodes.proofs.TakeLaws.{takenNext-taken, ordered-takenNext}
 use Rattle.wire.specs.Frame.{allPass}
 use Rattle.wire.specs.Image.{Shaped}

@@ -7,11 +7,11 @@ use mathlib.Core.Logic.{⊎-elim}
 use mathlib.Core.Path.{_≡_, refl, sym, ap, _∙_, subst}
 use native.Mathlib.Omega.{arith}
 use lib.ListN.{length, drop}
-use Rattle.claims.specs.declared.claim.Claim.{Claim}
 use Rattle.keys.specs.Store.{limit}
+use Rattle.keys.proofs.Rising.{Rising, Sub, sub-trans, sub-take, sub-drop, rising-length}
+use Rattle.claims.specs.declared.claim.Claim.{Claim}
 use Rattle.claims.specs.Claim.{span, claimOf, wholeClaim, between}
 use Rattle.claims.specs.Reply.{adding, hear, reply, claimsOf}
-use Rattle.keys.proofs.Rising.{Rising, Sub, sub-trans, sub-take, sub-drop, rising-length}
 use Rattle.claims.proofs.Between.{between-rising, between-sub}
 use Rattle.claims.proofs.Span.{first, last, mem-first, mem-last, length-span, span-rising}
 use Rattle.claims.proofs.QuestionLaws.{Passes, passes, judged-firstNo}

@@ -10,16 +10,16 @@ use mathlib.Core.Path.{_≡_, refl, sym, ap, _∙_, subst}
 use native.Mathlib.Omega.{arith}
 use borrow.Author.Tests.{le-leb, lt-ltb, ltb-false}
 use lib.ListN.{length}
-use Rattle.claims.specs.declared.claim.Claim.{Claim}
 use Rattle.keys.specs.declared.store.Store.{Store}
 use Rattle.keys.specs.Store.{limit, keysOf, insert, insertAll}
-use Rattle.claims.specs.Question.{Question, firstNo, question1, question6, claimQuestions}
-use Rattle.claims.specs.Reply.{ends}
-use Rattle.claims.specs.Call.{judged, enterQuestions, replyQuestions}
 use Rattle.keys.proofs.Tests.{eq-or-ne}
 use Rattle.keys.proofs.Rising.{Rising, Sub, sub-refl, sub-trans, rising-length}
 use Rattle.keys.proofs.Insert.{length-insert-le, insert-sub, insert-rising, insertAll-sub, insertAll-rising, mem-insertAll-new}
 use Rattle.keys.proofs.Order.{inOrder-rising, keysOf-storeOf}
+use Rattle.claims.specs.declared.claim.Claim.{Claim}
+use Rattle.claims.specs.Question.{Question, firstNo, question1, question6, claimQuestions}
+use Rattle.claims.specs.Reply.{ends}
+use Rattle.claims.specs.Call.{judged, enterQuestions, replyQuestions}
 use Rattle.claims.proofs.QuestionLaws.{firstNo-yes, firstNo-no, firstNo-append-zero, claimQuestions-numbered, passes-firstNo, judged-firstNo}
 use Rattle.rule.specs.declared.node.Node.{Node}
 use Rattle.rule.specs.declared.delivery.Delivery.{Delivery}

@@ -5,16 +5,16 @@ use mathlib.Core.List.{List, [], _∷_}
 use mathlib.Core.Path.{_≡_, refl, sym, ap, _∙_, subst}
 use native.Mathlib.Omega.{arith}
 use lib.ListN.{length, length-append}
+use Rattle.keys.specs.declared.store.Store.{Store}
+use Rattle.keys.specs.Store.{limit, keysOf, storeOf}
+use Rattle.keys.proofs.Rising.{Rising}
+use Rattle.keys.proofs.Order.{inOrder-rising}
 use Rattle.claims.specs.declared.claim.Claim.{Claim}
 use Rattle.claims.specs.declared.answer.Answer.{Answer}
 use Rattle.claims.specs.declared.answer.Answer.the-variants.{Match}
-use Rattle.keys.specs.declared.store.Store.{Store}
-use Rattle.keys.specs.Store.{limit, keysOf, storeOf}
 use Rattle.claims.specs.Claim.{wholeClaim}
 use Rattle.claims.specs.Question.{firstNo}
 use Rattle.claims.specs.Reply.{hear, own, same, answer, reply, claimsOf}
-use Rattle.keys.proofs.Rising.{Rising}
-use Rattle.keys.proofs.Order.{inOrder-rising}
 use Rattle.claims.proofs.Span.{mem-first, mem-last, first-le-last, between-first-last}
 use Rattle.claims.proofs.ClaimLaws.{spanClaim, claim-same, wholeClaim-span}
 use Rattle.claims.proofs.ReplyLaws.{hear-held, own-between}

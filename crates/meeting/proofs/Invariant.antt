@@ -7,17 +7,17 @@ use mathlib.Core.Logic.{_⊎_, inl, inr, ⊎-elim}
 use mathlib.Core.Path.{_≡_, refl, sym, ap, _∙_, subst}
 use native.Mathlib.Omega.{arith}
 use lib.ListN.{length}
-use Rattle.claims.specs.declared.claim.Claim.{Claim}
 use Rattle.keys.specs.declared.store.Store.{Store}
 use Rattle.keys.specs.Store.{limit, keysOf, storeOf, insert}
-use Rattle.claims.specs.Claim.{claimOf}
-use Rattle.claims.specs.Question.{firstNo}
-use Rattle.claims.specs.Reply.{hear, reply, claimsOf}
-use Rattle.claims.specs.Call.{enterQuestions, makeQuestions, replyQuestions}
 use Rattle.keys.proofs.Tests.{eq-or-ne}
 use Rattle.keys.proofs.Rising.{Rising, Sub, sub-refl, sub-trans, rising-length, sub-append-left}
 use Rattle.keys.proofs.Insert.{mem-insert-new, mem-insert-old, insert-sub, insert-rising}
 use Rattle.keys.proofs.Order.{keysOf-storeOf, count-storeOf, inOrder-rising}
+use Rattle.claims.specs.declared.claim.Claim.{Claim}
+use Rattle.claims.specs.Claim.{claimOf}
+use Rattle.claims.specs.Question.{firstNo}
+use Rattle.claims.specs.Reply.{hear, reply, claimsOf}
+use Rattle.claims.specs.Call.{enterQuestions, makeQuestions, replyQuestions}
 use Rattle.claims.proofs.QuestionLaws.{passes}
 use Rattle.claims.proofs.ReplyLaws.{hear-rising, hear-old, hear-sub}
 use Rattle.rule.specs.declared.node.Node.{Node}

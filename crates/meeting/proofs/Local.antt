@@ -10,15 +10,15 @@ use borrow.Author.Tests.{ltb-false}
 use lib.Dec.{ltb}
 use lib.ListN.{length, take, drop}
 use lib.Seq.{take-at, drop-at}
-use Rattle.claims.specs.declared.claim.Claim.{Claim}
-use Rattle.claims.specs.declared.answer.Answer.{Answer}
-use Rattle.claims.specs.declared.answer.Answer.the-variants.{Match, Ask, One, Two}
 use Rattle.keys.specs.Store.{position, insert, insertAll}
-use Rattle.claims.specs.Claim.{span, between}
-use Rattle.claims.specs.Reply.{adding, hear, own, same, half, help, answer, reply, claimsOf, matches, sameKeys}
 use Rattle.keys.proofs.Rising.{Rising}
 use Rattle.keys.proofs.Insert.{insert-rising}
 use Rattle.keys.proofs.Position.{getD-position}
+use Rattle.claims.specs.declared.claim.Claim.{Claim}
+use Rattle.claims.specs.declared.answer.Answer.{Answer}
+use Rattle.claims.specs.declared.answer.Answer.the-variants.{Match, Ask, One, Two}
+use Rattle.claims.specs.Claim.{span, between}
+use Rattle.claims.specs.Reply.{adding, hear, own, same, half, help, answer, reply, claimsOf, matches, sameKeys}
 use Rattle.claims.proofs.Between.{Lies, within, below, beyond, lies, inside, between-between, between-insert-within, between-insert-outside}
 use Rattle.claims.proofs.Span.{first, last, length-span, span-join, span-inside, first-between, last-between}
 use Rattle.claims.proofs.QuestionLaws.{Passes}

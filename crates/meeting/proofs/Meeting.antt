@@ -12,10 +12,10 @@ use lib.Dec.{eqb}
 use lib.ListN.{length}
 use Rattle.keys.specs.declared.store.Store.{Store}
 use Rattle.keys.specs.Store.{limit, keysOf, storeOf, inOrder, allZero}
-use Rattle.claims.specs.Question.{firstNo}
 use Rattle.keys.proofs.Tests.{and-left, and-right, eq-or-ne}
 use Rattle.keys.proofs.Rising.{Rising, Sub, rising-length}
 use Rattle.keys.proofs.Order.{keysOf-storeOf, inOrder-storeOf, inOrder-rising}
+use Rattle.claims.specs.Question.{firstNo}
 use Rattle.rule.specs.declared.node.Node.{Node}
 use Rattle.rule.specs.declared.delivery.Delivery.{Delivery}
 use Rattle.rule.specs.Round.{union, leftEnd, rightEnd}

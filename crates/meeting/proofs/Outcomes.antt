@@ -10,14 +10,14 @@ use native.Mathlib.Omega.{arith}
 use borrow.Author.Tests.{ltb-true, leb-true, eqb-true, eq-eqb, ne-eqb}
 use lib.Dec.{leb, ltb, eqb}
 use lib.ListN.{length, drop}
-use Rattle.claims.specs.declared.claim.Claim.{Claim}
 use Rattle.keys.specs.declared.store.Store.{Store}
 use Rattle.keys.specs.Store.{limit, keysOf, storeOf, inOrder, insert, insertAll}
+use Rattle.keys.proofs.Tests.{and-left, and-right, eq-or-ne}
+use Rattle.claims.specs.declared.claim.Claim.{Claim}
 use Rattle.claims.specs.Claim.{claimOf}
 use Rattle.claims.specs.Question.{firstNo, question1, question6, question7, claimQuestions}
 use Rattle.claims.specs.Reply.{ends, hear, reply, claimsOf}
 use Rattle.claims.specs.Call.{enterQuestions, entered, makeQuestions, made, replyQuestions, replied}
-use Rattle.keys.proofs.Tests.{and-left, and-right, eq-or-ne}
 use Rattle.claims.proofs.QuestionLaws.{firstNo-zero, firstNo-append-zero, firstNo-append-no, Passes, passes, claimQuestions-numbered}
 use Rattle.claims.proofs.ReplyLaws.{numberOf-answer}
 use Rattle.rule.specs.declared.node.Node.{Node}

@@ -8,13 +8,13 @@ use mathlib.Core.Logic.{⊎-elim}
 use mathlib.Core.Path.{_≡_, refl, sym, ap, _∙_, subst}
 use native.Mathlib.Omega.{arith}
 use lib.ListN.{length}
-use Rattle.claims.specs.declared.claim.Claim.{Claim}
-use Rattle.claims.specs.declared.answer.Answer.{Answer}
 use Rattle.keys.specs.Store.{limit}
-use Rattle.claims.specs.Claim.{between, wholeClaim}
-use Rattle.claims.specs.Reply.{hear, reply, claimsOf, falseMatch}
 use Rattle.keys.proofs.Tests.{Order, less, equal, greater, order}
 use Rattle.keys.proofs.Rising.{Rising, Sub, rising-length, rising-same, rising-ext}
+use Rattle.claims.specs.declared.claim.Claim.{Claim}
+use Rattle.claims.specs.declared.answer.Answer.{Answer}
+use Rattle.claims.specs.Claim.{between, wholeClaim}
+use Rattle.claims.specs.Reply.{hear, reply, claimsOf, falseMatch}
 use Rattle.claims.proofs.Between.{inside, mem-between, between-mem, between-rising, mem-inside, between-sub}
 use Rattle.claims.proofs.Span.{first, last, between-first-last}
 use Rattle.claims.proofs.QuestionLaws.{Passes}

@@ -6,8 +6,8 @@ use mathlib.Core.Bool.{cond}
 use mathlib.Core.List.{List, [], _∷_, _++_, map}
 use lib.Dec.{eqb}
 use lib.ListN.{length, take, drop, getD}
-use Rattle.claims.specs.declared.claim.Claim.{Claim}
 use Rattle.keys.specs.declared.store.Store.{Store}
+use Rattle.claims.specs.declared.claim.Claim.{Claim}
 use Rattle.claims.specs.Reply.{numberOf, claimsOf}
 use Rattle.claims.specs.Call.{entered, made, replied}
 use Rattle.rule.specs.declared.node.Node.{Node}

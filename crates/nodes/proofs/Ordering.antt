@@ -11,21 +11,21 @@ use borrow.Author.Tests.{le-ltb, le-leb, lt-leb, eqb-true, eq-eqb, ne-eqb}
 use lib.Dec.{ltb, eqb}
 use lib.ListN.{length, take, drop, getD, drop-of-length-le}
 use lib.Seq.{drop-cons, getD-take, length-take-le}
-use Rattle.claims.specs.declared.claim.Claim.{Claim}
 use Rattle.keys.specs.declared.lent.Place.{Place}
 use Rattle.keys.specs.declared.store.Store.{Store}
 use Rattle.keys.specs.Store.{limit, keysOf, storeOf, inOrder, holds}
+use Rattle.keys.specs.Lent.{orderedIn, placeIn}
+use Rattle.keys.proofs.Order.{inOrder-rising, length-keysOf, storeOf-keysOf}
+use Rattle.keys.proofs.LentLaws.{orderedIn-inOrder, placeIn-store}
+use Rattle.claims.specs.declared.claim.Claim.{Claim}
 use Rattle.claims.specs.Claim.{noClaim}
 use Rattle.claims.specs.Reply.{ends, same}
 use Rattle.claims.specs.Call.{judged}
-use Rattle.keys.specs.Lent.{orderedIn, placeIn}
 use Rattle.claims.proofs.ClaimLaws.{same-claim}
-use Rattle.keys.proofs.Order.{inOrder-rising, length-keysOf, storeOf-keysOf}
-use Rattle.keys.proofs.LentLaws.{orderedIn-inOrder, placeIn-store}
 use Rattle.rule.specs.Table.{tableLimit, before, climbsFrom, climbs}
 use Rattle.rule.specs.Node.{holdsAll, allFit, allUnused, nodeInOrder}
-use Rattle.nodes.specs.Lent.{nodeWith}
 use Rattle.rule.proofs.TableLaws.{before-total}
+use Rattle.nodes.specs.Lent.{nodeWith}
 
 -- ---- two claims compared
 

@@ -13,14 +13,14 @@ use borrow.Author.Tests.{lt-ltb, le-ltb, ltb-true, eqb-true, eqb-false, eq-eqb, 
 use lib.Dec.{ltb, eqb}
 use lib.ListN.{length, take, drop, getD, set, length-append, length-take, length-drop, List·getD-append}
 use lib.Seq.{set-split, set-at, getD-set-other, getD-take, take-suc, drop-cons, length-take-le, take-take, take-all, take-nil}
+use Rattle.keys.proofs.Tests.{and-left, and-right, lt-or-le}
 use Rattle.claims.specs.declared.claim.Claim.{Claim}
 use Rattle.claims.specs.Claim.{noClaim}
 use Rattle.claims.specs.Reply.{same}
-use Rattle.keys.proofs.Tests.{and-left, and-right, lt-or-le}
 use Rattle.rule.specs.Table.{tableLimit, before, climbsFrom, climbs, insertClaim, tableWith}
 use Rattle.rule.specs.Call.{writtenOver}
-use Rattle.nodes.specs.Lent.{halvedTo, placeAmong, isAt, placedAt, tableIn}
 use Rattle.rule.proofs.TableLaws.{before-trans, before-total, climbsFrom-climbs}
+use Rattle.nodes.specs.Lent.{halvedTo, placeAmong, isAt, placedAt, tableIn}
 use Rattle.nodes.proofs.Ordering.{before-not-same}
 
 -- ---- halving

@@ -10,18 +10,18 @@ use native.Mathlib.Omega.{arith}
 use borrow.Author.Tests.{lt-ltb, le-ltb, eq-eqb, ne-eqb}
 use lib.ListN.{length, take, drop, length-append, length-take, length-drop, take-append-drop}
 use lib.Seq.{length-take-le, take-take, take-all, take-at, drop-drop}
-use Rattle.claims.specs.declared.claim.Claim.{Claim}
 use Rattle.keys.specs.declared.lent.Added.{Added}
 use Rattle.keys.specs.declared.store.Store.{Store}
 use Rattle.keys.specs.Store.{limit, storeOf, position, insertAll}
-use Rattle.claims.specs.Question.{firstNo, question6, claimQuestions}
-use Rattle.claims.specs.Reply.{ends, hear, same}
-use Rattle.claims.specs.Call.{judged}
 use Rattle.keys.specs.Lent.{noRoom, addedAt}
-use Rattle.claims.specs.Lent.{hearIn, keysHearing}
 use Rattle.keys.proofs.Tests.{lt-or-le, eq-or-ne}
 use Rattle.keys.proofs.Rising.{Rising}
 use Rattle.keys.proofs.Order.{inOrder-rising, length-keysOf, storeOf-keysOf, count-storeOf}
+use Rattle.claims.specs.declared.claim.Claim.{Claim}
+use Rattle.claims.specs.Question.{firstNo, question6, claimQuestions}
+use Rattle.claims.specs.Reply.{ends, hear, same}
+use Rattle.claims.specs.Call.{judged}
+use Rattle.claims.specs.Lent.{hearIn, keysHearing}
 use Rattle.claims.proofs.QuestionLaws.{Passes, passes, firstNo-yes, firstNo-no, firstNo-append-no, judged-firstNo}
 use Rattle.claims.proofs.LentLaws.{hearIn-fits, hearIn-full, keysHearing-fits, keysHearing-refused}
 use Rattle.rule.specs.declared.node.Node.{Node}
@@ -29,9 +29,9 @@ use Rattle.rule.specs.declared.answer.Taken.{Taken}
 use Rattle.rule.specs.Table.{tableLimit, before, insertClaim, tableWith}
 use Rattle.rule.specs.Node.{blanks, pendingOf, nodeKeys, nodeOf, nodeInOrder}
 use Rattle.rule.specs.Call.{writtenOver, takeQuestions, taken}
-use Rattle.nodes.specs.Lent.{nodeWith, placeAmong, isAt, placedAt, placedIn, tableIn, Enlisted, takenAfter, takenNext}
 use Rattle.rule.proofs.NodeLaws.{Ordered, blanks-allUnused}
 use Rattle.rule.proofs.CallLaws.{takeQuestions-yes, takeQuestions-6, taken-done, taken-refused, ordered-taken, length-pendingOf}
+use Rattle.nodes.specs.Lent.{nodeWith, placeAmong, isAt, placedAt, placedIn, tableIn, Enlisted, takenAfter, takenNext}
 use Rattle.nodes.proofs.Placing.{tableIn-tableWith}
 
 -- ---- the table with the claim put in

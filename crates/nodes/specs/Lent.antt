@@ -7,10 +7,10 @@ use mathlib.Core.Bool.{Bool, cond, not, _&&_}
 use mathlib.Core.List.{List, _∷_, _++_}
 use lib.Dec.{ltb, eqb}
 use lib.ListN.{length, take, drop, getD}
-use Rattle.claims.specs.declared.claim.Claim.{Claim}
 use Rattle.keys.specs.declared.lent.Added.{Added}
-use Rattle.claims.specs.Claim.{noClaim}
 use Rattle.keys.specs.Store.{limit}
+use Rattle.claims.specs.declared.claim.Claim.{Claim}
+use Rattle.claims.specs.Claim.{noClaim}
 use Rattle.claims.specs.Lent.{hearIn, keysHearing}
 use Rattle.rule.specs.declared.node.Node.{Node}
 use Rattle.rule.specs.declared.answer.Rest.{Rest}

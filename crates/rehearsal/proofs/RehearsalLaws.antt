@@ -9,10 +9,10 @@ use lib.Dec.{leb, lit<}
 use lib.ListN.{length, take, drop, length-drop}
 use lib.Seq.{take-all}
 use Rattle.keys.specs.declared.store.Store.{Store}
-use Rattle.claims.specs.Question.{Question, firstNo, settle}
 use Rattle.keys.proofs.Order.{count-storeOf}
-use Rattle.claims.proofs.QuestionLaws.{Numbered, firstNo-zero, firstNo-append-zero, firstNo-append-no, settle-done, settle-refused}
 use Rattle.keys.proofs.Tests.{and-right}
+use Rattle.claims.specs.Question.{Question, firstNo, settle}
+use Rattle.claims.proofs.QuestionLaws.{Numbered, firstNo-zero, firstNo-append-zero, firstNo-append-no, settle-done, settle-refused}
 use Rattle.rule.specs.declared.answer.Met.{Met}
 use Rattle.rule.specs.Call.{roundQuestions, roundBy, met, metWords}
 use Rattle.rule.proofs.CallLaws.{met-done, metWords-done, metWords-refused, roundQuestions-yes, roundYes-rounded}

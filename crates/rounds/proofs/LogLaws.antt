@@ -10,21 +10,21 @@ use borrow.Author.Tests.{lt-ltb, le-ltb, leb-true, leb-false, le-leb, lt-leb}
 use lib.Dec.{leb}
 use lib.ListN.{length, take, drop, getD, set, length-set, length-append, length-map, take-append-drop}
 use lib.Seq.{length-take-le, take-suc, drop-cons, split-at, append-snoc, set-at, drop-append-le, take-length}
-use Rattle.claims.specs.declared.claim.Claim.{Claim}
 use Rattle.keys.specs.declared.store.Store.{Store}
 use Rattle.keys.specs.Store.{limit, inOrder, keysOf, storeOf}
-use Rattle.claims.specs.Question.{firstNo, settle}
 use Rattle.keys.proofs.Order.{inOrder-rising}
 use Rattle.keys.proofs.Tests.{eq-or-ne}
+use Rattle.claims.specs.declared.claim.Claim.{Claim}
+use Rattle.claims.specs.Question.{firstNo, settle}
 use Rattle.rule.specs.declared.delivery.Delivery.{Delivery}
 use Rattle.rule.specs.declared.answer.Met.{Met}
 use Rattle.rule.specs.Round.{union, Line, transcript}
 use Rattle.rule.specs.Call.{writtenOver, deliveryWords, roundQuestions, roundBy, met, metLent, metWords}
-use Rattle.transcript.specs.Core.{recordsIn, claimIn}
-use Rattle.rounds.specs.Log.{noDelivery, deliveryIn, copied, frontRecords, frontWords}
 use Rattle.rule.proofs.CallLaws.{RoundYes, roundQuestions-yes, met-done, met-refused, met-bounded, roundYes-rounded, metLent-done, metLent-refused, metWords-done}
 use Rattle.rule.proofs.Words.{length-deliveryWords}
+use Rattle.transcript.specs.Core.{recordsIn, claimIn}
 use Rattle.transcript.proofs.WordsLaws.{length-over, sender-at, claim-at}
+use Rattle.rounds.specs.Log.{noDelivery, deliveryIn, copied, frontRecords, frontWords}
 use Rattle.rounds.proofs.Narrow.{Narrow, AllNarrow, allNarrow-getD, round-narrow}
 
 -- ---- a record in words

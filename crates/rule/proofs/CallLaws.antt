@@ -9,14 +9,14 @@ use mathlib.Core.Path.{_≡_, sym, _∙_, subst}
 use native.Mathlib.Omega.{arith}
 use borrow.Author.Tests.{ltb-true, leb-true}
 use lib.ListN.{length, take, drop, length-take, take-append-drop}
-use Rattle.claims.specs.declared.claim.Claim.{Claim}
 use Rattle.keys.specs.declared.store.Store.{Store}
 use Rattle.keys.specs.Store.{limit, keysOf, storeOf, inOrder, insertAll}
+use Rattle.keys.proofs.Tests.{eq-or-ne}
+use Rattle.keys.proofs.Order.{inOrder-count, inOrder-rising}
+use Rattle.claims.specs.declared.claim.Claim.{Claim}
 use Rattle.claims.specs.Question.{firstNo, question1, question6, claimQuestions}
 use Rattle.claims.specs.Reply.{ends, hear}
 use Rattle.claims.specs.Call.{judged}
-use Rattle.keys.proofs.Tests.{eq-or-ne}
-use Rattle.keys.proofs.Order.{inOrder-count, inOrder-rising}
 use Rattle.claims.proofs.QuestionLaws.{firstNo-yes, firstNo-zero, firstNo-append-zero, firstNo-append-no, settle-done, settle-refused, passes, claimQuestions-numbered, judged-firstNo}
 use Rattle.claims.proofs.ReplyLaws.{hear-rising, hear-old, hear-new}
 use Rattle.rule.specs.declared.node.Node.{Node}

@@ -6,12 +6,12 @@ use mathlib.Core.Logic.{⊎-elim}
 use mathlib.Core.Path.{_≡_, refl, sym, ap, _∙_, subst}
 use native.Mathlib.Omega.{arith}
 use lib.ListN.{length}
+use Rattle.keys.specs.Store.{limit}
+use Rattle.keys.proofs.Rising.{Rising, Sub, sub-refl, sub-trans, rising-length}
 use Rattle.claims.specs.declared.claim.Claim.{Claim}
 use Rattle.claims.specs.declared.answer.Answer.{Answer}
-use Rattle.keys.specs.Store.{limit}
 use Rattle.claims.specs.Claim.{between}
 use Rattle.claims.specs.Reply.{adding, hear, reply, claimsOf}
-use Rattle.keys.proofs.Rising.{Rising, Sub, sub-refl, sub-trans, rising-length}
 use Rattle.claims.proofs.Between.{inside, between-rising, length-between-within, length-between-two, length-sub-between}
 use Rattle.claims.proofs.Span.{first, last}
 use Rattle.claims.proofs.QuestionLaws.{Passes}

@@ -7,11 +7,11 @@ use mathlib.Core.Logic.{⊎-elim}
 use mathlib.Core.Path.{_≡_, refl, sym, ap, _∙_, subst}
 use native.Mathlib.Omega.{arith}
 use lib.ListN.{length}
-use Rattle.claims.specs.declared.claim.Claim.{Claim}
 use Rattle.keys.specs.Store.{limit}
+use Rattle.keys.proofs.Rising.{Rising, Sub, sub-trans, rising-length}
+use Rattle.claims.specs.declared.claim.Claim.{Claim}
 use Rattle.claims.specs.Claim.{between}
 use Rattle.claims.specs.Reply.{ends}
-use Rattle.keys.proofs.Rising.{Rising, Sub, sub-trans, rising-length}
 use Rattle.claims.proofs.Between.{mem-between, between-rising, between-sub, length-sub-between}
 use Rattle.claims.proofs.Span.{first, last, first-le, le-last, mem-first, mem-last}
 use Rattle.claims.proofs.QuestionLaws.{Passes}

@@ -7,8 +7,8 @@ use mathlib.Core.Path.{_≡_, refl, sym, ap, _∙_, subst}
 use native.Mathlib.Omega.{arith}
 use lib.ListN.{length, length-append}
 use Rattle.keys.specs.Store.{limit}
-use Rattle.claims.specs.Claim.{wholeClaim, between}
 use Rattle.keys.proofs.Rising.{Rising, Sub, sub-refl, rising-length}
+use Rattle.claims.specs.Claim.{wholeClaim, between}
 use Rattle.claims.proofs.Between.{length-between}
 use Rattle.claims.proofs.Span.{first, last, between-first-last}
 use Rattle.claims.proofs.QuestionLaws.{Passes}

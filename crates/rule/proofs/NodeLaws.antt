@@ -10,15 +10,15 @@ use borrow.Author.Tests.{leb-true, le-leb, eqb-true, eq-eqb}
 use lib.Dec.{leb, eqb}
 use lib.ListN.{length, drop, length-drop, length-replicate, take-append-drop, length-map}
 use lib.Seq.{length-take-le, take-append-seam, drop-append-seam}
-use Rattle.claims.specs.declared.claim.Claim.{Claim}
 use Rattle.keys.specs.declared.store.Store.{Store}
 use Rattle.keys.specs.Store.{limit, storeOf, inOrder, holds}
-use Rattle.claims.specs.Reply.{ends, same}
-use Rattle.claims.specs.Call.{judged}
-use Rattle.claims.specs.Claim.{noClaim}
 use Rattle.keys.proofs.Tests.{and-left, and-right, and-both}
 use Rattle.keys.proofs.Rising.{Rising, Sub, sub-trans, holds-mem, mem-holds}
 use Rattle.keys.proofs.Order.{keysOf-storeOf, storeOf-keysOf, inOrder-storeOf, emptyStore-storeOf}
+use Rattle.claims.specs.declared.claim.Claim.{Claim}
+use Rattle.claims.specs.Reply.{ends, same}
+use Rattle.claims.specs.Call.{judged}
+use Rattle.claims.specs.Claim.{noClaim}
 use Rattle.claims.proofs.ClaimLaws.{same-claim}
 use Rattle.rule.specs.declared.node.Node.{Node}
 use Rattle.rule.specs.Table.{tableLimit, climbs}

@@ -5,9 +5,9 @@ use mathlib.Core.List.{List}
 use mathlib.Core.Path.{_≡_, refl, ap, _∙_}
 use native.Mathlib.Omega.{arith}
 use lib.ListN.{length}
-use Rattle.claims.specs.Reply.{adding, hear}
 use Rattle.keys.proofs.Rising.{Rising, Sub, sub-refl, sub-trans}
 use Rattle.keys.proofs.Insert.{insertAll-rising, mem-insertAll-old, insertAll-sub, length-insertAll-ge, insertAll-same}
+use Rattle.claims.specs.Reply.{adding, hear}
 use Rattle.rule.specs.Round.{union, End, leftEnd, rightEnd, other, Pair, pair, keysAt, holding, Entry, receiver, keysBefore, delivered}
 use Rattle.rule.proofs.Union.{union-rising, union-left, union-right, union-grown}
 

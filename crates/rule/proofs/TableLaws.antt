@@ -9,12 +9,12 @@ use mathlib.Core.Path.{_≡_, refl, sym, _∙_}
 use native.Mathlib.Omega.{arith}
 use borrow.Author.Tests.{lt-ltb, le-ltb, eq-eqb, ne-eqb}
 use lib.ListN.{length, take, drop, length-append, length-take, take-append-drop}
+use Rattle.keys.proofs.Tests.{and-left, and-right, and-both, Order, less, equal, greater, order}
 use Rattle.claims.specs.declared.claim.Claim.{Claim}
 use Rattle.claims.specs.declared.answer.Answer.{Answer}
 use Rattle.claims.specs.declared.answer.Answer.the-variants.{Refused, Match, Ask, One, Two}
 use Rattle.claims.specs.Claim.{wholeClaim}
 use Rattle.claims.specs.Reply.{same, reply, claimsOf}
-use Rattle.keys.proofs.Tests.{and-left, and-right, and-both, Order, less, equal, greater, order}
 use Rattle.claims.proofs.ClaimLaws.{claim-ext, claim-same}
 use Rattle.rule.specs.Table.{tableLimit, ranking, wordsBefore, before, climbsFrom, climbs, insertClaim, tableWith, remains, serve, sending, beatLimit}
 

@@ -6,10 +6,10 @@ use mathlib.Core.Logic.{⊎-elim}
 use mathlib.Core.Path.{_≡_, refl, sym, ap, _∙_}
 use native.Mathlib.Omega.{arith}
 use lib.ListN.{length, drop, length-append, length-drop}
-use Rattle.claims.specs.declared.claim.Claim.{Claim}
 use Rattle.keys.specs.declared.store.Store.{Store}
-use Rattle.claims.specs.Question.{firstNo}
 use Rattle.keys.proofs.Tests.{eq-or-ne}
+use Rattle.claims.specs.declared.claim.Claim.{Claim}
+use Rattle.claims.specs.Question.{firstNo}
 use Rattle.rule.specs.declared.delivery.Delivery.{Delivery}
 use Rattle.rule.specs.Round.{transcript}
 use Rattle.rule.specs.Call.{writtenOver, claimWords, roundQuestions, roundBy, metLent, deliveryWords, metWords}

@@ -4,9 +4,9 @@
 use Prim.Native.Nat.{ℕ, _/_}
 use mathlib.Core.List.{List, [], _∷_, _++_}
 use lib.ListN.{length, drop}
-use Rattle.claims.specs.declared.claim.Claim.{Claim}
 use Rattle.keys.specs.declared.store.Store.{Store}
 use Rattle.keys.specs.Store.{keysOf, storeOf}
+use Rattle.claims.specs.declared.claim.Claim.{Claim}
 use Rattle.claims.specs.Question.{Question, firstNo, settle, question1, question6, claimQuestions}
 use Rattle.claims.specs.Reply.{ends, hear}
 use Rattle.rule.specs.declared.node.Node.{Node}

@@ -5,8 +5,8 @@ use Prim.Native.Nat.{ℕ, zero, suc}
 use mathlib.Core.Bool.{Bool, false, _||_}
 use mathlib.Core.List.{List, [], _∷_, _++_, map}
 use lib.ListN.{length}
-use Rattle.claims.specs.declared.claim.Claim.{Claim}
 use Rattle.keys.specs.Store.{insertAll}
+use Rattle.claims.specs.declared.claim.Claim.{Claim}
 use Rattle.claims.specs.Claim.{wholeClaim, between}
 use Rattle.claims.specs.Reply.{hear, reply, claimsOf, falseMatch}
 use Rattle.rule.specs.declared.delivery.Delivery.{Delivery}

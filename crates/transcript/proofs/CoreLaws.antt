@@ -7,24 +7,24 @@ use mathlib.Core.Path.{_≡_, refl, sym, ap, ap₂, _∙_, subst}
 use native.Mathlib.Omega.{arith}
 use borrow.Author.Tests.{eq-eqb, ne-eqb, lt-ltb, le-leb}
 use lib.ListN.{length, getD, length-append, length-map}
-use Rattle.claims.specs.declared.claim.Claim.{Claim}
 use Rattle.keys.specs.Store.{limit, storeOf}
+use Rattle.keys.proofs.Rising.{Rising, rising-length}
+use Rattle.claims.specs.declared.claim.Claim.{Claim}
 use Rattle.claims.specs.Claim.{claimOf, wholeClaim}
 use Rattle.claims.specs.Reply.{hear, reply, claimsOf}
 use Rattle.claims.specs.Lent.{makeIn, keysHearing, replyIn}
-use Rattle.keys.proofs.Rising.{Rising, rising-length}
 use Rattle.claims.proofs.QuestionLaws.{Passes}
 use Rattle.claims.proofs.ReplyLaws.{hear-rising, hear-sub}
 use Rattle.claims.proofs.LentLaws.{keysHearing-fits, replyIn-fits, makeIn-store}
 use Rattle.rule.specs.declared.delivery.Delivery.{Delivery}
 use Rattle.rule.specs.Round.{End, leftEnd, rightEnd, senderNumber, Pair, pair, Entry, waits, receiver, keysBefore, delivered, answers, Line, Run, run, half, roundOf, transcript, union}
 use Rattle.rule.specs.Call.{deliveryWords, writtenOver}
-use Rattle.transcript.specs.Core.{recordsIn, claimIn, putRecords, nextAfter, Core, step, steps, finish, wholeWords, wholeNext, opened, reopened, both}
 use Rattle.rule.proofs.Pair.{Rises, unionOf, rises-pair}
 use Rattle.rule.proofs.Entry.{Sound, weights, sound-limit, length-waits}
 use Rattle.rule.proofs.Deliver.{adding-within}
 use Rattle.rule.proofs.Half.{Fine, fine-step, weights-step, fine-length, run-nil, run-cons, run-more, opening, halfway-opening, half-run, half-fine, half-union, length-half}
 use Rattle.rule.proofs.Union.{length-left-union, length-right-union}
+use Rattle.transcript.specs.Core.{recordsIn, claimIn, putRecords, nextAfter, Core, step, steps, finish, wholeWords, wholeNext, opened, reopened, both}
 use Rattle.transcript.proofs.Steps.{steps-on, steps-off}
 use Rattle.transcript.proofs.WordsLaws.{delivery, length-over, sender-at, claim-at, putRecords-append}
 

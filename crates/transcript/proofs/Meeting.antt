@@ -5,15 +5,15 @@ use mathlib.Core.Path.{_≡_, sym, ap, ap₂, _∙_, subst}
 use lib.ListN.{length, length-map}
 use Rattle.keys.specs.declared.store.Store.{Store}
 use Rattle.keys.specs.Store.{limit, keysOf, storeOf}
-use Rattle.claims.specs.Question.{firstNo}
 use Rattle.keys.proofs.Order.{inOrder-rising, length-keysOf, storeOf-keysOf, count-storeOf}
 use Rattle.keys.proofs.LentLaws.{orderedIn-inOrder}
+use Rattle.claims.specs.Question.{firstNo}
 use Rattle.rule.specs.declared.delivery.Delivery.{Delivery}
-use Rattle.transcript.specs.declared.flat.Reached.{Reached}
 use Rattle.rule.specs.Round.{Line, transcript}
 use Rattle.rule.specs.Call.{roundQuestions, roundBy, met, metWords, deliveryWords, writtenOver}
-use Rattle.transcript.specs.Core.{asked, Core, both, Stepped}
 use Rattle.rule.proofs.CallLaws.{RoundYes, roundQuestions-yes, met-done, met-refused, metWords-done, metWords-refused}
+use Rattle.transcript.specs.declared.flat.Reached.{Reached}
+use Rattle.transcript.specs.Core.{asked, Core, both, Stepped}
 use Rattle.transcript.proofs.CoreLaws.{Laid, laid-both}
 
 -- a store by its parts

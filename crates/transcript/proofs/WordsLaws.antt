@@ -7,13 +7,13 @@ use native.Mathlib.Omega.{arith}
 use borrow.Author.Tests.{lt-ltb}
 use lib.ListN.{length, take, drop, getD, length-append}
 use lib.Seq.{sets-eq, getD-append-add, take-append-seam, drop-append-add, drop-drop}
-use Rattle.claims.specs.declared.claim.Claim.{Claim}
 use Rattle.keys.specs.Store.{limit}
+use Rattle.claims.specs.declared.claim.Claim.{Claim}
 use Rattle.claims.proofs.ClaimLaws.{claim-ext}
 use Rattle.rule.specs.declared.delivery.Delivery.{Delivery}
 use Rattle.rule.specs.Call.{deliveryWords, writtenOver}
-use Rattle.transcript.specs.Core.{recordWords, recordsIn, claimIn, putRecord, next, putRecords, nextAfter}
 use Rattle.rule.proofs.Words.{length-deliveryWords, deliveryWords-append, length-writtenOver}
+use Rattle.transcript.specs.Core.{recordWords, recordsIn, claimIn, putRecord, next, putRecords, nextAfter}
 use Rattle.transcript.proofs.Records.{claimIn-some, next-some, next-length}
 
 -- the record of a claim from one end

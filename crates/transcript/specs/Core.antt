@@ -9,15 +9,15 @@ use mathlib.Core.List.{List, [], _∷_}
 use lib.Dec.{ltb, eqb}
 use lib.ListN.{length, take, getD}
 use lib.Seq.{sets}
+use Rattle.keys.specs.Lent.{orderedIn}
 use Rattle.claims.specs.declared.claim.Claim.{Claim}
 use Rattle.claims.specs.declared.lent.Told.{Told}
 use Rattle.claims.specs.Claim.{noClaim}
 use Rattle.claims.specs.Reply.{claimsOf}
-use Rattle.keys.specs.Lent.{orderedIn}
 use Rattle.claims.specs.Lent.{makeIn, keysHearing, replyIn}
 use Rattle.claims.specs.Question.{question, firstNo}
-use Rattle.transcript.specs.declared.flat.Reached.{Reached}
 use Rattle.rule.specs.Question.{question8, question9}
+use Rattle.transcript.specs.declared.flat.Reached.{Reached}
 
 -- ---- records in words, five to a record
 

@@ -9,9 +9,9 @@ use borrow.Author.Tests.{le-leb, eqb-true, eq-eqb}
 use lib.Dec.{leb, eqb}
 use lib.ListN.{length, take, drop, getD}
 use lib.Seq.{take-all, take-at, length-take-le}
+use Rattle.keys.proofs.Tests.{and-left, and-right}
 use Rattle.claims.specs.declared.claim.Claim.{Claim}
 use Rattle.claims.specs.Question.{firstNo}
-use Rattle.keys.proofs.Tests.{and-left, and-right}
 use Rattle.rule.specs.Call.{writtenOver}
 use Rattle.wire.specs.Number.{byte, Below}
 use Rattle.wire.specs.Claim.{claimSize, ClaimFits}

@@ -10,23 +10,23 @@ use borrow.Author.Tests.{le-leb, lt-leb, leb-true, eqb-true, eq-eqb, ne-eqb}
 use lib.Dec.{leb, eqb, lit<}
 use lib.ListN.{length, take, drop, getD, set, drop-of-length-le}
 use lib.Seq.{drop-cons, take-at, length-take-le}
+use Rattle.keys.proofs.Tests.{and-left, and-right}
 use Rattle.claims.specs.declared.claim.Claim.{Claim}
 use Rattle.claims.specs.Claim.{noClaim}
 use Rattle.claims.specs.Call.{judged}
 use Rattle.claims.specs.Question.{firstNo}
+use Rattle.claims.proofs.QuestionLaws.{firstNo-zero, firstNo-append-no, settle-done, settle-refused}
+use Rattle.rule.specs.Node.{blanks}
+use Rattle.rule.specs.Question.{question15}
+use Rattle.rule.specs.Call.{writtenOver}
 use Rattle.wire.specs.Claim.{claimSize}
 use Rattle.wire.specs.Run.{claim, writeRun}
 use Rattle.wire.specs.Frame.{frameLimit, headSize, versionPlace, version, frameLength, frameMost, frameCount, begins, mark, marked, countable, sized, headQuestions, allPass, fourOf, frameClaims, noFrame, question10, question11, question12, question13, readFrameQuestions, readFrame, headBytes, countPlace, question12n, writeFrameQuestions, writeFrame, frameLent, frameBytes}
 use Rattle.wire.specs.Place.{putAt}
-use Rattle.rule.specs.Node.{blanks}
-use Rattle.rule.specs.Question.{question15}
-use Rattle.rule.specs.Call.{writtenOver}
 use Rattle.wire.specs.declared.answer.Framed.{Framed}
 use Rattle.wire.specs.declared.answer.Length.{Length}
 use Rattle.wire.specs.Length.{noLength}
 use Rattle.wire.proofs.Places.{putAt-append, putAt-zero, writtenOver-replicate}
-use Rattle.keys.proofs.Tests.{and-left, and-right}
-use Rattle.claims.proofs.QuestionLaws.{firstNo-zero, firstNo-append-no, settle-done, settle-refused}
 use Rattle.wire.proofs.Questions.{settle-number, firstNo-front}
 
 -- the sizes that document 01 names

@@ -9,12 +9,12 @@ use borrow.Author.Tests.{le-leb, lt-leb, leb-true, eqb-true, eq-eqb, ne-eqb}
 use lib.Dec.{leb, eqb, lit<}
 use lib.ListN.{length, drop, replicate, length-append}
 use lib.Seq.{drop-drop, length-take-le}
-use Rattle.claims.specs.declared.claim.Claim.{Claim}
-use Rattle.claims.specs.Claim.{noClaim}
 use Rattle.keys.specs.Store.{limit, zeros, storeOf, emptyStore}
-use Rattle.claims.specs.Question.{firstNo}
 use Rattle.keys.proofs.Order.{inOrder-count}
 use Rattle.keys.proofs.Tests.{and-left, and-right}
+use Rattle.claims.specs.declared.claim.Claim.{Claim}
+use Rattle.claims.specs.Claim.{noClaim}
+use Rattle.claims.specs.Question.{firstNo}
 use Rattle.claims.proofs.QuestionLaws.{firstNo-zero}
 use Rattle.rule.specs.Table.{tableLimit}
 use Rattle.rule.specs.declared.node.Node.{Node}

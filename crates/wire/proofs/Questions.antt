@@ -3,8 +3,8 @@ use Prim.Native.Nat.{ℕ}
 use mathlib.Core.List.{List, _++_}
 use mathlib.Core.Logic.{_⊎_, inl, inr}
 use mathlib.Core.Path.{_≡_, ap, sym, _∙_}
-use Rattle.claims.specs.Question.{Question, firstNo, settle}
 use Rattle.keys.proofs.Tests.{eq-or-ne}
+use Rattle.claims.specs.Question.{Question, firstNo, settle}
 use Rattle.claims.proofs.QuestionLaws.{firstNo-append-no, settle-done, settle-refused}
 
 -- the number that a call returns is that of the first question answered no

@@ -8,8 +8,8 @@ use lib.IntN.{pos}
 use lib.ListN.{length}
 use Rattle.keys.specs.Store.{zeros}
 use Rattle.rule.specs.declared.node.Node.{Node}
-use Rattle.nodes.specs.Lent.{nodeWith}
 use Rattle.rule.specs.Call.{writtenOver}
+use Rattle.nodes.specs.Lent.{nodeWith}
 use Rattle.wire.specs.Image.{imageLimit, nodeBytes, readImage}
 use Rattle.host.specs.Call.{nodeIn, nodeServed, framesSent}
 use Rattle.host.proofs.Signs.{returned, fits-minus, fits-pos}

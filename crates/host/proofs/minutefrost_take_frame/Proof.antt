@@ -11,8 +11,8 @@ use Rattle.keys.specs.Store.{limit, zeros}
 use Rattle.rule.specs.declared.node.Node.{Node}
 use Rattle.rule.specs.Table.{tableLimit}
 use Rattle.rule.specs.Node.{nodeInOrder}
-use Rattle.nodes.specs.Lent.{nodeWith}
 use Rattle.rule.proofs.NodeLaws.{length-mapped}
+use Rattle.nodes.specs.Lent.{nodeWith}
 use Rattle.wire.specs.declared.answer.Length.{Length}
 use Rattle.wire.specs.Image.{imageLimit, nodeBytes, Shaped}
 use Rattle.host.proofs.Signs.{returned, fits-minus, fits-pos}

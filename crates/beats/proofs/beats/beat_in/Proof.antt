@@ -5,8 +5,8 @@ use mathlib.Core.Path.{_≡_}
 use lib.ListN.{length}
 use Rattle.rule.specs.declared.node.Node.{Node}
 use Rattle.rule.specs.Table.{tableLimit}
-use Rattle.nodes.specs.Lent.{nodeWith}
 use Rattle.rule.proofs.NodeLaws.{length-mapped}
+use Rattle.nodes.specs.Lent.{nodeWith}
 use Rattle.beats.proofs.Beating.{beatIn-many, beatIn-short, beatIn-room, beatIn-done}
 use Rattle.beats.proofs.beats.beat_in.Statement.{statement}
 use Rattle.beats.proofs.beats.beat_in.Tie as tie

@@ -8,9 +8,9 @@ use lib.ListN.{length, replicate, length-replicate}
 use Rattle.rule.specs.Table.{beatLimit}
 use Rattle.rule.specs.Call.{writtenOver}
 use Rattle.rule.specs.declared.node.Node.{Node}
-use Rattle.wire.specs.Image.{nodeBytes, Shaped}
-use Rattle.nodes.specs.Lent.{nodeWith}
 use Rattle.rule.proofs.NodeLaws.{length-mapped}
+use Rattle.nodes.specs.Lent.{nodeWith}
+use Rattle.wire.specs.Image.{nodeBytes, Shaped}
 use Rattle.host.specs.Call.{nodeServed}
 use Rattle.host.specs.Frames.{framesBytes}
 use Rattle.host.proofs.Beats.{nodeServed-ordered, length-framesSent, beat-node, beat-read, beat-room, beat-pass}

@@ -13,9 +13,9 @@ use Rattle.rule.specs.declared.node.Node.{Node}
 use Rattle.rule.specs.declared.answer.Rest.{Rest}
 use Rattle.rule.specs.Table.{tableLimit}
 use Rattle.rule.specs.Node.{nodeInOrder}
+use Rattle.rule.proofs.NodeLaws.{length-mapped}
 use Rattle.nodes.specs.Lent.{nodeWith, takenWith, takenNext}
 use Rattle.wire.specs.Image.{Shaped}
-use Rattle.rule.proofs.NodeLaws.{length-mapped}
 use Rattle.host.specs.Taking.{takenUntil}
 use Rattle.host.proofs.Turns.{turn-refused, turn-done, turn-ordered, turn-long, takenUntil-end}
 use Rattle.host.proofs.turn.take_in_turn.Statement.{statement}

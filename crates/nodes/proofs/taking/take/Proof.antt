@@ -7,8 +7,7 @@ use lib.ListN.{length}
 use Rattle.keys.specs.Store.{limit}
 use Rattle.rule.specs.Table.{tableLimit}
 use Rattle.rule.specs.Node.{nodeInOrder}
-use Rattle.rule.proofs.NodeLaws.{nodeInOrder-ordered}
-use Rattle.rule.proofs.NodeLaws.{length-mapped}
+use Rattle.rule.proofs.NodeLaws.{length-mapped, nodeInOrder-ordered}
 use Rattle.nodes.proofs.TakeLaws.{taken-1, taken-judged, takenNext-taken}
 use Rattle.nodes.proofs.taking.take.Statement.{statement}
 use Rattle.nodes.proofs.taking.take.Tie as tie

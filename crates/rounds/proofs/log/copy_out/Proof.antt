@@ -51,11 +51,11 @@ use denote.Triple.Walked.{says, needs, Stays, stay-slice, stay-none-slice, stay-
 use denote.Exit.{yes}
 use denote.Signature.{plain}
 use Rattle.rule.specs.declared.delivery.Delivery.{Delivery}
+use Rattle.rule.proofs.delivery.Delivery as D
+use Rattle.rule.proofs.delivery.Delivery.Laws as D′
 use Rattle.rounds.specs.Log.{deliveryIn, copied}
 use Rattle.rounds.proofs.LogLaws.{length-copied}
 use Rattle.rounds.proofs.LogWalk.{word, records, place-fits}
-use Rattle.rule.proofs.delivery.Delivery as D
-use Rattle.rule.proofs.delivery.Delivery.Laws as D′
 use Rattle.rounds.proofs.log.delivery_in as delivery-in
 use Rattle.rounds.proofs.log.delivery_in.Symbol as delivery-in-def
 use Rattle.rounds.proofs.log.delivery_in.Symbol.{name as #delivery-in}

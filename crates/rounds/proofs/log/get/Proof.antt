@@ -42,13 +42,13 @@ use denote.Triple.Walked.{says, Stays, stay-none-slice, stay-none, walkOf, goes-
 use denote.Exit.{yes}
 use denote.Signature.{plain}
 use Rattle.claims.specs.Claim.{noClaim}
-use Rattle.rounds.specs.Log.{noDelivery}
 use Rattle.claims.proofs.claim.Claim as K
 use Rattle.claims.proofs.claim.Claim.Laws as K′
 use Rattle.rule.specs.declared.delivery.Delivery.{Delivery}
-use Rattle.rounds.proofs.LogWalk.{word, records, place-fits}
 use Rattle.rule.proofs.delivery.Delivery as D
 use Rattle.rule.proofs.delivery.Delivery.Laws as D′
+use Rattle.rounds.specs.Log.{noDelivery}
+use Rattle.rounds.proofs.LogWalk.{word, records, place-fits}
 use Rattle.rounds.proofs.log.get.Key.{name as #get}
 use Rattle.rounds.proofs.log.get as get
 use Rattle.rounds.proofs.log.get.Statement as stated

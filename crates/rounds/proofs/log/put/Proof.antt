@@ -42,9 +42,9 @@ use denote.Triple.Walked.{says, Stays, stay-slice, stay-none, walkOf, goes-slice
 use denote.Exit.{yes}
 use denote.Signature.{plain}
 use Rattle.rule.specs.declared.delivery.Delivery.{Delivery}
-use Rattle.rounds.proofs.LogWalk.{word, records, place-fits}
 use Rattle.rule.proofs.delivery.Delivery as D
 use Rattle.rule.proofs.delivery.Delivery.Laws as D′
+use Rattle.rounds.proofs.LogWalk.{word, records, place-fits}
 use Rattle.rounds.proofs.log.put.Key.{name as #put}
 use Rattle.rounds.proofs.log.put as put
 use Rattle.rounds.proofs.log.put.Statement as stated

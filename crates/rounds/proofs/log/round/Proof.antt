@@ -54,15 +54,15 @@ use Rattle.keys.proofs.store.Store.Laws as S′
 use Rattle.rule.specs.declared.delivery.Delivery.{Delivery}
 use Rattle.rule.specs.declared.answer.Met.{Met}
 use Rattle.rule.specs.Call.{met, metLent}
+use Rattle.rule.proofs.delivery.Delivery as D
+use Rattle.rule.proofs.delivery.Delivery.Laws as D′
+use Rattle.rule.proofs.answer.Met as R
+use Rattle.rule.proofs.answer.Met.Laws as R′
 use Rattle.transcript.specs.Core.{recordsIn}
 use Rattle.rounds.specs.Log.{copied, frontRecords, frontWords}
 use Rattle.rounds.proofs.LogLaws.{met-front, met-lent, met-short}
 use Rattle.rounds.proofs.LogWalk.{word, records}
 use Rattle.rounds.proofs.ArrayLent.{array-cells, array-room, zeros-are, big-lit}
-use Rattle.rule.proofs.delivery.Delivery as D
-use Rattle.rule.proofs.delivery.Delivery.Laws as D′
-use Rattle.rule.proofs.answer.Met as R
-use Rattle.rule.proofs.answer.Met.Laws as R′
 use Rattle.rounds.proofs.log.round_front as round-front
 use Rattle.rounds.proofs.log.round_front.Symbol as round-front-def
 use Rattle.rounds.proofs.log.round_front.Symbol.{name as #round-front}

@@ -5,11 +5,11 @@ use mathlib.Core.Path.{_≡_}
 use mathlib.Core.Path.{_∙_}
 use borrow.Author.Needs.{needs}
 use lib.ListN.{drop}
-use Rattle.wire.specs.Frame.{headSize, frameLimit}
-use Rattle.wire.specs.Run.{claim, readRun}
 use Rattle.rule.specs.Node.{blanks}
 use Rattle.rule.specs.Call.{writtenOver}
 use Rattle.rule.proofs.NodeLaws.{length-blanks}
+use Rattle.wire.specs.Frame.{headSize, frameLimit}
+use Rattle.wire.specs.Run.{claim, readRun}
 use Rattle.wire.proofs.Runs.{set-readRun}
 use Rattle.wire.proofs.Frames.{blanks-four, writtenOver-four}
 use Rattle.wire.proofs.frame.four.Statement.{statement}

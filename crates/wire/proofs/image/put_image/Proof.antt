@@ -1,8 +1,8 @@
 -- `image::put_image` meets its contract: four blocks, each right after the one before, are the image. Assumes nothing.
 use borrow.Author.Needs.{needs}
 use Rattle.rule.specs.declared.node.Node.{Node}
-use Rattle.nodes.specs.Lent.{nodeWith}
 use Rattle.rule.proofs.NodeLaws.{length-mapped}
+use Rattle.nodes.specs.Lent.{nodeWith}
 use Rattle.wire.specs.Image.{Shaped}
 use Rattle.wire.proofs.Images.{nodeBytes-put}
 use Rattle.wire.proofs.image.put_image.Statement.{statement}

@@ -9,8 +9,8 @@ use lib.ListN.{length}
 use Rattle.keys.specs.Store.{limit}
 use Rattle.rule.specs.declared.node.Node.{Node}
 use Rattle.rule.specs.Table.{tableLimit}
-use Rattle.nodes.specs.Lent.{nodeWith}
 use Rattle.rule.proofs.NodeLaws.{length-mapped}
+use Rattle.nodes.specs.Lent.{nodeWith}
 use Rattle.wire.specs.Claim.{keyWidth, countWidth, claimSize}
 use Rattle.wire.specs.Image.{nodeBytes}
 use Rattle.wire.specs.Lent.{withinLimits}
