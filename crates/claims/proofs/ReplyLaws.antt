@@ -13,7 +13,7 @@ use lib.Dec.{ltb, eqb}
 use lib.ListN.{length, getD}
 use Rattle.keys.specs.Store.{position}
 use Rattle.keys.proofs.Tests.{and-left, and-right, and-both, Order, less, equal, greater, order}
-use Rattle.keys.proofs.Rising.{Rising, Sub, mem-length, rising-getD}
+use Rattle.keys.proofs.Rising.{Rising, Sub, mem-length, rising-getD, rising-length}
 use Rattle.keys.proofs.Insert.{mem-insertAll-old, mem-insertAll-new, insertAll-mem, insertAll-sub}
 use Rattle.keys.proofs.Insert.{insertAll-rising, insertAll-held, insertAll-same, length-insertAll-ge}
 use Rattle.keys.proofs.Position.{getD-position, position-mono}
@@ -23,7 +23,7 @@ use Rattle.claims.specs.declared.answer.Answer.the-variants.{Refused, Ma
 use Rattle.claims.specs.Claim.{span, xorAll, claimOf, between}
 use Rattle.claims.specs.Reply.{adding, hear, own, same, half, help, answer, reply, numberOf, claimsOf, matches, sameKeys, falseMatch}
 use Rattle.claims.proofs.Xor.{xorAll-one, xorAll-two}
-use Rattle.claims.proofs.Between.{inside, mem-between, between-one, between-inside, length-between-inside}
+use Rattle.claims.proofs.Between.{inside, mem-between, between-one, between-inside, length-between-inside, between-rising, between-sub}
 use Rattle.claims.proofs.Span.{first, last, first-between, last-between, first-span, last-span, length-span, span-join, between-span, span-inside}
 use Rattle.claims.proofs.QuestionLaws.{Passes}
 use Rattle.claims.proofs.ClaimLaws.{spanClaim, claim-ext, same-claim, claim-same, claimOf-span, claimOf-between, rangeClaim, spanClaim-range}
@@ -239,6 +239,14 @@ pub record Spanned (l : List ℕ) (d : Claim) : Type 0 where
   pub claim : d ≡ spanClaim keys
   pub some : 0 < length keys
   pub whole : keys ≡ between (first keys) (last keys) l
+
+-- the keys that a claim spans rise and are held, so there are no more than the store has
+pub spanned-keys : (l : List ℕ) (d : Claim) → Rising l → (t : Spanned l d) → Rising (t .keys) × Sub (t .keys) l × (length (t .keys) ≤ length l)
+spanned-keys l d r t =
+    let e : between (first (t .keys)) (last (t .keys)) l ≡ t .keys = sym (t .whole) in
+    let rk : Rising (t .keys) = subst Rising e (between-rising (first (t .keys)) (last (t .keys)) l r) in
+    let sk : Sub (t .keys) l = subst (λ (k : List ℕ). Sub k l) e (between-sub (first (t .keys)) (last (t .keys)) l) in
+    (rk, sk, rising-length (t .keys) l rk r sk)
 
 pub between-spanned : (lo hi : ℕ) (l : List ℕ) → Rising l → lo ≤ hi → List·Memᴰ lo l → List·Memᴰ hi l → Spanned l (spanClaim (between lo hi l))
 between-spanned lo hi l r h m n =

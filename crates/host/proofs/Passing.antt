@@ -10,15 +10,13 @@ use lib.Dec.{eqb}
 use lib.ListN.{length}
 use Rattle.keys.specs.Store.{limit}
 use Rattle.keys.proofs.Tests.{and-both}
-use Rattle.keys.proofs.Rising.{Rising, Sub, rising-length}
+use Rattle.keys.proofs.Rising.{Rising}
 use Rattle.claims.specs.declared.claim.Claim.{Claim}
-use Rattle.claims.specs.Claim.{wholeClaim, between}
+use Rattle.claims.specs.Claim.{wholeClaim}
 use Rattle.claims.specs.Call.{judged}
-use Rattle.claims.proofs.Between.{between-rising, between-sub}
-use Rattle.claims.proofs.Span.{first, last}
 use Rattle.claims.proofs.QuestionLaws.{Passes, passes, passes-firstNo, judged-firstNo}
 use Rattle.claims.proofs.ClaimLaws.{spanClaim-passes, claimOf-passes}
-use Rattle.claims.proofs.ReplyLaws.{hear-held, Spanned, reply-spanned}
+use Rattle.claims.proofs.ReplyLaws.{spanned-keys, hear-held, Spanned, reply-spanned}
 use Rattle.rule.specs.Table.{serve, sending}
 use Rattle.rule.proofs.TableLaws.{sent-mem}
 use Rattle.rule.proofs.NodeLaws.{Fits}
@@ -33,10 +31,7 @@ allPass-mem (c ∷ cs) f =
 module _ (l : List ℕ) (rise : Rising l) (short : length l ≤ limit) where
   spanned-passes : (c : Claim) → Spanned l c → Passes c
   spanned-passes c t =
-      let e : between (first (t .keys)) (last (t .keys)) l ≡ t .keys = sym (t .whole) in
-      let r : Rising (t .keys) = subst Rising e (between-rising (first (t .keys)) (last (t .keys)) l rise) in
-      let s : Sub (t .keys) l = subst (λ (k : List ℕ). Sub k l) e (between-sub (first (t .keys)) (last (t .keys)) l) in
-      let n : length (t .keys) ≤ length l = rising-length (t .keys) l r rise s in
+      let (r, s, n) = spanned-keys l c rise t in
       subst Passes (sym (t .claim)) (spanClaim-passes (t .keys) r (t .some) (omega arith))
 
   wholeClaim-passes : (c : Claim) → List·Memᴰ c (wholeClaim l) → Passes c

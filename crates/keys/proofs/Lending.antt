@@ -11,7 +11,7 @@ use lib.ListN.{length, take, drop, getD, length-drop}
 use lib.Seq.{take-all}
 use Rattle.keys.specs.declared.lent.Place.{Place}
 use Rattle.keys.specs.Store.{limit, rising, allZero}
-use Rattle.keys.specs.Lent.{orderedIn, quartered, placeIn, putAt, putIn}
+use Rattle.keys.specs.Lent.{orderedIn, quartered, placeIn, insertedAt, putIn}
 use Rattle.keys.proofs.Quartering.{quartered-lt}
 
 -- `ordered_in`
@@ -69,5 +69,5 @@ module _ (p : Place) (count key : ℕ) (keys : List ℕ) where
   pub putIn-held : p .held ≡ true → keys ≡ putIn p count key keys
   putIn-held e = rw e
 
-  pub putIn-missing : p .held ≡ false → putAt (p .at) count key keys ≡ putIn p count key keys
+  pub putIn-missing : p .held ≡ false → insertedAt (p .at) count key keys ≡ putIn p count key keys
   putIn-missing e = rw e

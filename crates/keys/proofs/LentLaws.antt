@@ -7,16 +7,16 @@ use mathlib.Core.Logic.{⊎-elim}
 use mathlib.Core.List.{List, _∷_, _++_, append-assoc, List·Memᴰ}
 use Prim.Native.Nat.{ℕ, suc, _+_, _-_, _≤_, _<_}
 use native.Mathlib.Omega.{arith}
-use borrow.Author.Tests.{le-leb, lt-leb, eq-eqb, ne-eqb}
+use borrow.Author.Tests.{le-leb, lt-leb, leb-true, eq-eqb, ne-eqb}
 use lib.Dec.{leb, eqb}
-use lib.ListN.{length, take, drop, length-drop}
+use lib.ListN.{length, take, drop, length-take, length-drop}
 use lib.Seq.{take-append-le, drop-append-le, take-at, drop-append-add}
 use Rattle.keys.specs.declared.lent.Added.{Added}
 use Rattle.keys.specs.declared.lent.Place.{Place}
 use Rattle.keys.specs.declared.store.Store.{Store}
 use Rattle.keys.specs.Store.{limit, zeros, keysOf, storeOf, rising, allZero, inOrder, position, holds, insert}
-use Rattle.keys.specs.Lent.{orderedIn, placeIn, putAt, lacking, putIn, room, addedAt, noRoom, addOne, keysOne, raised, addTwo, keysTwo, addIn, keysAdding, addBoth, keysBoth}
-use Rattle.keys.proofs.Tests.{eq-or-ne}
+use Rattle.keys.specs.Lent.{orderedIn, placeIn, insertedAt, lacking, putIn, room, addedAt, noRoom, addOne, keysOne, raised, addTwo, keysTwo, addIn, keysAdding, addBoth, keysBoth}
+use Rattle.keys.proofs.Tests.{eq-or-ne, and-left, and-right}
 use Rattle.keys.proofs.Rising.{Rising, holds-mem, holds-absent, mem-holds, absent-holds, mem-or-absent}
 use Rattle.keys.proofs.Insert.{insert-rising, insert-held, mem-insert-new, length-insert-missing, length-insert-held, length-insert-ge, insert-mem, mem-insert-old}
 use Rattle.keys.proofs.Position.{position-le, insert-position, position-insert-le, position-insert-self, position-insert-missing, position-insert-held}
@@ -37,6 +37,25 @@ orderedIn-inOrder s e = rw e (go (leb (s .count) limit))
     go true = refl
     go false = refl
 
+-- what a run that passes it gives
+module _ (keys : List ℕ) (count : ℕ) (yes : orderedIn keys count ≡ true) where
+  pub orderedIn-limit : count ≤ limit
+  unfolding orderedIn
+  orderedIn-limit = leb-true count limit (and-left (leb count limit) (leb count (length keys) && (rising (take count keys) && allZero (drop count keys))) yes)
+
+  rest : (leb count (length keys) && (rising (take count keys) && allZero (drop count keys))) ≡ true
+  unfolding orderedIn
+  rest = and-right (leb count limit) (leb count (length keys) && (rising (take count keys) && allZero (drop count keys))) yes
+
+  pub orderedIn-long : count ≤ length keys
+  orderedIn-long = leb-true count (length keys) (and-left (leb count (length keys)) (rising (take count keys) && allZero (drop count keys)) rest)
+
+  pub orderedIn-rising : rising (take count keys) ≡ true
+  orderedIn-rising = and-left (rising (take count keys)) (allZero (drop count keys)) (and-right (leb count (length keys)) (rising (take count keys) && allZero (drop count keys)) rest)
+
+  pub orderedIn-short : length (take count keys) ≤ limit
+  orderedIn-short = rw (length-take count keys) (omega (arith, orderedIn-limit))
+
 -- ---- a place
 
 module _ (l : List ℕ) (rise : Rising l) where
@@ -49,10 +68,10 @@ module _ (l : List ℕ) (rise : Rising l) where
 
 -- ---- a key put in
 
-pub putAt-insert : (l : List ℕ) (k : ℕ) → (List·Memᴰ k l → ⊥) → length l < limit
-    → putAt (position k l) (length l) k (storeOf l .keys) ≡ storeOf (insert k l) .keys
-unfolding putAt zeros
-putAt-insert l k missing h =
+pub insertedAt-insert : (l : List ℕ) (k : ℕ) → (List·Memᴰ k l → ⊥) → length l < limit
+    → insertedAt (position k l) (length l) k (storeOf l .keys) ≡ storeOf (insert k l) .keys
+unfolding insertedAt zeros
+insertedAt-insert l k missing h =
     let z : List ℕ = zeros (limit - length l) in
     let at : ℕ = position k l in
     let le : at ≤ length l = position-le k l in
@@ -78,11 +97,11 @@ pub putIn-insert : (l : List ℕ) (rise : Rising l) (k : ℕ) → length (insert
     → putIn (placeOf l rise k) (length l) k (storeOf l .keys) ≡ storeOf (insert k l) .keys
 putIn-insert l rise k h = go (holds k l) refl
   where
-    go : (t : Bool) → holds k l ≡ t → cond t (storeOf l .keys) (putAt (position k l) (length l) k (storeOf l .keys)) ≡ storeOf (insert k l) .keys
+    go : (t : Bool) → holds k l ≡ t → cond t (storeOf l .keys) (insertedAt (position k l) (length l) k (storeOf l .keys)) ≡ storeOf (insert k l) .keys
     go true e = ap (λ (m : List ℕ). storeOf m .keys) (sym (insert-held k l rise (holds-mem k l e)))
     go false e =
         let missing = holds-absent k l e in
-        putAt-insert l k missing (omega (arith, length-insert-missing k l missing))
+        insertedAt-insert l k missing (omega (arith, length-insert-missing k l missing))
 
 -- ---- one key added: its store, where it fits
 

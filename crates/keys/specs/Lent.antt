@@ -48,8 +48,8 @@ placeIn keys count key =
     (record { at = 0; held = false })
 
 -- the run with `key` put in at a place, and the keys from there to the count moved up by one
-unfoldable pub putAt : ℕ → ℕ → ℕ → List ℕ → List ℕ
-putAt at count key keys = take at keys ++ (key ∷ (take (count - at) (drop at keys) ++ drop (count + 1) keys))
+unfoldable pub insertedAt : ℕ → ℕ → ℕ → List ℕ → List ℕ
+insertedAt at count key keys = take at keys ++ (key ∷ (take (count - at) (drop at keys) ++ drop (count + 1) keys))
 
 -- how many keys are missing at a place: one where it is not held
 abbrev pub lacking : Place → ℕ
@@ -57,7 +57,7 @@ lacking p = cond (p .held) 0 1
 
 -- the run once a key is put in at its place, unless it is held
 abbrev pub putIn : Place → ℕ → ℕ → List ℕ → List ℕ
-putIn p count key keys = cond (p .held) keys (putAt (p .at) count key keys)
+putIn p count key keys = cond (p .held) keys (insertedAt (p .at) count key keys)
 
 -- is there room for m keys more?
 abbrev pub room : ℕ → ℕ → Bool

@@ -5,7 +5,7 @@ ghost use mathlib.Core.Bool.{true, cond};
 ghost use Prim.Native.Nat.{_≤_, _<_, _+_, _*_, _^_};
 ghost use lib.ListN.{length};
 ghost use Rattle.keys.specs.Store.{limit, rising, allZero};
-ghost use Rattle.keys.specs.Lent.{halved, quarterOf, quartered, putAt};
+ghost use Rattle.keys.specs.Lent.{halved, quarterOf, quartered, insertedAt};
 
 // Whether the keys rise strictly.
 pub(crate) fn rises(keys: &[u64]) -> bool
@@ -103,7 +103,7 @@ pub(crate) fn quarter(keys: &[u64], count: usize, key: u64) -> usize
 // Puts `key` in at a place: the keys from there to the count move up by one, the last one first.
 pub(crate) fn put(keys: &mut [u64; Store::LIMIT], at: usize, count: usize, key: u64)
     requires { ⌜ (at ≤ count) × (count < limit) × (length (now keys) ≡ limit) ⌝ }
-    ensures { λ r. ⌜ now (keys .exit) ≡ putAt at count key (now (keys .entry)) ⌝ }
+    ensures { λ r. ⌜ now (keys .exit) ≡ insertedAt at count key (now (keys .entry)) ⌝ }
 {
     let mut i = count;
     while at < i {

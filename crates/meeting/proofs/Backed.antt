@@ -10,13 +10,12 @@ use lib.ListN.{length, drop}
 use Rattle.keys.specs.Store.{limit}
 use Rattle.keys.proofs.Rising.{Rising, Sub, sub-trans, sub-take, sub-drop, rising-length}
 use Rattle.claims.specs.declared.claim.Claim.{Claim}
-use Rattle.claims.specs.Claim.{span, claimOf, wholeClaim, between}
+use Rattle.claims.specs.Claim.{span, claimOf, wholeClaim}
 use Rattle.claims.specs.Reply.{adding, hear, reply, claimsOf}
-use Rattle.claims.proofs.Between.{between-rising, between-sub}
 use Rattle.claims.proofs.Span.{first, last, mem-first, mem-last, length-span, span-rising}
 use Rattle.claims.proofs.QuestionLaws.{Passes, passes, judged-firstNo}
 use Rattle.claims.proofs.ClaimLaws.{spanClaim, spanClaim-passes, claimOf-span, wholeClaim-span}
-use Rattle.claims.proofs.ReplyLaws.{adding-mem, hear-rising, hear-held, Spanned, reply-spanned}
+use Rattle.claims.proofs.ReplyLaws.{spanned-keys, adding-mem, hear-rising, hear-held, Spanned, reply-spanned}
 use Rattle.rule.specs.Table.{serve, sending}
 use Rattle.rule.specs.Round.{union, End, leftEnd, rightEnd, Pair, pair, Entry, delivered, answers, Line, Run, run, half, roundOf}
 use Rattle.rule.proofs.TableLaws.{sent-mem}
@@ -55,10 +54,7 @@ backed-adding u c l b k m =
 
 pub spanned-backed : (u l : List ℕ) (c : Claim) → Rising l → length l ≤ limit → Sub l u → Spanned l c → Backed u c
 spanned-backed u l c r h s t =
-    let e : between (first (t .keys)) (last (t .keys)) l ≡ t .keys = sym (t .whole) in
-    let rk : Rising (t .keys) = subst Rising e (between-rising (first (t .keys)) (last (t .keys)) l r) in
-    let sk : Sub (t .keys) l = subst (λ (k : List ℕ). Sub k l) e (between-sub (first (t .keys)) (last (t .keys)) l) in
-    let n : length (t .keys) ≤ length l = rising-length (t .keys) l rk r sk in
+    let (rk, sk, n) = spanned-keys l c r t in
     record { keys = t .keys; claim = t .claim; rises = rk; some = t .some; fits = omega arith; within = sub-trans (t .keys) l u sk s }
 
 pub claimOf-backed : (u l : List ℕ) (i j : ℕ) → Rising l → length l ≤ limit → Sub l u → i ≤ j → j < length l → Backed u (claimOf i j l)

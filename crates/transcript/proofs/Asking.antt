@@ -1,40 +1,14 @@
--- The questions of a round as the code puts them (specs/Core, `asked`): one law for each way that `ask` of src/flat.rt goes, and what a run of keys that
--- passes question 1 gives the walk over both. Assumes nothing.
+-- The questions of a round as the code puts them (specs/Core, `asked`): one law for each way that `ask` of src/flat.rt goes. Assumes nothing.
 use Prim.Native.Nat.{ℕ, _*_, _≤_, _<_}
-use mathlib.Core.Bool.{true, false, _&&_}
+use mathlib.Core.Bool.{true, false}
 use mathlib.Core.List.{List}
 use mathlib.Core.Path.{_≡_}
-use native.Mathlib.Omega.{arith}
-use borrow.Author.Tests.{leb-true, le-leb, lt-leb}
-use lib.Dec.{leb}
-use lib.ListN.{length, take, drop, length-take}
-use Rattle.keys.specs.Store.{limit, rising, allZero}
+use borrow.Author.Tests.{le-leb, lt-leb}
+use lib.ListN.{length, take}
+use Rattle.keys.specs.Store.{limit}
 use Rattle.keys.specs.Lent.{orderedIn}
-use Rattle.keys.proofs.Tests.{and-left, and-right}
 use Rattle.rule.specs.Round.{union}
 use Rattle.transcript.specs.Core.{asked}
-
--- ---- a run that passes question 1
-
-module _ (keys : List ℕ) (count : ℕ) (yes : orderedIn keys count ≡ true) where
-  pub ordered-limit : count ≤ limit
-  unfolding orderedIn
-  ordered-limit = leb-true count limit (and-left (leb count limit) (leb count (length keys) && (rising (take count keys) && allZero (drop count keys))) yes)
-
-  rest : (leb count (length keys) && (rising (take count keys) && allZero (drop count keys))) ≡ true
-  unfolding orderedIn
-  rest = and-right (leb count limit) (leb count (length keys) && (rising (take count keys) && allZero (drop count keys))) yes
-
-  pub ordered-long : count ≤ length keys
-  ordered-long = leb-true count (length keys) (and-left (leb count (length keys)) (rising (take count keys) && allZero (drop count keys)) rest)
-
-  pub ordered-rising : rising (take count keys) ≡ true
-  ordered-rising = and-left (rising (take count keys)) (allZero (drop count keys)) (and-right (leb count (length keys)) (rising (take count keys) && allZero (drop count keys)) rest)
-
-  pub ordered-short : length (take count keys) ≤ limit
-  ordered-short = rw (length-take count keys) (omega (arith, ordered-limit))
-
--- ---- the questions in order
 
 module _ (left : List ℕ) (lc : ℕ) (right : List ℕ) (rc : ℕ) (records : ℕ) where
   pub asked-left : orderedIn left lc ≡ false → 1 ≡ asked left lc right rc records

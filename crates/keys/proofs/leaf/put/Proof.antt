@@ -4,7 +4,7 @@ use Prim.Native.Nat.{_≤_}
 use native.Mathlib.Omega.{arith}
 use borrow.Author.Needs.{needs}
 use denote.Ref.{now}
-use Rattle.keys.proofs.Putting.{Moved, putAt-count, moved-down}
+use Rattle.keys.proofs.Putting.{Moved, insertedAt-count, moved-down}
 use Rattle.keys.proofs.leaf.put.Statement.{statement}
 use Rattle.keys.proofs.leaf.put.Tie as tie
 use Rattle.keys.proofs.leaf.put.Reads as reads
@@ -17,7 +17,7 @@ abbrev μ-loop : tie.MeasureT-loop
 μ-loop keys₀ at count key i₀ keys i = i
 
 loop-holds : tie.Need-loop-holds Inv-loop μ-loop
-loop-holds c = (omega arith, omega arith, λ x. putAt-count (now (c .args .keys)) (c .args .count) x (omega arith))
+loop-holds c = (omega arith, omega arith, λ x. insertedAt-count (now (c .args .keys)) (c .args .count) x (omega arith))
 
 sub-keys : tie.Need-sub-keys Inv-loop μ-loop
 sub-keys c = search needs

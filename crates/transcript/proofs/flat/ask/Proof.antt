@@ -4,7 +4,8 @@ use borrow.Author.Needs.{needs}
 use borrow.Author.Tests.{not-true, not-false}
 use denote.Ref.{now}
 use lib.Seq.{length-take-le}
-use Rattle.transcript.proofs.Asking.{ordered-long, ordered-rising, ordered-short, asked-left, asked-right, asked-8, asked-9, asked-0}
+use Rattle.keys.proofs.LentLaws.{orderedIn-long, orderedIn-rising, orderedIn-short}
+use Rattle.transcript.proofs.Asking.{asked-left, asked-right, asked-8, asked-9, asked-0}
 use Rattle.transcript.proofs.flat.ask.Statement.{statement}
 use Rattle.transcript.proofs.flat.ask.Tie as tie
 
@@ -24,13 +25,13 @@ slice-aggregate-union-count : tie.Need-slice-aggregate-union-count
 slice-aggregate-union-count c =
     let s = c .before .before .before .before .before .before .before in
     let yes = sym (c .before .before .before .before .ordered-in .ensures) ∙ not-false _ (c .before .before .before .if1 .left) in
-    sym (length-take-le (s .args .left-count) (now (s .args .left)) (ordered-long (now (s .args .left)) (s .args .left-count) yes))
+    sym (length-take-le (s .args .left-count) (now (s .args .left)) (orderedIn-long (now (s .args .left)) (s .args .left-count) yes))
 
 slice-aggregate-union-count-2 : tie.Need-slice-aggregate-union-count-2
 slice-aggregate-union-count-2 c =
     let s = c .before .before .before .before .before .before .before .before in
     let yes = sym (c .before .before .before .ordered-in2 .ensures) ∙ not-false _ (c .before .before .if2 .left) in
-    sym (length-take-le (s .args .right-count) (now (s .args .right)) (ordered-long (now (s .args .right)) (s .args .right-count) yes))
+    sym (length-take-le (s .args .right-count) (now (s .args .right)) (orderedIn-long (now (s .args .right)) (s .args .right-count) yes))
 
 union-count-requires : tie.Need-union-count-requires
 union-count-requires c κs =
@@ -39,7 +40,7 @@ union-count-requires c κs =
     let r = now (s .args .right) in
     let yl = sym (c .before .before .before .before .before .ordered-in .ensures) ∙ not-false _ (c .before .before .before .before .if1 .left) in
     let yr = sym (c .before .before .before .ordered-in2 .ensures) ∙ not-false _ (c .before .before .if2 .left) in
-    (ordered-rising l (s .args .left-count) yl, ordered-rising r (s .args .right-count) yr, ordered-short l (s .args .left-count) yl, ordered-short r (s .args .right-count) yr)
+    (orderedIn-rising l (s .args .left-count) yl, orderedIn-rising r (s .args .right-count) yr, orderedIn-short l (s .args .left-count) yl, orderedIn-short r (s .args .right-count) yr)
 
 returns-3 : tie.Need-returns-3
 returns-3 c = asked-8 (now (c .before .before .before .before .before .before .before .before .before .before .args .left)) (c .before .before .before .before .before .before .before .before .before .before .args .left-count) (now (c .before .before .before .before .before .before .before .before .before .before .args .right)) (c .before .before .before .before .before .before .before .before .before .before .args .right-count) (c .before .before .before .before .before .before .before .before .before .before .args .records) (sym (c .before .before .before .before .before .before .before .ordered-in .ensures) ∙ not-false _ (c .before .before .before .before .before .before .if1 .left)) (sym (c .before .before .before .before .before .ordered-in2 .ensures) ∙ not-false _ (c .before .before .before .before .if2 .left)) (c .before .union-count .result) (c .before .union-count .ensures) (c .if3 .taken)
