@@ -4,7 +4,6 @@
 use Prim.Native.Nat.{ℕ, _-_, _≤_}
 use mathlib.Core.Bool.{Bool, true, false, not}
 use mathlib.Core.List.{List, [], _∷_}
-use mathlib.Core.Logic.{⊎-elim}
 use mathlib.Core.Path.{_≡_, sym, ap, _∙_, subst}
 use native.Mathlib.Omega.{arith}
 use borrow.Author.Tests.{eqb-true, not-true}
@@ -12,7 +11,7 @@ use lib.Dec.{eqb}
 use lib.ListN.{length}
 use Rattle.keys.specs.declared.store.Store.{Store}
 use Rattle.keys.specs.Store.{limit, keysOf, storeOf, inOrder, allZero}
-use Rattle.keys.proofs.Tests.{and-left, and-right, eq-or-ne}
+use Rattle.keys.proofs.Tests.{and-left, and-right}
 use Rattle.keys.proofs.Rising.{Rising, Sub, rising-length}
 use Rattle.keys.proofs.Order.{keysOf-storeOf, inOrder-storeOf, inOrder-rising}
 use Rattle.claims.specs.Question.{firstNo}
@@ -23,12 +22,12 @@ use Rattle.rule.specs.Call.{roundQuestions, roundBy}
 use Rattle.rule.proofs.NodeLaws.{restored}
 use Rattle.rule.proofs.Union.{union-comm, union-rising}
 use Rattle.rule.proofs.Half.{Rounded}
-use Rattle.rule.proofs.CallLaws.{RoundYes, roundQuestions-yes, roundYes-rounded}
+use Rattle.rule.proofs.CallLaws.{RoundYes, roundQuestions-yes, roundYes-rounded, met-zero}
 use Rattle.meeting.specs.Event.{Event, meets}
 use Rattle.meeting.specs.World.{World, withStore, Outcome, outcome, after, afterAll, numbers}
 use Rattle.meeting.specs.Statement.{keysIn, apart, Turn, straight, turned, rounds, falseIn, noneFalse}
 use Rattle.meeting.proofs.Apart.{apart-none, apart-round}
-use Rattle.meeting.proofs.Outcomes.{withNode-here, withNode-there, meets-done, meets-refused}
+use Rattle.meeting.proofs.Outcomes.{withNode-here, withNode-there, meets-done}
 
 -- ---- stores that are ready
 
@@ -43,13 +42,8 @@ ready-storeOf l r h = record { order = inOrder-storeOf l r h; laid = ap storeOf 
 
 pub meets-zero : (k m : ℕ) (lent : List Delivery) (kiosks : ℕ → Node) → outcome (meets k m lent) kiosks .number ≡ 0 →
     firstNo (roundQuestions (kiosks k .store) (kiosks m .store) (length lent)) ≡ 0
-meets-zero k m lent kiosks h =
-    let n : ℕ = firstNo (roundQuestions (kiosks k .store) (kiosks m .store) (length lent)) in
-    ⊎-elim
-    {C = n ≡ 0}
-    (λ (z : n ≡ 0). z)
-    (λ (f : n ≡ 0 → ⊥). absurd (f (sym (ap (λ (o : Outcome). o .number) (meets-refused k m lent kiosks f)) ∙ h)))
-    (eq-or-ne n 0)
+unfolding outcome
+meets-zero k m lent kiosks = met-zero (kiosks k .store) (kiosks m .store) (length lent)
 
 -- what a round leaves, of kiosks k on the left and m on the right
 pub record Stepped (w : World) (k m : ℕ) (w′ : World) : Type 0 where

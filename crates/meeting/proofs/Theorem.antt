@@ -7,7 +7,7 @@ use Rattle.keys.specs.Store.{limit}
 use Rattle.keys.proofs.Rising.{true-rising}
 use Rattle.keys.proofs.Order.{inOrder-rising}
 use Rattle.rule.proofs.NodeLaws.{ordered-nodeInOrder}
-use Rattle.rule.proofs.CallLaws.{met-bounded}
+use Rattle.rule.proofs.CallLaws.{met-bounded, met-waiting}
 use Rattle.meeting.specs.Event.{Event}
 use Rattle.meeting.specs.World.{World, start}
 use Rattle.meeting.specs.Premise.{AllMeant}
@@ -31,6 +31,7 @@ every-list n es m =
       ordered = λ k h. ordered-nodeInOrder (end es .kiosks k) (g .ordered k);
       exact = λ x. (λ t. g .within (t .0) x (t .2), g .found x);
       bounded = λ before others e k j records. met-bounded (end before .kiosks k .store) (end before .kiosks j .store) records;
+      noneWaits = λ before others e k j records. met-waiting (end before .kiosks k .store) (end before .kiosks j .store) records;
       together = λ k j hk hj different ts. meeting (end es) k j different ts (ready k) (ready j);
     }
 

@@ -73,10 +73,15 @@ pub record Demand3 (n : ℕ) (es : List Event) : Type 0 where
   -- a key is in some store exactly when it was entered
   pub exact : (x : ℕ) → InSome n x (end es) ↔ List·Memᴰ x (enteredIn es)
   -- a round at any time, in the list (some events before it, the others from it on) or after it (no others), with any records lent, returns a count
-  -- of at most twice the keys in the union of its two stores, the union of question 8
+  -- of at most twice the keys in the union of its two stores, the union of question 8, ..
   pub bounded : (before others : List Event) → before ++ others ≡ es → (k m records : ℕ) →
       met (end before .kiosks k .store) (end before .kiosks m .store) records .deliveries
       ≤ 2 * length (union (keysIn (end before) k) (keysIn (end before) m))
+  -- .. and unless it is refused it ends because no claim waits any more, neither from the left one's whole claim nor from the right one's: no delivery
+  -- was left out to keep to the count
+  pub noneWaits : (before others : List Event) → before ++ others ≡ es → (k m records : ℕ) →
+      met (end before .kiosks k .store) (end before .kiosks m .store) records .number ≡ 0 →
+      roundBy (end before .kiosks k .store) (end before .kiosks m .store) .waiting ≡ []
   -- two different kiosks, and further rounds of these two, as many as there are keys held by just one of them (or more), either on the left each
   -- time, none refused: if no match in these rounds is false, both end with the union of the two stores before them, in every place of the store
   pub together : (k m : ℕ) → k < n → m < n → (k ≡ m → ⊥) → (ts : List Turn) →

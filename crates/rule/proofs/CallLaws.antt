@@ -1,11 +1,11 @@
 -- What the public calls return, one law a return path: `taken`, `beaten`, `beatenLent`, `met`, `metLent` and `metWords` of Call. In order, for
 -- taking, a beat and a round: what it says that every question was answered yes; carried out; refused. Then: a taken node and a beaten one are in order;
--- what a round returns is in order, and its count is at most twice the keys of the union. Assumes nothing.
+-- what a round returns is in order, its count is at most twice the keys of the union, and nothing waits at its end. Assumes nothing.
 use Prim.Native.Nat.{ℕ, _+_, _*_, _/_, _≤_, _<_}
 use mathlib.Core.Bool.{true}
 use mathlib.Core.List.{List, [], _∷_, _++_, List·Memᴰ, Memᴰ·append-left}
 use mathlib.Core.Logic.{⊎-elim}
-use mathlib.Core.Path.{_≡_, sym, _∙_, subst}
+use mathlib.Core.Path.{_≡_, sym, ap, _∙_, subst}
 use native.Mathlib.Omega.{arith}
 use borrow.Author.Tests.{ltb-true, leb-true}
 use lib.ListN.{length, take, drop, length-take, take-append-drop}
@@ -21,6 +21,7 @@ use Rattle.claims.proofs.QuestionLaws.{firstNo-yes, firstNo-zero, firstNo-appen
 use Rattle.claims.proofs.ReplyLaws.{hear-rising, hear-old, hear-new}
 use Rattle.rule.specs.declared.node.Node.{Node}
 use Rattle.rule.specs.declared.delivery.Delivery.{Delivery}
+use Rattle.rule.specs.declared.answer.Met.{Met}
 use Rattle.rule.specs.Table.{tableLimit, tableWith, insertClaim, serve, sending, beatLimit}
 use Rattle.rule.specs.Node.{nodeKeys, pendingOf, nodeOf}
 use Rattle.rule.specs.Round.{union, transcript}
@@ -152,6 +153,15 @@ met-refused s t n f =
     (record { number = 0; left = storeOf (roundBy s t .stores .left); right = storeOf (roundBy s t .stores .right); deliveries = length (roundBy s t .lines) })
     (λ x. record { number = x; left = s; right = t; deliveries = 0 }) f
 
+-- a round that answers 0 was not refused
+pub met-zero : (s t : Store) (n : ℕ) → met s t n .number ≡ 0 → firstNo (roundQuestions s t n) ≡ 0
+met-zero s t n h =
+    ⊎-elim
+    {C = firstNo (roundQuestions s t n) ≡ 0}
+    (λ (z : firstNo (roundQuestions s t n) ≡ 0). z)
+    (λ (f : firstNo (roundQuestions s t n) ≡ 0 → ⊥). absurd (f (sym (ap (λ (m : Met). m .number) (met-refused s t n f)) ∙ h)))
+    (eq-or-ne (firstNo (roundQuestions s t n)) 0)
+
 pub metLent-done : (s t : Store) (lent : List Delivery) → firstNo (roundQuestions s t (length lent)) ≡ 0 →
     metLent s t lent ≡ writtenOver (transcript (roundBy s t)) lent
 unfolding metLent
@@ -215,3 +225,7 @@ met-bounded s t n =
     (λ (h : firstNo (roundQuestions s t n) ≡ 0). rw (met-done s t n h) (roundYes-rounded s t n (roundQuestions-yes s t n h) .bound))
     (λ (f : firstNo (roundQuestions s t n) ≡ 0 → ⊥). rw (met-refused s t n f) (omega arith))
     (eq-or-ne (firstNo (roundQuestions s t n)) 0)
+
+-- a round that was not refused delivered until none waited, in both halves
+pub met-waiting : (s t : Store) (n : ℕ) → met s t n .number ≡ 0 → roundBy s t .waiting ≡ []
+met-waiting s t n h = roundYes-rounded s t n (roundQuestions-yes s t n (met-zero s t n h)) .ends

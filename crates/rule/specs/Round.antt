@@ -107,7 +107,7 @@ runAll p q = run (length (union (p .left) (p .right))) p q
 unfoldable pub half : End → Pair → Run
 half s p = runAll p (waits s (keysAt s p) (wholeClaim (keysAt s p)))
 
--- one run after another
+-- one run after another: what either leaves waiting still waits
 abbrev pub followed : Run → Run → Run
 followed a b = record { stores = b .stores; lines = a .lines ++ b .lines; waiting = a .waiting ++ b .waiting }
 
