@@ -13,12 +13,13 @@ use Rattle.claims.specs.Cases.{claim}
 use Rattle.claims.specs.Reply.{answer}
 use Rattle.claims.specs.Call.{judged, entered, made, replied}
 use Rattle.rule.specs.Node.{blanks, nodeOf, emptyNode, nodeInOrder}
-use Rattle.rule.specs.Round.{run, runAll, half, roundOf}
+use Rattle.rule.specs.Round.{leftEnd, Entry, run, runAll, half, roundOf}
 use Rattle.rule.specs.Call.{taken, beaten, beatenLent, met, metLent}
+use Rattle.rule.proofs.Half.{opening}
 use Rattle.meeting.specs.World.{start, outcome, afterAll, numbers}
 use Rattle.meeting.specs.Premise.{AllMeant}
 use Rattle.meeting.specs.Statement.{end, keysIn, enteredIn, different, apart, rounds, noneFalse, Demand3}
-use Rattle.meeting.specs.Examples.{crossing, apartThree, threeTurns}
+use Rattle.meeting.specs.Examples.{crossing, passedOn, apartThree, threeTurns, threeAndNone}
 use Rattle.meeting.proofs.Theorem.{every-list-meets}
 use Rattle.meeting.proofs.Meeting.{BothEnd}
 
@@ -65,6 +66,41 @@ crossing-keys = refl
 pub crossing-demand3 : Demand3 3 crossing
 crossing-demand3 = every-list-meets 3 crossing crossing-meant crossing-few
 
+-- ---- a list in which what a reply asks or helps with goes on to a third kiosk
+
+pub passedOn-meant : AllMeant 3 passedOn start
+unfolding opened
+passedOn-meant =
+    let k0 = lit< tt in
+    let k1 = lit< tt in
+    let k2 = lit< tt in
+    let made = inl (List·Memᴰ·head refl) in
+    let asked = inl (List·Memᴰ·tail (List·Memᴰ·head refl)) in
+    let helped = inl (List·Memᴰ·tail (List·Memᴰ·tail (List·Memᴰ·head refl))) in
+    (k0, (k0, (k0, (k0, (k2, ((k1, made), ((k2, k0, two-zero), ((k2, asked), (k2, ((k0, helped), tt))))))))))
+
+pub passedOn-few : different (enteredIn passedOn) ≤ limit
+unfolding opened
+passedOn-few = lit≤ tt
+
+-- the round gets 9 and the beat 15
+pub passedOn-numbers : numbers passedOn start ≡ 0 ∷ 0 ∷ 0 ∷ 0 ∷ 0 ∷ 0 ∷ 9 ∷ 0 ∷ 15 ∷ 0 ∷ []
+unfolding opened
+passedOn-numbers = refl
+
+-- the claims made: by making, by asking, by helping, and none by what was refused
+pub passedOn-made : end passedOn .made ≡ claim 1 16 21 3 ∷ claim 1 16 17 2 ∷ claim 8 8 8 1 ∷ []
+unfolding opened
+passedOn-made = refl
+
+-- 1 and 16 came to kiosk 2 from kiosk 0 by way of kiosk 1, and 8 back to kiosk 0
+pub passedOn-keys : map (keysIn (end passedOn)) (0 ∷ 1 ∷ 2 ∷ []) ≡ (1 ∷ 4 ∷ 8 ∷ 16 ∷ []) ∷ (1 ∷ 16 ∷ []) ∷ (1 ∷ 8 ∷ 16 ∷ []) ∷ []
+unfolding opened
+passedOn-keys = refl
+
+pub passedOn-demand3 : Demand3 3 passedOn
+passedOn-demand3 = every-list-meets 3 passedOn passedOn-meant passedOn-few
+
 -- ---- two kiosks that differ in three keys, and three rounds of them
 
 pub apartThree-meant : AllMeant 2 apartThree start
@@ -97,3 +133,15 @@ unfolding opened
 apartThree-together =
     every-list-meets 2 apartThree apartThree-meant apartThree-few .together 0 1 (lit< tt) (lit< tt) zero-one threeTurns
     (lit≤ tt) apartThree-carried apartThree-honest
+
+-- ---- deliveries until none waits
+
+-- the left one's whole claim is asked about, helped with and matched: after three deliveries none waits ..
+pub three-leave-none : half leftEnd threeAndNone .waiting ≡ []
+unfolding opened
+three-leave-none = refl
+
+-- .. and after two the last of them does
+pub two-leave-one : map (λ (e : Entry). e .claim) (run 2 threeAndNone (opening leftEnd threeAndNone) .waiting) ≡ claim 2 2 2 1 ∷ []
+unfolding opened
+two-leave-one = refl

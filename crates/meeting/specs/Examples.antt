@@ -5,6 +5,7 @@ use mathlib.Core.List.{List, [], _∷_}
 use lib.ListN.{replicate}
 use Rattle.claims.specs.Cases.{claim}
 use Rattle.rule.specs.declared.delivery.Delivery.{Delivery}
+use Rattle.rule.specs.Round.{Pair, pair}
 use Rattle.rule.specs.Cases.{stale}
 use Rattle.meeting.specs.Event.{Event, To, enters, makes, delivers, beats, meets}
 use Rattle.meeting.specs.Statement.{Turn, straight, turned}
@@ -30,6 +31,22 @@ crossing =
     ∷ delivers 1 To.reply (claim 9 5 12 2)
     ∷ []
 
+-- Three kiosks, and claims that are passed on. Kiosk 1, empty, hears the claim of kiosk 0 and asks; what it asks goes to kiosk 2, which helps; what helps
+-- goes to kiosk 0. Meanwhile a round is refused, which has one record too few, and a beat, which has one word too few.
+abbrev pub passedOn : List Event
+passedOn =
+    enters 0 1
+    ∷ enters 0 4
+    ∷ enters 0 16
+    ∷ makes 0 0 2
+    ∷ enters 2 8
+    ∷ delivers 1 To.reply (claim 1 16 21 3)
+    ∷ meets 2 0 (lentRecords 7)
+    ∷ delivers 2 To.reply (claim 1 16 17 2)
+    ∷ beats 2 (replicate 515 7)
+    ∷ delivers 0 To.reply (claim 8 8 8 1)
+    ∷ []
+
 -- the stores of document 01's rehearsal, entered key by key, with 0 and 10 brought over by a round
 abbrev pub apartThree : List Event
 apartThree = enters 0 0 ∷ enters 0 10 ∷ meets 0 1 (lentRecords 4) ∷ enters 0 1 ∷ enters 1 5 ∷ enters 1 6 ∷ []
@@ -37,3 +54,7 @@ apartThree = enters 0 0 ∷ enters 0 10 ∷ meets 0 1 (lentRecords 4) ∷ enters
 -- three keys are held by just one of the two: three rounds, sides alternating
 abbrev pub threeTurns : List Turn
 threeTurns = straight (lentRecords 10) ∷ turned (lentRecords 10) ∷ straight (lentRecords 12) ∷ []
+
+-- two stores, in whose round one half takes as many deliveries as their union has keys: three
+abbrev pub threeAndNone : Pair
+threeAndNone = pair (1 ∷ 2 ∷ 3 ∷ []) []
