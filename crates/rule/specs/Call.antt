@@ -1,5 +1,5 @@
--- What each public call of `rounds` returns, for any content of what it is given, and what every lent place holds afterwards: the first question
--- answered no decides, and then the rule. "A refusal returns its number, the given store or node, and zeros for any claim or count. On success,
+-- What taking a claim, a beat and a round return, for any content of what they are given, and what every lent place holds afterwards: the first
+-- question answered no decides, and then the rule. "A refusal returns its number, the given store or node, and zeros for any claim or count. On success,
 -- output past what was written keeps its contents." Assumes nothing.
 use Prim.Native.Nat.{ℕ, _/_}
 use mathlib.Core.List.{List, [], _∷_, _++_}

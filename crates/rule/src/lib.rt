@@ -1,5 +1,5 @@
-// The rule of the upper layer (document 01, "A round", "Pending table and beat"): its types, the definitions that the contracts of `nodes` and `rounds` and the
-// theorem of `meeting` cite, and their laws. The code is in the two crates above.
+// The rule of the upper layer (document 01, "A round", "Pending table and beat"): its types, the definitions that the contracts and theorems of the crates
+// above cite, and their laws. The code is in those crates.
 mod answer;
 mod delivery;
 mod node;
