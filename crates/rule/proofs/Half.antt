@@ -150,7 +150,7 @@ halfway-step p e q h =
 -- a half with nothing waiting ends
 pub runAll-nil : (p : Pair) → runAll p [] ≡ record { stores = p; lines = []; waiting = [] }
 unfolding runAll
-runAll-nil p = run-nil (length (unionOf p)) p
+runAll-nil p = run-nil _ p
 
 -- a half with a first entry is the half after its delivery, with the replies put last
 pub runAll-cons : (p : Pair) (e : Entry) (q : List Entry) → Halfway p (e ∷ q) → runAll p (e ∷ q) ≡ noting (line e p) (runAll (delivered e p) (q ++ answers e p))
