@@ -8,7 +8,7 @@ use mathlib.Core.Logic.{⊎-elim}
 use native.Mathlib.Omega.{arith}
 use borrow.Author.Tests.{lt-ltb, le-ltb, leb-true, leb-false, le-leb, lt-leb}
 use lib.Dec.{leb}
-use lib.ListN.{length, take, drop, getD, set, length-set, length-append, length-map, take-append-drop}
+use lib.ListN.{length, take, drop, getD, set, replicate, length-replicate, length-set, length-append, length-map, take-append-drop}
 use lib.Seq.{length-take-le, take-suc, drop-cons, split-at, append-snoc, set-at, drop-append-le, take-length}
 use Rattle.keys.specs.declared.store.Store.{Store}
 use Rattle.keys.specs.Store.{limit, inOrder, keysOf, storeOf}
@@ -24,7 +24,7 @@ use Rattle.rule.proofs.CallLaws.{RoundYes, roundQuestions-yes, met-done, met-re
 use Rattle.rule.proofs.Words.{length-deliveryWords}
 use Rattle.transcript.specs.Core.{recordsIn, claimIn}
 use Rattle.transcript.proofs.WordsLaws.{length-over, sender-at, claim-at}
-use Rattle.rounds.specs.Log.{noDelivery, deliveryIn, copied, frontRecords, frontWords}
+use Rattle.rounds.specs.Log.{noDelivery, deliveryIn, copied, frontRecords, frontWords, recorded}
 use Rattle.rounds.proofs.Narrow.{Narrow, AllNarrow, allNarrow-getD, round-narrow}
 
 -- ---- a record in words
@@ -173,3 +173,14 @@ module _ (s t : Store) (words : List ℕ) (long : 2 * limit ≤ recordsIn words)
       (λ (h : firstNo (roundQuestions s t (length lent)) ≡ 0). met-lent-done lent h)
       (λ (f : firstNo (roundQuestions s t (length lent)) ≡ 0 → ⊥). rw (met-refused s t (length lent) f, metLent-refused s t lent f))
       (eq-or-ne (firstNo (roundQuestions s t (length lent))) 0)
+
+-- ---- a round over records of its own, and one of them
+
+pub recorded-is : (s t : Store) (at n : ℕ) → n ≡ 2 * limit → (r : Met) (zs : List Delivery) (d : Delivery) → r ≡ met s t (length (replicate n noDelivery))
+    → zs ≡ metLent s t (replicate n noDelivery) → d ≡ getD zs at noDelivery → record { met = r; delivery = d } ≡ recorded s t at
+unfolding recorded
+recorded-is s t at n full r zs d r-is zs-are d-is =
+    let many : length (replicate n noDelivery) ≡ 2 * limit = length-replicate n noDelivery ∙ full in
+    let one : d ≡ getD (metLent s t (replicate (2 * limit) noDelivery)) at noDelivery =
+    d-is ∙ ap (λ (l : List Delivery). getD l at noDelivery) (zs-are ∙ ap (λ (m : ℕ). metLent s t (replicate m noDelivery)) full) in
+    λ i. record { met = (r-is ∙ ap (met s t) many) i; delivery = one i }

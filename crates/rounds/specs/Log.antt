@@ -5,12 +5,14 @@ use Prim.Native.Nat.{ℕ, zero, suc, _*_, _%_, min}
 use mathlib.Core.Bool.{cond}
 use mathlib.Core.List.{List, _++_}
 use lib.Dec.{ltb}
-use lib.ListN.{take, drop, getD, set}
+use lib.ListN.{take, drop, getD, set, replicate}
 use Rattle.keys.specs.declared.store.Store.{Store}
+use Rattle.keys.specs.Store.{limit}
 use Rattle.claims.specs.Claim.{noClaim}
 use Rattle.rule.specs.declared.delivery.Delivery.{Delivery}
-use Rattle.rule.specs.Call.{metWords}
+use Rattle.rule.specs.Call.{met, metLent, metWords}
 use Rattle.transcript.specs.Core.{recordsIn, claimIn}
+use Rattle.rounds.specs.declared.log.Recorded.{Recorded}
 
 -- the record of zeros, which stands where there is none
 abbrev pub noDelivery : Delivery
@@ -35,3 +37,9 @@ frontRecords words records = min records (recordsIn words)
 unfoldable pub frontWords : Store → Store → List ℕ → ℕ → List ℕ
 frontWords s t words records =
     metWords s t (take (frontRecords words records * 5) words) ++ drop (frontRecords words records * 5) words
+
+-- ---- a round over records of its own
+
+-- what a round over as many records of zeros as a round can fill returns, and what they then hold at a place
+unfoldable pub recorded : Store → Store → ℕ → Recorded
+recorded s t at = record { met = met s t (2 * limit); delivery = getD (metLent s t (replicate (2 * limit) noDelivery)) at noDelivery }

@@ -4,9 +4,11 @@
 mod log;
 
 pub use beats::beat;
+pub use log::Recorded;
 pub use log::get;
 pub use log::put;
 pub use log::round;
+pub use log::round_record;
 pub use nodes::ordered;
 pub use nodes::take;
 pub use rule::Beaten;

@@ -5,7 +5,7 @@ ghost use mathlib.Core.Path.{_≡_};
 ghost use Prim.Native.Nat.{_≤_};
 ghost use lib.ListN.{length, set, getD};
 ghost use Rattle.rule.specs.Call.{met, metLent};
-ghost use Rattle.rounds.specs.Log.{noDelivery, deliveryIn, copied, frontRecords, frontWords};
+ghost use Rattle.rounds.specs.Log.{noDelivery, deliveryIn, copied, frontRecords, frontWords, recorded};
 use keys::Store;
 use keys::capped;
 use rule::Delivery;
@@ -81,4 +81,21 @@ pub fn round(left: Store, right: Store, log: &mut [Delivery]) -> Met
     let met = round_front(left, right, &mut words, log.len());
     copy_out(log, &words, met.deliveries);
     met
+}
+
+// What a round returned, and one record of its transcript.
+pub struct Recorded {
+    pub met: Met,
+    pub delivery: Delivery,
+}
+
+// A round over records of its own, as many as a round can fill, and the one at some place; past the deliveries it is the record of zeros.
+// Asks 1 (left, then right) and 8.
+pub fn round_record(left: Store, right: Store, at: usize) -> Recorded
+    ensures { λ r. ⌜ r ≡ recorded left right at ⌝ }
+{
+    let mut log = [Delivery::NONE; Delivery::RECORDS];
+    let met = round(left, right, &mut log);
+    let delivery = get(&log, at);
+    Recorded { met, delivery }
 }

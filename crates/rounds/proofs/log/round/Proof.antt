@@ -30,7 +30,7 @@ use denote.RattleType.{owns}
 use denote.Memory.{pointee, mem, shares}
 use denote.Laws.{Is, shows}
 use denote.Plain.{uint-makes, uint-lawful}
-use denote.Array.{Array, array-makes, array-lawful}
+use denote.Array.{Array, arrayVal, array-makes, array-lawful}
 use denote.Builtin.{u64, usize, unit}
 use denote.Ref.{RefT}
 use denote.Slice.{sliceTy, sliceVal, MutSlice, ShrSlice, Room, finally, slice-vals, mut-slice-tells}
@@ -62,7 +62,7 @@ use Rattle.transcript.specs.Core.{recordsIn}
 use Rattle.rounds.specs.Log.{copied, frontRecords, frontWords}
 use Rattle.rounds.proofs.LogLaws.{met-front, met-lent, met-short}
 use Rattle.rounds.proofs.LogWalk.{word, records}
-use Rattle.rounds.proofs.ArrayLent.{array-cells, array-room, zeros-are, big-lit}
+use Rattle.rounds.proofs.ArrayLent.{array-cells, array-room, repeated-are, big-lit}
 use Rattle.rounds.proofs.log.round_front as round-front
 use Rattle.rounds.proofs.log.round_front.Symbol as round-front-def
 use Rattle.rounds.proofs.log.round_front.Symbol.{name as #round-front}
@@ -120,8 +120,11 @@ spelled N = record {
       (rest N)))));
 }
 
--- the code's own number, 5 words for each of 2 · 1,024 records
-spelled-is : spelled 10240 ≡ code.function
+-- the code's own number of words, five for each record that a round can fill
+abbrev many : ℕ
+many = 2 * limit * 5
+
+spelled-is : spelled many ≡ code.function
 spelled-is = refl
 
 -- the words before the round
@@ -130,6 +133,9 @@ zeros N = replicate N 0
 
 length-zeros : (N : ℕ) → length (zeros N) ≡ N
 length-zeros N = length-replicate N 0
+
+zeros-are : (N : ℕ) → Is (Array u64 N) (zeros N) (arrayVal (replicate N (vint w64 0)) ∷ [])
+zeros-are = repeated-are u64 0 (vint w64 0) (refl, lit< tt)
 
 -- the contracts that the proof cites
 abbrev RoundFront : {M : Type 1} (𝓤 : URA M) (H : Heap 𝓤) (A : Atoms 𝓤) (mem : Memory → SProp 𝓤) (run : Routine → Fun 𝓤) → Contract 𝓤
@@ -301,10 +307,10 @@ module _ {M : Type 1} (𝓤 : URA M) (H : Heap 𝓤) (A : Atoms 𝓤) (W : Given
       → Walks 𝓤 H A round.ended stayed (WpFn 𝓤 H C Λ code.function) (round.clauses 𝓤 H A mem′ run)
   round-walks C Λ fm front out = walked 𝓤 H A round.ended stayed (round.clauses 𝓤 H A mem′ run) (WpFn 𝓤 H C Λ code.function)
       (λ κs. (LL.vals S.the-type S′.the-laws, (LL.vals S.the-type S′.the-laws, (slice-vals, tt)))) (λ κs. (LL.tells S.the-type S′.the-laws, (LL.tells S.the-type S′.the-laws, (mut-slice-tells (named 0) (κs .0) D.the-row, tt))))
-      (λ κs qs bounds a g are. via 𝓤 _ (fst∗ 𝓤 _ (emp 𝓤)) (walk 𝓤 H A W mem′ run (κs .0) (qs .0) (a .1 .1 .0 .ptr .0) (a .1 .1 .0 .ptr .1) (a .1 .1 .0 .name) (a .1 .1 .0 .now) (a .0) (a .1 .0) 10240 (lit< tt, lit< tt) long (are .0) (are .1 .0) (are .1 .1 .0 .0 .1) C Λ fm front out))
+      (λ κs qs bounds a g are. via 𝓤 _ (fst∗ 𝓤 _ (emp 𝓤)) (walk 𝓤 H A W mem′ run (κs .0) (qs .0) (a .1 .1 .0 .ptr .0) (a .1 .1 .0 .ptr .1) (a .1 .1 .0 .name) (a .1 .1 .0 .now) (a .0) (a .1 .0) many (lit< tt, lit< tt) long (are .0) (are .1 .0) (are .1 .1 .0 .0 .1) C Λ fm front out))
     where
-      long : 2 * limit ≤ recordsIn (zeros 10240)
-      long = subst (λ (m : ℕ). 2 * limit ≤ m / 5) (sym (length-zeros 10240)) (lit≤ tt)
+      long : 2 * limit ≤ recordsIn (zeros many)
+      long = subst (λ (m : ℕ). 2 * limit ≤ m / 5) (sym (length-zeros many)) (lit≤ tt)
 
 round-meets : {M : Type 1} (𝓤 : URA M) (H : Heap 𝓤) (A : Atoms 𝓤) → Given 𝓤 H A → (mem′ : Memory → SProp 𝓤) (run : Routine → Fun 𝓤) (𝓣 : Tables 𝓤 H) → Triple 𝓤 (𝓣 .C #round-front) (RoundFront 𝓤 H A mem′ run) → Triple 𝓤 (𝓣 .C #copy-out) (CopyOut 𝓤 H A mem′ run)
     → Meets 𝓤 H A round.signature (WpFn 𝓤 H (𝓣 .C) (𝓣 .Λ) code.function) (round.spec 𝓤 H A mem′ run)
