@@ -1,5 +1,5 @@
 -- Laws of specs/Log. In order: a record in words, one law for each way that the code goes; the first words; records stored one after the other; a round
--- on the first words, which no record of a round exceeds, and that storing its records is the round over records. Assumes nothing.
+-- on the first words, which no record of a round exceeds, and that storing its records is the round over records; one record read. Assumes nothing.
 use Prim.Native.Nat.{ℕ, zero, suc, _*_, _/_, _%_, _≤_, _<_, min}
 use mathlib.Core.Bool.{Bool, true, false, cond}
 use mathlib.Core.List.{List, _∷_, _++_, append-assoc}
@@ -20,7 +20,7 @@ use Rattle.rule.specs.declared.delivery.Delivery.{Delivery}
 use Rattle.rule.specs.declared.answer.Met.{Met}
 use Rattle.rule.specs.Round.{union, Line, transcript}
 use Rattle.rule.specs.Call.{writtenOver, deliveryWords, roundQuestions, roundBy, met, metLent, metWords}
-use Rattle.rule.proofs.CallLaws.{RoundYes, roundQuestions-yes, met-done, met-refused, met-bounded, roundYes-rounded, metLent-done, metLent-refused, metWords-done}
+use Rattle.rule.proofs.CallLaws.{RoundYes, roundQuestions-yes, met-done, met-refused, roundYes-rounded, metLent-done, metLent-refused, metWords-done}
 use Rattle.rule.proofs.Words.{length-deliveryWords}
 use Rattle.transcript.specs.Core.{recordsIn, claimIn}
 use Rattle.transcript.proofs.WordsLaws.{length-over, sender-at, claim-at}
@@ -120,14 +120,6 @@ module _ (s t : Store) where
       go : (c : Bool) → leb u limit ≡ c → last (leb u limit) (leb (2 * u) (min n m)) ≡ last (leb u limit) (leb (2 * u) n)
       go true e = let a : u ≤ limit = leb-true u limit e in ap (last (leb u limit)) (leb-min (2 * u) n m (omega arith))
       go false e = rw e
-
-  pub met-short : (n : ℕ) → met s t n .deliveries ≤ n
-  met-short n =
-      ⊎-elim
-      {C = met s t n .deliveries ≤ n}
-      (λ (h : firstNo (roundQuestions s t n) ≡ 0). omega (arith, met-bounded s t n, roundQuestions-yes s t n h .room))
-      (λ (f : firstNo (roundQuestions s t n) ≡ 0 → ⊥). rw (met-refused s t n f) (omega arith))
-      (eq-or-ne (firstNo (roundQuestions s t n)) 0)
 
 module _ (s t : Store) (words : List ℕ) (long : 2 * limit ≤ recordsIn words) where
   pub met-front : (n : ℕ) → met s t (frontRecords words n) ≡ met s t n

@@ -1,8 +1,7 @@
 // The lent run of transcript records, as a slice of delivery structs (document 01, "A round"): a record stored, a record read, and the round over them.
 // The round's core works on words (`transcript`). Its words stand in a local array here, and each record is stored once.
-// put, get, copy_out and round hold a reference to structs, so their proofs are walks by hand; the others are covered.
+// put, get, copy_out, round and round_record hold or make a reference to structs, so their proofs are walks by hand; the others are covered.
 ghost use mathlib.Core.Path.{_≡_};
-ghost use Prim.Native.Nat.{_≤_};
 ghost use lib.ListN.{length, set, getD};
 ghost use Rattle.rule.specs.Call.{met, metLent};
 ghost use Rattle.rounds.specs.Log.{noDelivery, deliveryIn, copied, frontRecords, frontWords, recorded};
@@ -54,12 +53,11 @@ fn delivery_in(words: &[u64], at: usize) -> Delivery
 
 // Stores the first n records that lie in words.
 fn copy_out(log: &mut [Delivery], words: &[u64], n: usize)
-    requires { ⌜ n ≤ length (now log) ⌝ }
     ensures { λ _. ⌜ now (log .exit) ≡ copied n (now (words .entry)) (now (log .entry)) ⌝ }
 {
     let mut i = 0;
     while i < n {
-        log[i] = delivery_in(words, i);
+        put(log, i, delivery_in(words, i));
         i += 1;
     }
 }

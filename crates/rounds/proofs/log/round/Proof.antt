@@ -60,7 +60,7 @@ use Rattle.rule.proofs.answer.Met as R
 use Rattle.rule.proofs.answer.Met.Laws as R′
 use Rattle.transcript.specs.Core.{recordsIn}
 use Rattle.rounds.specs.Log.{copied, frontRecords, frontWords}
-use Rattle.rounds.proofs.LogLaws.{met-front, met-lent, met-short}
+use Rattle.rounds.proofs.LogLaws.{met-front, met-lent}
 use Rattle.rounds.proofs.LogWalk.{word, records}
 use Rattle.rounds.proofs.ArrayLent.{array-cells, array-room, repeated-are, big-lit}
 use Rattle.rounds.proofs.log.round_front as round-front
@@ -194,11 +194,12 @@ module _ {M : Type 1} (𝓤 : URA M) (H : Heap 𝓤) (A : Atoms 𝓤) (W : Given
         nothing ! $ move ! (1 ∷ 0 ∷ []) $ join ! $ frame ! $ nothing ! $ owned ! usize (Is usize) (uint-makes 𝓤 H A W w64) (length ys) _ (refl, gn .0) $ fjoin ! $ move ! (1 ∷ 0 ∷ []) $ fjoin ! $
         owned ! S.the-row (Is S.the-row) (LL.makes S.the-type S′.the-plain 𝓤 H A) right _ gr $ fjoin ! $ owned ! S.the-row (Is S.the-row) (LL.makes S.the-type S′.the-plain 𝓤 H A) left _ gl $ fjoin ! $ done !
 
-    asks-copy : (l : ℕ) (δ : GName) (ν : ℕ) (zs : List ℕ) (n : ℕ) → n < 2 ^ 64 → n ≤ length ys
+    asks-copy : (l : ℕ) (δ : GName) (ν : ℕ) (zs : List ℕ) (n : ℕ) → n < 2 ^ 64
         → ent 𝓤 (sep 𝓤 (sep 𝓤 (A .lft κ q) (sep 𝓤 (A .lft (ν ∷ []) fullShare) (sem 𝓤 H A ftrue))) (sep 𝓤 (sem 𝓤 H A Own) (sem 𝓤 H A (ShrSlice (named 1) (ν ∷ []) u64 .own (w l δ zs) (sliceVal (l, 0) (length zs) ∷ [])))))
         (CopyOut 𝓤 H A mem′ run .pre (to-copy l δ ν zs n))
-    asks-copy l δ ν zs n fits within =
-        qed W ((‵ (flft κ q) ⊛ ‵ (flft (ν ∷ []) fullShare) ⊛ ‵ ftrue) ∷ ‵ Own ∷ ‵ (ShrSlice (named 1) (ν ∷ []) u64 .own (w l δ zs) (sliceVal (l, 0) (length zs) ∷ [])) ∷ []) ∵ says ! within $ frame ! $
+    asks-copy l δ ν zs n fits =
+        qed W ((‵ (flft κ q) ⊛ ‵ (flft (ν ∷ []) fullShare) ⊛ ‵ ftrue) ∷ ‵ Own ∷ ‵ (ShrSlice (named 1) (ν ∷ []) u64 .own (w l δ zs) (sliceVal (l, 0) (length zs) ∷ [])) ∷ []) ∵
+        suffices ! (onEntry 𝓤 H A copy-out.signature (κ, (ν ∷ [], tt)) (q, (fullShare, tt)) (x, (w l δ zs, (n, tt))) (s ∷ [], (sliceVal (l, 0) (length zs) ∷ [], (vint w64 n ∷ [], tt)))) (∗emp 𝓤 _) $ frame ! $
         nothing ! $ owned ! usize (Is usize) (uint-makes 𝓤 H A W w64) n _ (refl, fits) $ fjoin ! $ move ! (2 ∷ 0 ∷ []) $ fjoin ! $ move ! (1 ∷ 0 ∷ []) $ fjoin ! $ done !
 
     exits : (r : Met) (zs : List Delivery) → Is R.the-row r (result r ∷ []) → (r ≡ met left right (length ys)) × (zs ≡ metLent left right ys) → length zs ≡ length ys
@@ -239,7 +240,7 @@ module _ {M : Type 1} (𝓤 : URA M) (H : Heap 𝓤) (A : Atoms 𝓤) (W : Given
             lft-new ! tt (λ ν. move ! (1 ∷ []) $ use1 W (‵ (row u64 fullShare zs l₄ 0)) (whole-out 𝓤 H A W u64 zs l₄ 0) $ feqI ! ℕ (length zs) (length zs) refl $ fjoin ! $
             use1 W (later (some (λ (δ : GName). ‵ (ShrSlice (named 1) (ν ∷ []) u64 .own (w l₄ δ zs) (sliceVal (l₄, 0) (length zs) ∷ [])) ⊛ ‵ (flent (ν ∷ []) (arr-parts (shares u64) (length zs) .part fullShare zs l₄ 0)))))
             (lends-shr-slice 𝓤 H A W u64 (named 1) (ν ∷ []) fullShare zs l₄ 0 (subst (Room u64) (sym n-is) gN)) $ await ! tt $ pick ! (λ δ. split ! $
-            nothing ! $ move ! (3 ∷ 0 ∷ []) $ join ! $ move ! (3 ∷ 0 ∷ []) $ join ! $ move ! (0 ∷ 3 ∷ 1 ∷ []) $ use3 W (raw (CopyOut 𝓤 H A mem′ run .pre (to-copy l₄ δ ν zs (r .deliveries)))) (asks-copy l₄ δ ν zs (r .deliveries) fits within) $
+            nothing ! $ move ! (3 ∷ 0 ∷ []) $ join ! $ move ! (3 ∷ 0 ∷ []) $ join ! $ move ! (0 ∷ 3 ∷ 1 ∷ []) $ use3 W (raw (CopyOut 𝓤 H A mem′ run .pre (to-copy l₄ δ ν zs (r .deliveries)))) (asks-copy l₄ δ ν zs (r .deliveries) fits) $
             calls-at ! fm (CopyOut 𝓤 H A mem′ run) out (to-copy l₄ δ ν zs (r .deliveries))
             (and-then ! (load ! (from ! (stop !)) (look ! 6 refl)) (and-then ! (load ! (from ! (stop !)) (look ! 2 refl)) (and-then ! (load ! (from ! (fld ! refl (stop !))) (look-in ! 18 (sub ! 3 refl (whole !)))) (no-more !)))) (λ v.
             use1 W (later (some (λ (u : Unit {0}). ((‵ (flft κ q) ⊛ ‵ (flft (ν ∷ []) fullShare) ⊛ ‵ ftrue) ⊛ ‵ (unit .own u (v ∷ []))) ⊛ raw (ensured 𝓤 H A copy-out.ended (copy-out.clauses 𝓤 H A mem′ run) (κ, (ν ∷ [], tt)) (x, (w l₄ δ zs, (r .deliveries, tt))) tt u)))) (id⊢ 𝓤 _) $
@@ -257,9 +258,6 @@ module _ {M : Type 1} (𝓤 : URA M) (H : Heap 𝓤) (A : Atoms 𝓤) (W : Given
             move ! (14 ∷ 15 ∷ []) $ free1 ! $ move ! (12 ∷ 13 ∷ []) $ free1 ! $ move ! (10 ∷ 11 ∷ []) $ free1 ! $ move ! (8 ∷ 9 ∷ []) $ free1 ! $ move ! (6 ∷ 7 ∷ []) $ free1 ! $ move ! (4 ∷ 5 ∷ []) $ free1 ! $ move ! (2 ∷ 3 ∷ []) $ free1 ! $ free0 ! $
             by ! (exits r (ls .0) is (r-is, e ∙ copied-is) l)))))))))
           where
-            within : r .deliveries ≤ length ys
-            within = subst (λ (m : Met). m .deliveries ≤ length ys) (sym r-is) (met-short left right (length ys))
-
             fits : r .deliveries < 2 ^ 64
             fits = LL.owed R.the-type R′.the-laws r _ is .1 .1 .1 .0 .1
 
