@@ -56,8 +56,9 @@ fn needed(call: u64) -> usize {
         card::LEFT, // image_length
         card::PAST_NODE, // ordered
         card::RIGHT, // Store::empty
+        card::PAST_BOTH, // round_record
     ];
-    if call < 15 {
+    if call < 16 {
         return by_number[call as usize];
     }
     usize::MAX
@@ -88,7 +89,8 @@ fn on_words(call: u64, words: &mut [u64; MOST], n: usize) -> Said {
         6 => beat(words, n),
         7 => round_words(words, n),
         13 => ordered(words),
-        _ => empty(words),
+        14 => empty(words),
+        _ => round_record(words),
     }
 }
 
@@ -229,15 +231,31 @@ fn round_words(words: &mut [u64; MOST], n: usize) -> Said {
     let left = card::store_at(words, card::LEFT);
     let right = card::store_at(words, card::RIGHT);
     let met = met_on(left, right, &mut words[..], end);
-    let one = met.left;
-    let other = met.right;
-    card::put_store(words, card::LEFT, one);
-    card::put_store(words, card::RIGHT, other);
+    put_met(words, met)
+}
+
+fn put_met(words: &mut [u64; MOST], met: Met) -> Said {
+    let left = met.left;
+    let right = met.right;
+    card::put_store(words, card::LEFT, left);
+    card::put_store(words, card::RIGHT, right);
     Said {
         made: true,
         number: met.number,
         count: met.deliveries,
     }
+}
+
+fn round_record(words: &mut [u64; MOST]) -> Said {
+    let left = card::store_at(words, card::LEFT);
+    let right = card::store_at(words, card::RIGHT);
+    let recorded = rounds::round_record(left, right, get(words, card::FIRST) as usize);
+    let met = recorded.met;
+    let delivery = recorded.delivery;
+    let claim = delivery.claim;
+    card::put_claim(words, card::CLAIMS, claim);
+    put(words, card::CLAIMS + 4, delivery.sender as u64);
+    put_met(words, met)
 }
 
 fn read_frame(words: &mut [u64; MOST], lent: &[u8]) -> Said {

@@ -1,6 +1,6 @@
 -- The lent run of transcript records (document 01, "A round"): the record that stands where there is none; then what our own functions between the words
--- of a round's core and the records do, for any content. These last are no rule of document 01: that together they are the round of Call is a law
--- (`met-front` and `met-lent` of proofs/LogLaws). Assumes nothing.
+-- of a round's core and the records do, for any content. These are no rule of document 01: that together they are the round of Call is a law
+-- (`met-front` and `met-lent` of proofs/LogLaws). Last, a round over records of its own. Assumes nothing.
 use Prim.Native.Nat.{ℕ, zero, suc, _*_, _%_, min}
 use mathlib.Core.Bool.{cond}
 use mathlib.Core.List.{List, _++_}
