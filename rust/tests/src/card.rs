@@ -11,11 +11,15 @@ const COUNT: usize = 1;
 const FIRST: usize = 2;
 const SECOND: usize = 3;
 const CLAIMS: usize = 4;
+const SENDER: usize = 8;
 const LEFT: usize = 20;
 const RIGHT: usize = LEFT + 1_025;
 const TABLE: usize = RIGHT + 1;
 pub const PAST_NODE: usize = TABLE + 4 * 64;
 pub const PAST_BOTH: usize = RIGHT + 1_025;
+
+/// The records that a round can fill.
+pub const RECORDS: usize = 2_048;
 
 /// A request, the reply expected, and what it shows.
 pub struct Case {
@@ -288,6 +292,41 @@ pub fn round_case(left: RawStore, right: RawStore, lent: usize, noise: Noise) ->
         .on("a false match", run && false_matches > 0)
         .on("met", run && met)
         .on("not met yet", run && !met)
+}
+
+/// A round over records of zeros, as many as a round can fill, and the one at
+/// the place that `at` draws, which is told the number of deliveries.
+pub fn record_case(
+    left: RawStore,
+    right: RawStore,
+    at: impl FnOnce(usize) -> usize,
+    noise: Noise,
+) -> Case {
+    let mut given = Card::noise(PAST_BOTH, 0, noise);
+    given.put_store(LEFT, &left);
+    given.put_store(RIGHT, &right);
+    let mut records = vec![Delivery::default(); RECORDS];
+    let met = round(left, right, &mut records);
+    let deliveries = met.deliveries;
+    let at = at(deliveries);
+    given.words[FIRST] = at as u64;
+    let case = case(Call::RoundRecord, given, |card| {
+        let record = records.get(at).copied().unwrap_or_default();
+        card.answer(met.number, deliveries);
+        card.put_store(LEFT, &met.left);
+        card.put_store(RIGHT, &met.right);
+        card.put_claim(CLAIMS, &record.claim);
+        card.words[SENDER] = u64::from(record.sender);
+        met.number
+    });
+    let run = case.number == 0;
+    let many = deliveries > 100;
+    let last = deliveries.saturating_sub(1);
+    case.on("the first of many", many && at == 0)
+        .on("one of many", many && 0 < at && at < last)
+        .on("the last of many", many && at == last)
+        .on("just past the deliveries", run && at == deliveries)
+        .on("past the records", run && at >= RECORDS)
 }
 
 /// The first `lent` of some bytes as a frame.

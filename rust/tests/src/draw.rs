@@ -312,6 +312,19 @@ impl Rng {
             all.sort_unstable();
             all.dedup();
         }
+        self.dealt(all)
+    }
+
+    /// Two stores in order, of a few keys together.
+    pub fn small_pair(&mut self) -> (Vec<u64>, Vec<u64>) {
+        let density = self.density();
+        let count = self.below(10);
+        let all = self.keys_of(count, density);
+        self.dealt(all)
+    }
+
+    /// Each key for one store or for both, at odds that are drawn.
+    fn dealt(&mut self, all: Vec<u64>) -> (Vec<u64>, Vec<u64>) {
         let odds = self.pick(&[1, 1, 2, 3, 8, 24, 200, 1_000]);
         let mut left = Vec::new();
         let mut right = Vec::new();

@@ -25,6 +25,7 @@ pub enum Call {
     ImageLength,
     Ordered,
     Empty,
+    RoundRecord,
 }
 
 /// The words and bytes of a request, or of the reply to it.

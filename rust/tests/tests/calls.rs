@@ -4,7 +4,7 @@
 
 use second::*;
 use tests::card::*;
-use tests::cases::{Seen, compare, one_seed};
+use tests::cases::{Seen, compare, for_seeds, one_seed};
 use tests::draw::{Rng, frame_of, image_of};
 use tests::drill::{Call, Card, Drill, request_bytes};
 
@@ -180,6 +180,38 @@ fn beats() {
     });
 }
 
+/// The keys of two stores for a round, alike and nearly full more often than
+/// others.
+fn pair_for_round(rng: &mut Rng) -> (Vec<u64>, Vec<u64>) {
+    let (mut left, mut right) = rng.pair();
+    match rng.below(16) {
+        0 | 1 => {
+            left = rng.nearly_full().0;
+            right = left.clone();
+        }
+        2 => {
+            left = rng.nearly_full().0;
+            right = left.clone();
+            let at = rng.below(right.len());
+            right.remove(at);
+        }
+        3 => right = rng.nearly_full().0,
+        _ => {}
+    }
+    (left, right)
+}
+
+/// Their stores, once in eight out of order.
+fn stores_for_round(rng: &mut Rng, left: &[u64], right: &[u64]) -> [RawStore; 2] {
+    let mut stores = [RawStore::of(left), RawStore::of(right)];
+    if rng.one_in(8) {
+        let density = rng.density();
+        let at = rng.below(2);
+        rng.bend_store(&mut stores[at], density);
+    }
+    stores
+}
+
 #[test]
 fn rounds() {
     let ways = [
@@ -192,29 +224,10 @@ fn rounds() {
         "two full stores alike",
     ];
     run(5_000, &[0, 1, 8, 9], &ways, |rng| {
-        let (mut left, mut right) = rng.pair();
-        match rng.below(16) {
-            0 | 1 => {
-                left = rng.nearly_full().0;
-                right = left.clone();
-            }
-            2 => {
-                left = rng.nearly_full().0;
-                right = left.clone();
-                let at = rng.below(right.len());
-                right.remove(at);
-            }
-            3 => right = rng.nearly_full().0,
-            _ => {}
-        }
+        let (left, right) = pair_for_round(rng);
         let union = questions::union_count(&left, &right);
         let full = left.len() == 1_024 && left == right;
-        let mut stores = [RawStore::of(&left), RawStore::of(&right)];
-        if rng.one_in(8) {
-            let density = rng.density();
-            let at = rng.below(2);
-            rng.bend_store(&mut stores[at], density);
-        }
+        let stores = stores_for_round(rng, &left, &right);
         let records = match rng.below(6) {
             0 => (2 * union).saturating_sub(1),
             1 | 2 => 2 * union,
@@ -232,6 +245,56 @@ fn rounds() {
             run && records == 2 * union && union > 0,
         )
         .on("two full stores alike", run && full)
+    });
+}
+
+/// `rounds::round_record`, which lends records to `rounds::round` and reads one
+/// by `rounds::get`: the first, the last, others, and those that are none.
+#[test]
+fn rounds_round_record() {
+    let ways = [
+        "the first of many",
+        "one of many",
+        "the last of many",
+        "just past the deliveries",
+        "past the records",
+    ];
+    run(4_000, &[0, 1, 8], &ways, |rng| {
+        let (left, right) = pair_for_round(rng);
+        let [left, right] = stores_for_round(rng, &left, &right);
+        let mut noise = noise(rng);
+        let at = |deliveries: usize| match rng.below(8) {
+            0 | 1 => 0,
+            2 | 3 => deliveries.saturating_sub(1),
+            4 => deliveries,
+            5 => rng.pick(&[RECORDS - 1, RECORDS, RECORDS + 1, 1 << 63, usize::MAX]),
+            _ => rng.below(deliveries.max(1)),
+        };
+        record_case(left, right, at, &mut noise)
+    });
+}
+
+/// `rounds::round_record` at every place of a round of few keys, and at the
+/// one after its last delivery.
+#[test]
+fn rounds_round_record_of_few_keys_whole() {
+    let mut drill = Drill::start();
+    for_seeds(300, |_, rng| {
+        let (left, right) = rng.small_pair();
+        let stores = stores_for_round(rng, &left, &right);
+        let mut at = 0;
+        let mut deliveries = 0;
+        while at <= deliveries {
+            let [left, right] = stores.clone();
+            let place = |told| {
+                deliveries = told;
+                at
+            };
+            let case = record_case(left, right, place, &mut noise(rng));
+            let reply = drill.ask(case.call, &case.given);
+            assert_eq!(case.differs(&reply), None);
+            at += 1;
+        }
     });
 }
 
@@ -414,8 +477,8 @@ fn refuses_requests_that_it_cannot_read() {
         cut(&judge, 24),
         cut(&judge, judge.len() - 1),
         with(0, 20, 0),
-        with(15, 1_302, 0),
-        with(u64::MAX, 1_302, 0),
+        with(16, 2_070, 0),
+        with(u64::MAX, 2_070, 0),
         // Too few words.
         with(1, 1_044, 0),
         with(2, 1_044, 0),
@@ -424,6 +487,7 @@ fn refuses_requests_that_it_cannot_read() {
         with(5, 1_301, 0),
         with(13, 1_301, 0),
         with(14, 1_044, 0),
+        with(15, 2_069, 0),
         // More lent than is there.
         with(6, 1_302, 0),
         with(7, 2_070, 0),
