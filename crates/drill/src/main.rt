@@ -9,7 +9,8 @@
 // The words of every request, by place:
 //     0            the answer's number: of the first question answered no, or 0
 //     1            the answer's count: of claims (read_frame), of claims written (beat), of deliveries (round_words, round_record), of bytes
-//                  (write_frame, write_image, image_length), 1 or 0 for yes or no (ordered), or which kind of reply (0 match, 1 ask, 2 one, 3 two; 0 if refused)
+//                  (write_frame, write_image, image_length), 1 or 0 for yes or no (ordered), or which kind of reply (0 match, 1 ask, 2 one,
+//                  3 two; 0 if refused)
 //     2            the first argument: the key (enter), the first position (make), n (write_frame), the record's place (round_record)
 //     3            the second argument: the last position (make), or how many words or bytes are lent; what comes after those is not lent
 //     4 to 19      four claims, each lo, hi, sum, cnt (of cnt the low 16 bits count). The first is the argument of reply, judge and take; the

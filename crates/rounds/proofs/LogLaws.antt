@@ -57,7 +57,7 @@ module _ (words : List ℕ) (records n : ℕ) (e : n ≡ frontRecords words reco
 
 pub length-copied : (n : ℕ) (words : List ℕ) (lent : List Delivery) → length (copied n words lent) ≡ length lent
 length-copied zero words lent = refl
-length-copied (suc n) words lent = length-set (copied n words lent) n (deliveryIn words n) ∙ length-copied n words lent
+length-copied (suc n) words lent = length-set (copied n words lent) n _ ∙ length-copied n words lent
 
 module _ (lent : List ℕ) where
   -- the record after those in front
