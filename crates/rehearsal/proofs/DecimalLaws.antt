@@ -1,5 +1,4 @@
--- Laws of numbers as text: one digit, one digit more, how many digits there are, that the text is the number's, and the text at a place of a buffer.
--- Assumes nothing.
+-- Laws of numbers as text: one digit, one digit more, how many digits there are, and that the text is the number's. Assumes nothing.
 use Prim.Native.Nat.{ℕ, zero, suc, _+_, _-_, _*_, _/_, _%_, _^_, _≤_, _<_}
 use native.Mathlib.Nat.{pow-succ', mul-left-comm}
 use native.Mathlib.Numerals.{add-one}
@@ -8,12 +7,9 @@ use mathlib.Core.List.{List, [], _∷_, _++_}
 use mathlib.Core.Logic.{⊎-elim}
 use mathlib.Core.Path.{_≡_, refl, ap, sym, _∙_}
 use borrow.Author.Tests.{lt-ltb, le-ltb}
-use lib.ListN.{length, set, length-append}
+use lib.ListN.{length, length-append}
 use Rattle.keys.proofs.Tests.{lt-or-le}
-use Rattle.wire.specs.Place.{putAt}
-use Rattle.wire.proofs.Places.{putAt-snoc}
 use Rattle.rehearsal.specs.Decimal.{digit, decimalIn, decimal, digitLimit, value}
-use Rattle.rehearsal.proofs.WrittenLaws.{putAt-one}
 
 -- ---- how often over makes no difference
 
@@ -112,15 +108,3 @@ value-decimalIn (suc f) n p =
 pub value-decimal : (n : ℕ) → value (decimal n) ≡ n
 unfolding decimal
 value-decimal n = value-decimalIn n n (omega arith)
-
--- ---- at a place of a buffer
-
--- the last digit may be written first, and then the text of the tenth
-pub putAt-decimal : (s : List ℕ) (at n i : ℕ) → 10 ≤ n → i ≡ length (decimal n) → at + i ≤ length s
-    → putAt (set s (at + (i - 1)) (digit (n % 10))) at (decimal (n / 10)) ≡ putAt s at (decimal n)
-putAt-decimal s at n i h e p =
-    let w : length (decimal (n / 10)) ≡ i - 1 = omega (arith, length-decimal-step n h) in
-    putAt-snoc s at (decimal (n / 10)) (digit (n % 10)) (i - 1) w (omega (arith, length-decimal-some (n / 10))) ∙ sym (ap (putAt s at) (decimal-step n h))
-
-pub putAt-digit : (s : List ℕ) (at n : ℕ) → n < 10 → at < length s → set s at (digit n) ≡ putAt s at (decimal n)
-putAt-digit s at n h p = putAt-one s at (digit n) p ∙ sym (ap (putAt s at) (decimal-digit n h))

@@ -1,9 +1,16 @@
--- The laws of `rehearsal`, by topic. A file uses only those named before it.
---   RehearsalLaws  what is decided, each way that the code goes; the deliveries fit the records
---   WrittenLaws    text at a place of a buffer
+-- The laws of `rehearsal`, by topic. A file uses only those named before it. XLaws has laws of what specs/X means, XPaths one law for each way that
+-- src/x.rt goes.
+--   RehearsalLaws  what is decided by a number; the deliveries fit the records
+--   RunPaths       the two images and the round
+--   PutLaws        text at a place of a buffer
 --   DecimalLaws    numbers as text
---   TextLaws       what is printed, each way that the code goes
+--   DigitsPaths    digits put at a place
+--   TextLaws       the lines of deliveries
+--   PagePaths      lines, and the whole text
 pub mod RehearsalLaws
-pub mod WrittenLaws
+pub mod RunPaths
+pub mod PutLaws
 pub mod DecimalLaws
+pub mod DigitsPaths
 pub mod TextLaws
+pub mod PagePaths

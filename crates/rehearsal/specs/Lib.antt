@@ -2,8 +2,8 @@
 --   Rehearsal  what is decided: the two images, the questions, the round
 --   Decimal    numbers as text
 --   Text       what is printed
---   Written    text at a place of a buffer, as the code says it
+--   Put        text at a place of a buffer, as the code says it
 pub mod Rehearsal
 pub mod Decimal
 pub mod Text
-pub mod Written
+pub mod Put

@@ -2,6 +2,7 @@
 -- their order, what is returned and what the lent words hold afterwards. Not here: what is printed (Text). Assumes nothing.
 use Prim.Native.Nat.{ℕ, _/_}
 use mathlib.Core.List.{List, _∷_, _++_}
+use mathlib.Core.Path.{_≡_}
 use lib.ListN.{length, take, drop}
 use Rattle.keys.specs.declared.store.Store.{Store}
 use Rattle.claims.specs.Question.{Question, firstNo, settle}
@@ -48,24 +49,34 @@ roundTold left right = record {
 abbrev pub roundWords : Store → Store → List ℕ → List ℕ
 roundWords left right lent = writtenOver (deliveryWords (transcript (roundBy left right))) lent
 
+-- What is decided by a number, that of the first question answered no or 0, for the round of two stores: what is returned, and the lent words afterwards.
+unfoldable pub toldBy : ℕ → Store → Store → Rehearsed
+toldBy n left right = settle n (roundTold left right) noRehearsal
+
+unfoldable pub wordsBy : ℕ → Store → Store → List ℕ → List ℕ
+wordsBy n left right lent = settle n (roundWords left right lent) (λ k. lent)
+
+-- the number of a rehearsal that lends so many records
+unfoldable pub rehearseNumber : List ℕ → ℕ → ℕ
+rehearseNumber input records = firstNo (rehearseQuestions input records)
+
 -- The rehearsal of an input that lends so many records. Where they are fewer than twice the keys of the union, it is refused with 9.
 unfoldable pub rehearsed : List ℕ → ℕ → Rehearsed
-rehearsed input records =
-    settle (firstNo (rehearseQuestions input records))
-    (roundTold (storeIn (firstBytes input)) (storeIn (secondBytes input)))
-    noRehearsal
+rehearsed input records = toldBy (rehearseNumber input records) (storeIn (firstBytes input)) (storeIn (secondBytes input))
 
 -- the lent words afterwards; the records are a fifth of them
 unfoldable pub rehearsedWords : List ℕ → List ℕ → List ℕ
-rehearsedWords input lent =
-    settle (firstNo (rehearseQuestions input (length lent / 5)))
-    (roundWords (storeIn (firstBytes input)) (storeIn (secondBytes input)) lent)
-    (λ n. lent)
+rehearsedWords input lent = wordsBy (rehearseNumber input (length lent / 5)) (storeIn (firstBytes input)) (storeIn (secondBytes input)) lent
 
--- the same once the first image has given the left store
-unfoldable pub afterFirst : Store → List ℕ → ℕ → Rehearsed
-afterFirst left rest records = settle (firstNo (questionsAfter left rest records)) (roundTold left (storeIn rest)) noRehearsal
+-- What the code says of a rehearsal: what it returned, and what the lent words hold afterwards.
+pub record Rehearsal (input lent : List ℕ) (r : Rehearsed) (after : List ℕ) : Type 0 where
+  pub told : r ≡ rehearsed input (length lent / 5)
+  pub words : after ≡ rehearsedWords input lent
 
-unfoldable pub afterFirstWords : Store → List ℕ → List ℕ → List ℕ
-afterFirstWords left rest lent =
-    settle (firstNo (questionsAfter left rest (length lent / 5))) (roundWords left (storeIn rest) lent) (λ n. lent)
+-- The same once the first image has given the left store.
+unfoldable pub numberAfter : Store → List ℕ → ℕ → ℕ
+numberAfter left rest records = firstNo (questionsAfter left rest records)
+
+pub record AfterFirst (left : Store) (rest lent : List ℕ) (r : Rehearsed) (after : List ℕ) : Type 0 where
+  pub told : r ≡ toldBy (numberAfter left rest (length lent / 5)) left (storeIn rest)
+  pub words : after ≡ wordsBy (numberAfter left rest (length lent / 5)) left (storeIn rest) lent

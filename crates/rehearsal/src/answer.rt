@@ -1,6 +1,11 @@
 // What a rehearsal answers. The number is that of the first question of document 01 answered no, or 0.
 
-use crate::page;
+// How long a number and the space before it, a line and the last line are at most.
+const FIELD: usize = 1 + 20;
+
+const LINE: usize = 1 + 4 * FIELD + 1;
+
+const LAST: usize = 4 + FIELD + (6 + FIELD) + (7 + FIELD) + 1;
 
 // Both counts after the round and the number of deliveries; zeros where the rehearsal was refused.
 pub struct Rehearsed {
@@ -18,5 +23,5 @@ impl Rehearsed {
     pub const WORDS: usize = 5 * Rehearsed::RECORDS;
 
     // The longest text: a line for each record, each number of it 20 digits, and the last line.
-    pub const TEXT: usize = page::LINE * Rehearsed::RECORDS + page::LAST;
+    pub const TEXT: usize = LINE * Rehearsed::RECORDS + LAST;
 }

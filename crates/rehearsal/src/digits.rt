@@ -3,7 +3,7 @@ ghost use mathlib.Core.Path.{_≡_};
 ghost use Prim.Native.Nat.{_+_, _≤_};
 ghost use lib.ListN.{length};
 ghost use Rattle.rehearsal.specs.Decimal.{decimal, digitLimit};
-ghost use Rattle.rehearsal.specs.Written.{Written};
+ghost use Rattle.rehearsal.specs.Put.{Put};
 
 // How many digits a number has.
 fn digit_count(n: u64) -> usize
@@ -21,7 +21,7 @@ fn digit_count(n: u64) -> usize
 // Puts the digits of a number at a place, the last digit first, and says where they end.
 pub(crate) fn put_decimal(out: &mut [u8], at: usize, n: u64) -> usize
     requires { ⌜ at + digitLimit ≤ length (now out) ⌝ }
-    ensures { λ r. ⌜ Written (now (out .entry)) at (decimal n) r (now (out .exit)) × (r ≤ at + digitLimit) ⌝ }
+    ensures { λ r. ⌜ Put (now (out .entry)) at (decimal n) digitLimit r (now (out .exit)) ⌝ }
 {
     let count = digit_count(n);
     let mut rest = n;

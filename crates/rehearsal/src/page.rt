@@ -5,21 +5,14 @@ use crate::run::rehearse;
 ghost use mathlib.Core.Path.{_≡_};
 ghost use Prim.Native.Nat.{_+_, _*_, _≤_};
 ghost use lib.ListN.{length};
-ghost use Rattle.rule.specs.Call.{writtenOver};
-ghost use Rattle.rehearsal.specs.Text.{field, labelled, letter, fourAt, rowAt, rows, lastLine, refusedLine, lentRecords, printed, fieldLimit, lineLimit, lastLimit};
-ghost use Rattle.rehearsal.specs.Written.{Written};
-
-// How long a number and the space before it, a line and the last line are at most.
-const FIELD: usize = 1 + 20;
-
-pub(crate) const LINE: usize = 1 + 4 * FIELD + 1;
-
-pub(crate) const LAST: usize = 4 + FIELD + (6 + FIELD) + (7 + FIELD) + 1;
+ghost use Rattle.rehearsal.specs.Put.{Put};
+ghost use Rattle.rehearsal.specs.Text.{field, labelled, letter, fourAt, rowAt, rows, lastLine, refusedLine};
+ghost use Rattle.rehearsal.specs.Text.{lentRecords, printed, fieldLimit, lineLimit, lastLimit, textLimit};
 
 // A run of bytes.
 fn put_bytes(out: &mut [u8], at: usize, bytes: &[u8]) -> usize
     requires { ⌜ at + length (now bytes) ≤ length (now out) ⌝ }
-    ensures { λ r. ⌜ Written (now (out .entry)) at (now (bytes .entry)) r (now (out .exit)) ⌝ }
+    ensures { λ r. ⌜ Put (now (out .entry)) at (now (bytes .entry)) (length (now (bytes .entry))) r (now (out .exit)) ⌝ }
 {
     let mut i: usize = 0;
     while i < bytes.len() {
@@ -32,7 +25,7 @@ fn put_bytes(out: &mut [u8], at: usize, bytes: &[u8]) -> usize
 // A number, and the space before it.
 fn put_field(out: &mut [u8], at: usize, n: u64) -> usize
     requires { ⌜ at + fieldLimit ≤ length (now out) ⌝ }
-    ensures { λ r. ⌜ Written (now (out .entry)) at (field n) r (now (out .exit)) × (r ≤ at + fieldLimit) ⌝ }
+    ensures { λ r. ⌜ Put (now (out .entry)) at (field n) fieldLimit r (now (out .exit)) ⌝ }
 {
     out[at] = b' ';
     put_decimal(out, at + 1, n)
@@ -40,8 +33,8 @@ fn put_field(out: &mut [u8], at: usize, n: u64) -> usize
 
 // A word, and a number after it.
 fn put_labelled(out: &mut [u8], at: usize, word: &[u8], n: u64) -> usize
-    requires { ⌜ at + length (now word) + fieldLimit ≤ length (now out) ⌝ }
-    ensures { λ r. ⌜ Written (now (out .entry)) at (labelled (now (word .entry)) n) r (now (out .exit)) × (r ≤ at + length (now (word .entry)) + fieldLimit) ⌝ }
+    requires { ⌜ at + (length (now word) + fieldLimit) ≤ length (now out) ⌝ }
+    ensures { λ r. ⌜ Put (now (out .entry)) at (labelled (now (word .entry)) n) (length (now (word .entry)) + fieldLimit) r (now (out .exit)) ⌝ }
 {
     let end = put_bytes(out, at, word);
     put_field(out, end, n)
@@ -60,7 +53,7 @@ fn letter_of(sender: u64) -> u8
 // Four numbers, from a place of some words on.
 fn put_four(out: &mut [u8], at: usize, words: &[u64], from: usize) -> usize
     requires { ⌜ (at + 4 * fieldLimit ≤ length (now out)) × (from + 4 ≤ length (now words)) ⌝ }
-    ensures { λ r. ⌜ Written (now (out .entry)) at (fourAt (now (words .entry)) from) r (now (out .exit)) × (r ≤ at + 4 * fieldLimit) ⌝ }
+    ensures { λ r. ⌜ Put (now (out .entry)) at (fourAt (now (words .entry)) from) (4 * fieldLimit) r (now (out .exit)) ⌝ }
 {
     let first = put_field(out, at, words[from]);
     let second = put_field(out, first, words[from + 1]);
@@ -71,7 +64,7 @@ fn put_four(out: &mut [u8], at: usize, words: &[u64], from: usize) -> usize
 // One line: the record at a place of some words.
 fn put_line(out: &mut [u8], at: usize, words: &[u64], from: usize) -> usize
     requires { ⌜ (at + lineLimit ≤ length (now out)) × (from + 5 ≤ length (now words)) ⌝ }
-    ensures { λ r. ⌜ Written (now (out .entry)) at (rowAt (now (words .entry)) from) r (now (out .exit)) × (r ≤ at + lineLimit) ⌝ }
+    ensures { λ r. ⌜ Put (now (out .entry)) at (rowAt (now (words .entry)) from) lineLimit r (now (out .exit)) ⌝ }
 {
     out[at] = letter_of(words[from]);
     let end = put_four(out, at + 1, words, from + 1);
@@ -82,7 +75,7 @@ fn put_line(out: &mut [u8], at: usize, words: &[u64], from: usize) -> usize
 // One line a delivery: the first n records of some words.
 fn put_lines(out: &mut [u8], words: &[u64], n: usize) -> usize
     requires { ⌜ (lineLimit * n ≤ length (now out)) × (n * 5 ≤ length (now words)) ⌝ }
-    ensures { λ r. ⌜ Written (now (out .entry)) 0 (rows n (now (words .entry))) r (now (out .exit)) × (r ≤ lineLimit * n) ⌝ }
+    ensures { λ r. ⌜ Put (now (out .entry)) 0 (rows n (now (words .entry))) (lineLimit * n) r (now (out .exit)) ⌝ }
 {
     let mut at: usize = 0;
     let mut i: usize = 0;
@@ -96,7 +89,7 @@ fn put_lines(out: &mut [u8], words: &[u64], n: usize) -> usize
 // The last line: both counts and the deliveries.
 fn put_last(out: &mut [u8], at: usize, told: Rehearsed) -> usize
     requires { ⌜ at + lastLimit ≤ length (now out) ⌝ }
-    ensures { λ r. ⌜ Written (now (out .entry)) at (lastLine (told .left) (told .right) (told .deliveries)) r (now (out .exit)) × (r ≤ at + lastLimit) ⌝ }
+    ensures { λ r. ⌜ Put (now (out .entry)) at (lastLine (told .left) (told .right) (told .deliveries)) lastLimit r (now (out .exit)) ⌝ }
 {
     let left = put_labelled(out, at, b"left", told.left as u64);
     let right = put_labelled(out, left, b" right", told.right as u64);
@@ -107,7 +100,7 @@ fn put_last(out: &mut [u8], at: usize, told: Rehearsed) -> usize
 // Only `refused`, a space and the number.
 fn put_refused(out: &mut [u8], number: u8) -> usize
     requires { ⌜ lastLimit ≤ length (now out) ⌝ }
-    ensures { λ r. ⌜ Written (now (out .entry)) 0 (refusedLine number) r (now (out .exit)) × (r ≤ lastLimit) ⌝ }
+    ensures { λ r. ⌜ Put (now (out .entry)) 0 (refusedLine number) lastLimit r (now (out .exit)) ⌝ }
 {
     let end = put_labelled(out, 0, b"refused", number as u64);
     put_bytes(out, end, b"\n")
@@ -122,7 +115,7 @@ fn lent_words() -> [u64; Rehearsed::WORDS]
 
 // What the program prints for an input, put at the front of a buffer, and how long it is.
 pub fn rehearse_text(input: &[u8], out: &mut [u8; Rehearsed::TEXT]) -> usize
-    ensures { λ r. ⌜ (r ≡ length (printed (now (input .entry)))) × (now (out .exit) ≡ writtenOver (printed (now (input .entry))) (now (out .entry))) ⌝ }
+    ensures { λ r. ⌜ Put (now (out .entry)) 0 (printed (now (input .entry))) textLimit r (now (out .exit)) ⌝ }
 {
     let mut words = lent_words();
     let told = rehearse(input, &mut words);

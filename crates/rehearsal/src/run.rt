@@ -5,9 +5,7 @@ use transcript::round_words;
 use wire::image_length;
 use wire::read_image;
 ghost use mathlib.Core.Path.{_≡_};
-ghost use Prim.Native.Nat.{_/_};
-ghost use lib.ListN.{length};
-ghost use Rattle.rehearsal.specs.Rehearsal.{noRehearsal, rehearsed, rehearsedWords, afterFirst, afterFirstWords};
+ghost use Rattle.rehearsal.specs.Rehearsal.{noRehearsal, Rehearsal, AfterFirst};
 
 fn refused(number: u8) -> Rehearsed
     ensures { λ r. ⌜ r ≡ noRehearsal number ⌝ }
@@ -22,7 +20,7 @@ fn refused(number: u8) -> Rehearsed
 
 // What follows once the first image has given the left store: the second image, and the round.
 fn with_second(left: Store, rest: &[u8], words: &mut [u64]) -> Rehearsed
-    ensures { λ r. ⌜ (r ≡ afterFirst left (now (rest .entry)) (length (now (words .entry)) / 5)) × (now (words .exit) ≡ afterFirstWords left (now (rest .entry)) (now (words .entry))) ⌝ }
+    ensures { λ r. ⌜ AfterFirst left (now (rest .entry)) (now (words .entry)) r (now (words .exit)) ⌝ }
 {
     let second = read_image(rest);
     if second.number != 0 {
@@ -45,7 +43,7 @@ fn with_second(left: Store, rest: &[u8], words: &mut [u64]) -> Rehearsed
 // The rehearsal of two images end to end, its records in the lent words, five to a record: sender, lo, hi, sum, cnt.
 // Questions 14 and 1 of the first image, then of the second, then those of a round, 9 of the records that are lent.
 pub fn rehearse(input: &[u8], words: &mut [u64]) -> Rehearsed
-    ensures { λ r. ⌜ (r ≡ rehearsed (now (input .entry)) (length (now (words .entry)) / 5)) × (now (words .exit) ≡ rehearsedWords (now (input .entry)) (now (words .entry))) ⌝ }
+    ensures { λ r. ⌜ Rehearsal (now (input .entry)) (now (words .entry)) r (now (words .exit)) ⌝ }
 {
     let told = image_length(input);
     if told.number != 0 {

@@ -1,8 +1,7 @@
 -- `rehearse::main` meets its contract: what is written lies within the text. Assumes nothing.
 use native.Mathlib.Omega.{arith}
-use mathlib.Core.Path.{ap}
 use borrow.Author.Needs.{needs}
-use lib.ListN.{length, length-append}
+use Rattle.rehearsal.proofs.PutLaws.{put-within}
 use Rattle.rehearse.proofs.main.Statement.{statement}
 use Rattle.rehearse.proofs.main.Tie as tie
 
@@ -37,9 +36,7 @@ part-write-all-start : tie.Need-part-write-all-start
 part-write-all-start c = search needs
 
 part-write-all-end : tie.Need-part-write-all-end
-part-write-all-end c =
-    let p = c .before .rehearse-text .ensures in
-    omega (arith, p .0, simp length-append at (ap length (p .1)))
+part-write-all-end c = put-within (c .before .rehearse-text .ensures) (omega arith)
 
 write-all-requires : tie.Need-write-all-requires
 write-all-requires c κs = search needs

@@ -1,13 +1,12 @@
 -- `rehearsal::digits::put_decimal` meets its contract. The invariant: once the text of the rest is put before what is written, the buffer is as it is
 -- to be. Assumes nothing.
 use Prim.Native.Nat.{_≤_}
-use native.Mathlib.Omega.{arith}
-use mathlib.Core.Path.{_≡_, _∙_}
+use mathlib.Core.Path.{_≡_}
 use borrow.Author.Needs.{needs}
 use lib.ListN.{length}
 use Rattle.wire.specs.Place.{putAt}
 use Rattle.rehearsal.specs.Decimal.{decimal, digitLimit}
-use Rattle.rehearsal.proofs.DecimalLaws.{length-decimal-some, length-decimal-step, putAt-decimal, putAt-digit}
+use Rattle.rehearsal.proofs.DigitsPaths.{some-digit, one-fewer, last-digit, first-digit}
 use Rattle.rehearsal.proofs.digits.put_decimal.Statement.{statement}
 use Rattle.rehearsal.proofs.digits.put_decimal.Tie as tie
 
@@ -25,7 +24,7 @@ loop-holds : tie.Need-loop-holds Inv-loop μ-loop
 loop-holds c = search needs
 
 sub-i : tie.Need-sub-i Inv-loop μ-loop
-sub-i c = omega (arith, length-decimal-some (c .before .loop .rest))
+sub-i c = search (needs, some-digit)
 
 cast-out : tie.Need-cast-out Inv-loop μ-loop
 cast-out c = search needs
@@ -43,11 +42,7 @@ loop-less : tie.Need-loop-less Inv-loop μ-loop
 loop-less c = search needs
 
 loop-again : tie.Need-loop-again Inv-loop μ-loop
-loop-again c =
-    let l = c .before .loop in
-    let a = c .before .before .before .before .args in
-    let some = length-decimal-some (l .rest) in
-    (omega (arith, length-decimal-step (l .rest) (c .loop-test .taken)), omega arith, search needs, putAt-decimal (l .out) (a .at) (l .rest) (l .i) (c .loop-test .taken) (l .inv .0) (omega arith) ∙ l .inv .3)
+loop-again c = search (needs, one-fewer, last-digit)
 
 cast-out-2 : tie.Need-cast-out-2 Inv-loop μ-loop
 cast-out-2 c = search needs
@@ -65,11 +60,7 @@ same-length : tie.Need-same-length Inv-loop μ-loop
 same-length c = search needs
 
 returns : tie.Need-returns Inv-loop μ-loop
-returns c =
-    let l = c .before .loop in
-    let a = c .before .before .before .before .args in
-    let d = c .before .before .digit-count .ensures in
-    (record { end-is = omega arith; after-is = putAt-digit (l .out) (a .at) (l .rest) (omega arith) (omega arith) ∙ l .inv .3 }, omega arith)
+returns c = search (needs, first-digit)
 
 pub put-decimal-spec : {M : Type 1} → statement M
 put-decimal-spec =

@@ -2,10 +2,8 @@
 use native.Mathlib.Omega.{arith}
 use mathlib.Core.Path.{_∙_}
 use borrow.Author.Needs.{needs}
-use denote.Ref.{now}
 use lib.ListN.{length-set}
-use Rattle.rehearsal.specs.Text.{field}
-use Rattle.rehearsal.proofs.WrittenLaws.{written-one, written-then}
+use Rattle.rehearsal.proofs.PagePaths.{field-put}
 use Rattle.rehearsal.proofs.page.put_field.Statement.{statement}
 use Rattle.rehearsal.proofs.page.put_field.Tie as tie
 
@@ -22,11 +20,7 @@ same-length : tie.Need-same-length
 same-length c = c .before .before .put-decimal .kept .0 ∙ simp length-set
 
 returns : tie.Need-returns
-unfolding field
-returns c =
-    let a = c .before .before .before .before .before .args in
-    let p = c .before .before .put-decimal .ensures in
-    (written-then (omega arith) (written-one (now (a .out)) (a .at) 32 (omega arith)) (p .0), omega arith)
+returns c = search (needs, field-put)
 
 pub put-field-spec : {M : Type 1} → statement M
 put-field-spec =

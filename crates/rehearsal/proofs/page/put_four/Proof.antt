@@ -1,8 +1,6 @@
 -- `rehearsal::page::put_four` meets its contract: one field after another. Assumes nothing.
-use native.Mathlib.Omega.{arith}
 use borrow.Author.Needs.{needs}
-use Rattle.rehearsal.specs.Text.{fourAt}
-use Rattle.rehearsal.proofs.WrittenLaws.{written-then}
+use Rattle.rehearsal.proofs.PagePaths.{four-put}
 use Rattle.rehearsal.proofs.page.put_four.Statement.{statement}
 use Rattle.rehearsal.proofs.page.put_four.Tie as tie
 
@@ -54,14 +52,27 @@ put-field-requires-4 c κs = search needs
 same-length : tie.Need-same-length
 same-length c = search needs
 
+-- what was given, and the fields before the last
+abbrev given : tie.After-put-field → tie.Start
+given c = c .before .before .before .before .before
+
+abbrev first : tie.After-put-field2 → tie.After-put-field
+first c = c .before .before .before .before .before
+
+abbrev second : tie.After-put-field3 → tie.After-put-field2
+second c = c .before .before .before .before .before
+
+abbrev third : tie.After-put-field4 → tie.After-put-field3
+third c = c .before .before .before .before .before
+
 returns : tie.Need-returns
-unfolding fourAt
 returns c =
-    let p = c .before .before .before .before .before .before .before .before .before .before .before .before .before .before .before .before .before .put-field .ensures in
-    let q = c .before .before .before .before .before .before .before .before .before .before .before .before .put-field2 .ensures in
-    let r = c .before .before .before .before .before .before .before .put-field3 .ensures in
-    let s = c .before .before .put-field4 .ensures in
-    (written-then (omega arith) (p .0) (written-then (omega arith) (q .0) (written-then (omega arith) (r .0) (s .0))), omega arith)
+    let d = c .before .before in
+    let r = third d in
+    let q = second r in
+    let p = first q in
+    four-put _ _ (p .put-field .ensures) (q .put-field2 .ensures) (r .put-field3 .ensures) (d .put-field4 .ensures)
+    (p .put-field .kept .0) (q .put-field2 .kept .0) (given p .pre .0)
 
 pub put-four-spec : {M : Type 1} → statement M
 put-four-spec =

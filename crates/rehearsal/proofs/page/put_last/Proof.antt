@@ -1,7 +1,6 @@
 -- `rehearsal::page::put_last` meets its contract: one piece after another. Assumes nothing.
-use native.Mathlib.Omega.{arith}
 use borrow.Author.Needs.{needs}
-use Rattle.rehearsal.proofs.WrittenLaws.{written-then}
+use Rattle.rehearsal.proofs.PagePaths.{last-put}
 use Rattle.rehearsal.proofs.page.put_last.Statement.{statement}
 use Rattle.rehearsal.proofs.page.put_last.Tie as tie
 
@@ -32,13 +31,27 @@ put-bytes-requires c κs = search needs
 same-length : tie.Need-same-length
 same-length c = search needs
 
+-- what was given, and the pieces before the last
+abbrev given : tie.After-put-labelled → tie.Start
+given c = c .before .before .before .before
+
+abbrev first : tie.After-put-labelled2 → tie.After-put-labelled
+first c = c .before .before .before .before .before
+
+abbrev second : tie.After-put-labelled3 → tie.After-put-labelled2
+second c = c .before .before .before .before .before
+
+abbrev third : tie.After-put-bytes → tie.After-put-labelled3
+third c = c .before .before .before .before .before
+
 returns : tie.Need-returns
 returns c =
-    let p = c .before .before .before .before .before .before .before .before .before .before .before .before .before .before .before .before .before .put-labelled .ensures in
-    let q = c .before .before .before .before .before .before .before .before .before .before .before .before .put-labelled2 .ensures in
-    let r = c .before .before .before .before .before .before .before .put-labelled3 .ensures in
-    let s = c .before .before .put-bytes .ensures in
-    (written-then (omega arith) (p .0) (written-then (omega arith) (q .0) (written-then (omega arith) (r .0) s)), omega (arith, s .end-is))
+    let d = c .before .before in
+    let r = third d in
+    let q = second r in
+    let p = first q in
+    last-put _ _ _ (p .put-labelled .ensures) (q .put-labelled2 .ensures) (r .put-labelled3 .ensures) (d .put-bytes .ensures)
+    (p .put-labelled .kept .0) (q .put-labelled2 .kept .0) (given p .pre)
 
 pub put-last-spec : {M : Type 1} → statement M
 put-last-spec =

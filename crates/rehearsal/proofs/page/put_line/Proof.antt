@@ -1,10 +1,9 @@
 -- `rehearsal::page::put_line` meets its contract: the letter, four fields, the line feed. Assumes nothing.
 use native.Mathlib.Omega.{arith}
-use mathlib.Core.Path.{_≡_, _∙_}
+use mathlib.Core.Path.{_∙_}
 use borrow.Author.Needs.{needs}
-use denote.Ref.{now}
-use lib.ListN.{length, length-set}
-use Rattle.rehearsal.proofs.TextLaws.{row-written}
+use lib.ListN.{length-set}
+use Rattle.rehearsal.proofs.PagePaths.{row-put}
 use Rattle.rehearsal.proofs.page.put_line.Statement.{statement}
 use Rattle.rehearsal.proofs.page.put_line.Tie as tie
 
@@ -29,26 +28,17 @@ add-put-four-2 c = search needs
 put-four-requires : tie.Need-put-four-requires
 put-four-requires c κs = simp length-set (omega arith)
 
--- the buffer is as long as it was
-kept : (c : tie.After-slice-known2) → length (c .before .before .put-four .last .0) ≡ length (now (c .before .before .before .before .before .before .before .before .args .out))
-kept c = c .before .before .put-four .kept .0 ∙ simp length-set
-
 slice-write-out-2 : tie.Need-slice-write-out-2
-slice-write-out-2 c = omega (arith, kept c)
+slice-write-out-2 c = omega (arith, simp length-set at (c .before .before .put-four .kept .0))
 
 add-result : tie.Need-add-result
 add-result c = search needs
 
 same-length : tie.Need-same-length
-same-length c = simp length-set (kept c)
+same-length c = simp length-set (c .before .before .put-four .kept .0 ∙ simp length-set)
 
 returns : tie.Need-returns
-returns c =
-    let a = c .before .before .before .before .before .before .before .before .args in
-    let l = c .before .before .before .before .letter-of in
-    let p = c .before .before .put-four in
-    let same = kept c in
-    (row-written (now (a .words)) (a .from) (l .result) (a .at) (p .result) (now (a .out)) (p .last .0) (l .ensures) (omega arith) (omega arith) same (p .ensures .0), omega arith)
+returns c = search (needs, row-put)
 
 pub put-line-spec : {M : Type 1} → statement M
 put-line-spec =

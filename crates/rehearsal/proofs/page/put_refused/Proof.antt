@@ -1,7 +1,6 @@
 -- `rehearsal::page::put_refused` meets its contract: one piece after another. Assumes nothing.
-use native.Mathlib.Omega.{arith}
 use borrow.Author.Needs.{needs}
-use Rattle.rehearsal.proofs.WrittenLaws.{written-then}
+use Rattle.rehearsal.proofs.PagePaths.{refused-put}
 use Rattle.rehearsal.proofs.page.put_refused.Statement.{statement}
 use Rattle.rehearsal.proofs.page.put_refused.Tie as tie
 
@@ -21,10 +20,7 @@ same-length : tie.Need-same-length
 same-length c = search needs
 
 returns : tie.Need-returns
-returns c =
-    let p = c .before .before .before .before .before .before .before .put-labelled .ensures in
-    let q = c .before .before .put-bytes .ensures in
-    (written-then (omega arith) (p .0) q, omega (arith, q .end-is))
+returns c = search (needs, refused-put)
 
 pub put-refused-spec : {M : Type 1} → statement M
 put-refused-spec =
