@@ -1,4 +1,5 @@
 // What a rehearsal answers. The number is that of the first question of document 01 answered no, or 0.
+use transcript::RECORD;
 
 // How long a number and the space before it, a line and the last line are at most.
 const FIELD: usize = 1 + 20;
@@ -19,8 +20,8 @@ impl Rehearsed {
     // The records that the program lends: a number of its own, whatever a store's limit is.
     pub const RECORDS: usize = 2048;
 
-    // The same in words, five to a record.
-    pub const WORDS: usize = 5 * Rehearsed::RECORDS;
+    // The same in words.
+    pub const WORDS: usize = RECORD * Rehearsed::RECORDS;
 
     // The longest text: a line for each record, each number of it 20 digits, and the last line.
     pub const TEXT: usize = LINE * Rehearsed::RECORDS + LAST;

@@ -2,6 +2,7 @@
 use crate::answer::Rehearsed;
 use crate::digits::put_decimal;
 use crate::run::rehearse;
+use transcript::RECORD;
 ghost use mathlib.Core.Path.{_≡_};
 ghost use Prim.Native.Nat.{_+_, _*_, _≤_};
 ghost use lib.ListN.{length};
@@ -80,7 +81,7 @@ fn put_lines(out: &mut [u8], words: &[u64], n: usize) -> usize
     let mut at: usize = 0;
     let mut i: usize = 0;
     while i < n {
-        at = put_line(out, at, words, i * 5);
+        at = put_line(out, at, words, i * RECORD);
         i += 1;
     }
     at
