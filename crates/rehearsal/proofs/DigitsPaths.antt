@@ -18,7 +18,13 @@ module _ (n i : ℕ) (digits : i ≡ length (decimal n)) where
   pub one-fewer : 10 ≤ n → i - 1 ≡ length (decimal (n / 10))
   one-fewer more = omega (arith, length-decimal-step n more)
 
-  module _ (s t whole : List ℕ) (at : ℕ) (few : i ≤ digitLimit) (long : length t ≡ length s) (room : at + digitLimit ≤ length s) (so : putAt t at (decimal n) ≡ whole) where
+  module _
+      (s t whole : List ℕ)
+      (at : ℕ)
+      (few : i ≤ digitLimit)
+      (long : length t ≡ length s)
+      (room : at + digitLimit ≤ length s)
+      (so : putAt t at (decimal n) ≡ whole) where
     -- the last digit may be written first, and then the text of the tenth
     pub last-digit : 10 ≤ n → putAt (set t (at + (i - 1)) (digit (n % 10))) at (decimal (n / 10)) ≡ whole
     last-digit more =

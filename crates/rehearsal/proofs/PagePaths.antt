@@ -6,7 +6,6 @@ use mathlib.Core.List.{List, [], _∷_, _++_}
 use mathlib.Core.Path.{_≡_, refl, ap, ap₂, sym, _∙_}
 use lib.ListN.{length, take, drop, getD, set, length-set, length-map}
 use lib.Seq.{take-all, take-suc, length-take-le}
-use Rattle.claims.specs.Question.{settle}
 use Rattle.claims.proofs.QuestionLaws.{settle-done, settle-refused}
 use Rattle.rule.specs.Round.{Line}
 use Rattle.rule.specs.Call.{roundBy, deliveryWords}
@@ -94,7 +93,7 @@ module _ (words : List ℕ) (i n : ℕ) (s t : List ℕ) (m : ℕ) (p : Put s 0 
   pub rows-more : (u : List ℕ) (k : ℕ) → i < n → lineLimit * n ≤ length s → Put t m (rowAt words (i * 5)) lineLimit k u
       → Put s 0 (rows (i + 1) words) (lineLimit * (i + 1)) k u
   unfolding rows
-  rows-more u k h room q = rw add-one (put-then p q (omega arith) (omega (arith, p .end-by, q .end-by)))
+  rows-more u k h room q = rw (add-one i) (put-then p q (omega arith) (omega (arith, p .end-by, q .end-by)))
 
   pub rows-all : i ≤ n → n ≤ i → Put s 0 (rows n words) (lineLimit * n) m t
   rows-all h k =

@@ -2,7 +2,7 @@
 use Prim.Native.Nat.{ℕ, _/_, _≤_}
 use native.Mathlib.Omega.{arith}
 use mathlib.Core.List.{List, _++_}
-use mathlib.Core.Path.{_≡_, refl, ap, sym, _∙_}
+use mathlib.Core.Path.{_≡_, refl, sym, _∙_}
 use lib.Dec.{lit<}
 use lib.ListN.{length}
 use Rattle.keys.specs.declared.store.Store.{Store}
@@ -71,8 +71,9 @@ module _ (input : List ℕ) (records : ℕ) where
     unfolding rehearseNumber
     round-none =
         let after = questionsAfter left (secondBytes input) records in
-        let a : firstNo (readImageQuestions (firstBytes input) ++ after) ≡ 0 = firstNo-zero (frontQuestion14 input) (readImageQuestions (firstBytes input) ++ after) (lit< tt) none .1 in
-        let b : firstNo after ≡ 0 = firstNo-rest (readImageQuestions (firstBytes input)) after (image-numbered (firstBytes input)) a in
+        let first = readImageQuestions (firstBytes input) in
+        let a : firstNo (first ++ after) ≡ 0 = firstNo-zero (frontQuestion14 input) (first ++ after) (lit< tt) none .1 in
+        let b : firstNo after ≡ 0 = firstNo-rest first after (image-numbered (firstBytes input)) a in
         firstNo-rest (readImageQuestions (secondBytes input)) (roundQuestions left right records) (image-numbered (secondBytes input)) b
 
     -- the deliveries fit the records

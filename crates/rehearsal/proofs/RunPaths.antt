@@ -12,8 +12,8 @@ use lib.Seq.{take-all}
 use Rattle.keys.specs.declared.store.Store.{Store}
 use Rattle.keys.proofs.Order.{count-storeOf}
 use Rattle.keys.proofs.Tests.{and-right}
-use Rattle.claims.specs.Question.{Question, firstNo, settle}
-use Rattle.claims.proofs.QuestionLaws.{Numbered, firstNo-zero, firstNo-append-zero, firstNo-append-no, settle-done, settle-refused}
+use Rattle.claims.specs.Question.{Question, firstNo}
+use Rattle.claims.proofs.QuestionLaws.{Numbered, firstNo-zero, firstNo-append-zero, firstNo-append-no, settle-done}
 use Rattle.rule.specs.declared.answer.Met.{Met}
 use Rattle.rule.specs.Call.{roundQuestions, roundBy, met, metWords}
 use Rattle.rule.proofs.CallLaws.{met-done, metWords-done, metWords-refused}
@@ -24,8 +24,8 @@ use Rattle.wire.specs.Image.{sections, countsFit, toldLength, frontQuestion14, 
 use Rattle.wire.proofs.Images.{readImage-number}
 use Rattle.wire.proofs.Questions.{settle-number}
 use Rattle.rehearsal.specs.declared.answer.Rehearsed.{Rehearsed}
-use Rattle.rehearsal.specs.Rehearsal.{firstBytes, secondBytes, storeIn, questionsAfter, noRehearsal, roundTold, roundWords}
-use Rattle.rehearsal.specs.Rehearsal.{toldBy, wordsBy, rehearseNumber, rehearsed, rehearsedWords, Rehearsal, numberAfter, AfterFirst}
+use Rattle.rehearsal.specs.Rehearsal.{firstBytes, secondBytes, storeIn, questionsAfter, noRehearsal, roundTold}
+use Rattle.rehearsal.specs.Rehearsal.{rehearseNumber, rehearsed, rehearsedWords, Rehearsal, numberAfter, AfterFirst}
 use Rattle.rehearsal.proofs.RehearsalLaws.{image-numbered, toldBy-done, toldBy-refused, wordsBy-done, wordsBy-refused}
 
 -- ---- the number n of some questions, where others stand behind them
@@ -43,13 +43,18 @@ image-number bs i read = ap (λ (x : Imaged). x .number) read ∙ readImage-numb
 
 -- ---- the round
 
+-- what is told of a round that was not refused
+abbrev told : Met → Rehearsed
+told m = record { number = 0; left = m .left .count; right = m .right .count; deliveries = m .deliveries }
+
 module _ (s t : Store) (records : ℕ) where
   met-number : met s t records .number ≡ firstNo (roundQuestions s t records)
   unfolding met
-  met-number = settle-number (λ (m : Met). m .number) (firstNo (roundQuestions s t records)) _ (λ x. record { number = x; left = s; right = t; deliveries = 0 }) refl (λ k. refl)
+  met-number =
+      let refused : ℕ → Met = λ x. record { number = x; left = s; right = t; deliveries = 0 } in
+      settle-number (λ (m : Met). m .number) (firstNo (roundQuestions s t records)) _ refused refl (λ k. refl)
 
-  told-met : firstNo (roundQuestions s t records) ≡ 0
-      → record { number = 0; left = met s t records .left .count; right = met s t records .right .count; deliveries = met s t records .deliveries } ≡ roundTold s t
+  told-met : firstNo (roundQuestions s t records) ≡ 0 → told (met s t records) ≡ roundTold s t
   told-met h = rw (met-done s t records h, count-storeOf (roundBy s t .stores .left), count-storeOf (roundBy s t .stores .right))
 
 -- ---- from the second image on
@@ -74,7 +79,12 @@ module _ (left : Store) (rest lent : List ℕ) where
     second-refused r f told =
         after-refused (number-front (readImageQuestions rest) (roundQuestions left right records) (i .number) (image-number rest i read) f) f told refl
 
-    module _ (yes : i .number ≡ 0) (m : Met) (after : List ℕ) (run : m ≡ met left (i .node .store) records) (wrote : after ≡ metWords left (i .node .store) lent) where
+    module _
+        (yes : i .number ≡ 0)
+        (m : Met)
+        (after : List ℕ)
+        (run : m ≡ met left (i .node .store) records)
+        (wrote : after ≡ metWords left (i .node .store) lent) where
       right-is : i .node .store ≡ right
       right-is = ap (λ (x : Imaged). x .node .store) read
 
@@ -95,12 +105,14 @@ module _ (left : Store) (rest lent : List ℕ) where
       pub round-refused : (r : Rehearsed) → (m .number ≡ 0 → ⊥) → r ≡ noRehearsal (m .number) → AfterFirst left rest lent r after
       round-refused r f told = after-refused round-number f told (wrote-is ∙ metWords-refused left right lent (λ z. f (asked ∙ z)))
 
-      pub round-told : m .number ≡ 0
-          → AfterFirst left rest lent (record { number = 0; left = m .left .count; right = m .right .count; deliveries = m .deliveries }) after
+      pub round-told : m .number ≡ 0 → AfterFirst left rest lent (told m) after
       round-told z =
           let q : firstNo (roundQuestions left right records) ≡ 0 = sym asked ∙ z in
           let n : numberAfter left rest records ≡ 0 = sym round-number ∙ z in
-          record { told = rw met-is (told-met left right records q) ∙ sym (toldBy-done left right n); words = wrote-is ∙ (metWords-done left right lent q ∙ sym (wordsBy-done left right lent n)) }
+          record {
+            told = rw met-is (told-met left right records q) ∙ sym (toldBy-done left right n);
+            words = wrote-is ∙ (metWords-done left right lent q ∙ sym (wordsBy-done left right lent n));
+          }
 
 -- ---- the whole input
 
@@ -118,14 +130,14 @@ module _ (input lent : List ℕ) where
     words = rw (← e) (sym (wordsBy-refused (storeIn first) (storeIn (secondBytes input)) lent f));
   }
 
-  module _ (l : Length) (told : l ≡ imageLength input) where
+  module _ (l : Length) (gave : l ≡ imageLength input) where
     abbrev front : List Question
     front = frontQuestion14 input ∷ []
 
     front-number : l .number ≡ firstNo front
     unfolding imageLength
     front-number =
-        ap (λ (x : Length). x .number) told
+        ap (λ (x : Length). x .number) gave
         ∙ settle-number (λ (x : Length). x .number) (firstNo front) (record { number = 0; length = toldLength sections input }) noLength refl (λ k. refl)
 
     pub front-refused : (r : Rehearsed) → (l .number ≡ 0 → ⊥) → r ≡ noRehearsal (l .number) → Rehearsal input lent r lent
@@ -137,13 +149,14 @@ module _ (input lent : List ℕ) where
       unfolding imageLength
       front-length =
           ap (λ (x : Length). x .length)
-          (told ∙ settle-done (firstNo front) (record { number = 0; length = toldLength sections input }) noLength (sym front-number ∙ yes))
+          (gave ∙ settle-done (firstNo front) (record { number = 0; length = toldLength sections input }) noLength (sym front-number ∙ yes))
 
       -- the input is at least as long as its counts say
       pub front-fits : l .length ≤ length input
       front-fits =
           let y = firstNo-zero (frontQuestion14 input) [] (lit< tt) (sym front-number ∙ yes) .0 in
-          rw front-length (leb-true (toldLength sections input) (length input) (and-right (countsFit sections input) (leb (toldLength sections input) (length input)) y))
+          let fits = and-right (countsFit sections input) (leb (toldLength sections input) (length input)) y in
+          rw front-length (leb-true (toldLength sections input) (length input) fits)
 
       front-behind : firstNo behindFront ≡ rehearseNumber input (length lent / 5)
       unfolding rehearseNumber
@@ -166,7 +179,8 @@ module _ (input lent : List ℕ) where
             number-behind (readImageQuestions first) after (i .number) (image-number first i first-is) (image-numbered first) z ∙ front-behind
 
         -- and the second, from the first one's end on
-        pub first-read : (r : Rehearsed) (after : List ℕ) → i .number ≡ 0 → AfterFirst (i .node .store) (take (length input - l .length) (drop (l .length) input)) lent r after
+        pub first-read : (r : Rehearsed) (after : List ℕ) → i .number ≡ 0
+            → AfterFirst (i .node .store) (take (length input - l .length) (drop (l .length) input)) lent r after
             → Rehearsal input lent r after
         unfolding rehearsed rehearsedWords
         first-read r after z so =

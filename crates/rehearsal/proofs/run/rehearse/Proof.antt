@@ -1,4 +1,5 @@
--- `rehearsal::run::rehearse` meets its contract: one law for each way. Assumes nothing.
+-- `rehearsal::run::rehearse` meets its contract: one law for each way. Every part of the input is asked the same: it ends where the input does, or where
+-- the first image ends (`front-fits`). Assumes nothing.
 use borrow.Author.Needs.{needs}
 use Rattle.rehearsal.proofs.RunPaths.{front-refused, front-fits, first-refused, first-read}
 use Rattle.rehearsal.proofs.run.rehearse.Statement.{statement}
@@ -14,10 +15,10 @@ returns : tie.Need-returns
 returns c = search (needs, front-refused)
 
 sub-read-image : tie.Need-sub-read-image
-sub-read-image c = search needs
+sub-read-image c = search (needs, front-fits)
 
 part-read-image-start : tie.Need-part-read-image-start
-part-read-image-start c = search needs
+part-read-image-start c = search (needs, front-fits)
 
 part-read-image-end : tie.Need-part-read-image-end
 part-read-image-end c = search (needs, front-fits)
@@ -38,7 +39,7 @@ part-with-second-start : tie.Need-part-with-second-start
 part-with-second-start c = search (needs, front-fits)
 
 part-with-second-end : tie.Need-part-with-second-end
-part-with-second-end c = search needs
+part-with-second-end c = search (needs, front-fits)
 
 with-second-requires : tie.Need-with-second-requires
 with-second-requires c κs = search needs
