@@ -1,14 +1,15 @@
 -- `card::put_store` is safe and ends. The measure is the places that are left. Assumes nothing.
 use Prim.Native.Nat.{_≤_, _-_}
 use borrow.Author.Needs.{needs}
+use Rattle.keys.specs.Store.{limit}
 use Rattle.drill.proofs.card.put_store.Statement.{statement}
 use Rattle.drill.proofs.card.put_store.Tie as tie
 
 abbrev Inv-loop : tie.InvT-loop
-Inv-loop words₀ at store i₀ words i = i ≤ 1024
+Inv-loop words₀ at store i₀ words i = i ≤ limit
 
 abbrev μ-loop : tie.MeasureT-loop
-μ-loop words₀ at store i₀ words i = 1024 - i
+μ-loop words₀ at store i₀ words i = limit - i
 
 put-requires : tie.Need-put-requires Inv-loop μ-loop
 put-requires c κs = search needs

@@ -1,14 +1,15 @@
 -- `card::put_table` is safe and ends. The measure is the places that are left. Assumes nothing.
 use Prim.Native.Nat.{_≤_, _-_}
 use borrow.Author.Needs.{needs}
+use Rattle.rule.specs.Table.{tableLimit}
 use Rattle.drill.proofs.card.put_table.Statement.{statement}
 use Rattle.drill.proofs.card.put_table.Tie as tie
 
 abbrev Inv-loop : tie.InvT-loop
-Inv-loop words₀ table i₀ words i = i ≤ 64
+Inv-loop words₀ table i₀ words i = i ≤ tableLimit
 
 abbrev μ-loop : tie.MeasureT-loop
-μ-loop words₀ table i₀ words i = 64 - i
+μ-loop words₀ table i₀ words i = tableLimit - i
 
 loop-holds : tie.Need-loop-holds Inv-loop μ-loop
 loop-holds c = search needs

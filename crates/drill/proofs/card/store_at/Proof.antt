@@ -3,14 +3,15 @@ use Prim.Native.Nat.{_≤_, _-_}
 use mathlib.Core.Path.{_≡_}
 use lib.ListN.{length}
 use borrow.Author.Needs.{needs}
+use Rattle.keys.specs.Store.{limit}
 use Rattle.drill.proofs.card.store_at.Statement.{statement}
 use Rattle.drill.proofs.card.store_at.Tie as tie
 
 abbrev Inv-loop : tie.InvT-loop
-Inv-loop words at store₀ i₀ store i = (i ≤ 1024) × (length (store .keys) ≡ 1024)
+Inv-loop words at store₀ i₀ store i = (i ≤ limit) × (length (store .keys) ≡ limit)
 
 abbrev μ-loop : tie.MeasureT-loop
-μ-loop words at store₀ i₀ store i = 1024 - i
+μ-loop words at store₀ i₀ store i = limit - i
 
 empty-requires : tie.Need-empty-requires Inv-loop μ-loop
 empty-requires c κs = search needs

@@ -3,14 +3,15 @@ use Prim.Native.Nat.{_≤_, _-_}
 use mathlib.Core.Path.{_≡_}
 use lib.ListN.{length}
 use borrow.Author.Needs.{needs}
+use Rattle.rule.specs.Table.{tableLimit}
 use Rattle.drill.proofs.card.table_in.Statement.{statement}
 use Rattle.drill.proofs.card.table_in.Tie as tie
 
 abbrev Inv-loop : tie.InvT-loop
-Inv-loop words table₀ i₀ table i = (i ≤ 64) × (length table ≡ 64)
+Inv-loop words table₀ i₀ table i = (i ≤ tableLimit) × (length table ≡ tableLimit)
 
 abbrev μ-loop : tie.MeasureT-loop
-μ-loop words table₀ i₀ table i = 64 - i
+μ-loop words table₀ i₀ table i = tableLimit - i
 
 loop-holds : tie.Need-loop-holds Inv-loop μ-loop
 loop-holds c = search needs
