@@ -36,8 +36,8 @@ put-lines-requires c κs =
 
 put-last-requires : tie.Need-put-last-requires
 put-last-requires c κs =
-    let far = c .before .before in
-    let n = fits (far .before .before) in
+    let lines = c .before .before in
+    let n = fits (lines .before .before) in
     omega arith
 
 returns-2 : tie.Need-returns-2
