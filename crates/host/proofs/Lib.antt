@@ -6,6 +6,8 @@
 --   Words     claims in a lent run of words
 --   Sends     the functions of src/sent.rt, one law for each way that the code goes
 --   Beats     a beat of a node in order, run on a lent run of words
+--   Entering  a key entered into a node in order
+--   Saving    the end of a call that writes one image
 --   Answers   what the host calls return, one law for each way that the code goes
 mod Signs
 mod Turns
@@ -14,4 +16,6 @@ mod Passing
 mod Words
 mod Sends
 mod Beats
+mod Entering
+mod Saving
 mod Answers

@@ -13,6 +13,10 @@ use Rattle.host.specs.Call.{minus}
 pub returned : {z y : ℤ} → z ≡ y → SFits w64 y → toZ w64 (ofZ w64 z) ≡ y
 returned e f = rw e (toZ-ofZ {w = w64} f)
 
+-- one that a function above returned, handed on
+pub handed-on : {z y : ℤ} → z ≡ y → SFits w64 z → toZ w64 (ofZ w64 z) ≡ y
+handed-on e f = toZ-ofZ {w = w64} f ∙ e
+
 pub fits-pos : (n : ℕ) → n ≤ imageLimit → SFits w64 (pos n)
 fits-pos n h = record { sfits = omega arith }
 

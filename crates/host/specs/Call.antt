@@ -4,7 +4,8 @@ use Prim.Native.Nat.{ℕ}
 use mathlib.Core.List.{List, [], _∷_, _++_}
 use lib.IntN.{ℤ, pos, negℤ}
 use lib.ListN.{length}
-use Rattle.claims.specs.Question.{Question, firstNo, settle}
+use Rattle.claims.specs.Question.{Question, firstNo, settle, question6}
+use Rattle.claims.specs.Call.{entered}
 use Rattle.rule.specs.declared.node.Node.{Node}
 use Rattle.rule.specs.Node.{nodeKeys, pendingOf, nodeOf}
 use Rattle.rule.specs.Table.{serve, sending}
@@ -23,6 +24,23 @@ minus number = negℤ (pos number)
 abbrev pub nodeIn : List ℕ → Node
 nodeIn image = readImage image .node
 
+-- ---- an image that is counted: the keys that it holds. Asks 14 and 1.
+
+unfoldable pub imageCounted : List ℕ → ℤ
+imageCounted image = settle (firstNo (readImageQuestions image)) (pos (length (nodeKeys (nodeIn image)))) minus
+
+-- ---- an image that is written: after the questions of a call comes 15 ("the frame host call needs 9,860"), and then a node's image goes to the front of a
+-- buffer and its length is returned, or minus the number and the buffer is as it was
+
+abbrev pub savingQuestions : List Question → ℕ → List Question
+savingQuestions questions room = questions ++ (question15 room imageLimit ∷ [])
+
+unfoldable pub saved : List Question → Node → ℕ → ℤ
+saved questions n room = settle (firstNo (savingQuestions questions room)) (pos (length (nodeBytes n))) minus
+
+unfoldable pub savedOut : List Question → Node → List ℕ → List ℕ
+savedOut questions n out = settle (firstNo (savingQuestions questions (length out))) (writtenOver (nodeBytes n) out) (λ k. out)
+
 -- ---- a frame: "One takes an image and a frame, takes each claim in turn, writes the new image and returns its length."
 
 -- the questions before 15: of the image, of the frame, and 6 claim by claim
@@ -30,25 +48,31 @@ abbrev pub takingQuestions : List ℕ → List ℕ → List Question
 takingQuestions image frame =
     readImageQuestions image ++ (readFrameQuestions frame ++ questions6 (frameClaims frame) (nodeKeys (nodeIn image)))
 
--- "the frame host call needs 9,860"
-abbrev pub takeFrameQuestions : List ℕ → List ℕ → ℕ → List Question
-takeFrameQuestions image frame room = takingQuestions image frame ++ (question15 room imageLimit ∷ [])
-
 -- the node once the frame is taken
 abbrev pub nodeAfter : List ℕ → List ℕ → Node
 nodeAfter image frame = takenInTurn (nodeIn image) (frameClaims frame)
 
-unfoldable pub frameTaken : List ℕ → List ℕ → ℕ → ℤ
-frameTaken image frame room =
-    settle (firstNo (takeFrameQuestions image frame room))
-    (pos (length (nodeBytes (nodeAfter image frame))))
-    minus
+abbrev pub frameTaken : List ℕ → List ℕ → ℕ → ℤ
+frameTaken image frame room = saved (takingQuestions image frame) (nodeAfter image frame) room
 
-unfoldable pub frameTakenOut : List ℕ → List ℕ → List ℕ → List ℕ
-frameTakenOut image frame out =
-    settle (firstNo (takeFrameQuestions image frame (length out)))
-    (writtenOver (nodeBytes (nodeAfter image frame)) out)
-    (λ k. out)
+abbrev pub frameTakenOut : List ℕ → List ℕ → List ℕ → List ℕ
+frameTakenOut image frame out = savedOut (takingQuestions image frame) (nodeAfter image frame) out
+
+-- ---- a key: `enter` of an image's node, whose pending claims stay. Its questions are put as the frame's are: 14, 1, then 6, 15.
+
+-- the questions before 15
+abbrev pub enteringQuestions : List ℕ → ℕ → List Question
+enteringQuestions image key = readImageQuestions image ++ (question6 (key ∷ []) (nodeKeys (nodeIn image)) ∷ [])
+
+-- the node with the key entered into its store
+abbrev pub nodeEntered : Node → ℕ → Node
+nodeEntered n key = record { store = entered (n .store) key .store; pending = n .pending; count = n .count }
+
+abbrev pub keyEntered : List ℕ → ℕ → ℕ → ℤ
+keyEntered image key room = saved (enteringQuestions image key) (nodeEntered (nodeIn image) key) room
+
+abbrev pub keyEnteredOut : List ℕ → ℕ → List ℕ → List ℕ
+keyEnteredOut image key out = savedOut (enteringQuestions image key) (nodeEntered (nodeIn image) key) out
 
 -- ---- a beat: "One takes an image, runs a beat, writes the new image to one buffer and the claims to a second, four to a frame and the rest in a last one,
 -- and returns the length of the frames."

@@ -1,48 +1,24 @@
-// What the kiosk daemon links: two calls on images and frames (document 01, "Host calls").
+// What the kiosk daemon links: four calls on images and frames (document 01, "Host calls").
+mod enter;
 mod load;
 mod reply;
+mod save;
 mod sent;
 mod turn;
 
+use crate::enter::entered_into;
 use crate::load::load;
 use crate::reply::refusal;
 use crate::reply::size;
+use crate::save::save;
 use crate::sent::FRAMES;
 use crate::sent::send;
-use crate::turn::take_in_turn;
+use crate::turn::taken_from;
 use keys::Store;
-use rule::Rest;
 use wire::Imaged;
-use wire::read_frame;
-use wire::write_image_in;
 ghost use mathlib.Core.Path.{_≡_};
 ghost use lib.ListN.{length};
-ghost use Rattle.keys.specs.Store.{limit, zeros};
-ghost use Rattle.host.specs.Call.{frameTaken, frameTakenOut, imageBeaten, imageBeatenOut, imageBeatenFrames};
-ghost use Rattle.host.specs.Known.{TakenFrom};
-
-// The node of an image with the claims of a frame taken, in turn, its keys in a lent run of zeros. Asks 14, 1, 10 to 13, and 6 claim by claim.
-fn taken_from(image: &[u8], frame: &[u8], keys: &mut [u64; Store::LIMIT]) -> Rest
-    requires { ⌜ now keys ≡ zeros limit ⌝ }
-    ensures { λ r. ⌜ TakenFrom (now (image .entry)) (now (frame .entry)) (now (keys .exit)) r ⌝ }
-{
-    let read = load(image, keys);
-    if read.number != 0 {
-        return read;
-    }
-    let framed = read_frame(frame);
-    let table = read.table;
-    if framed.number != 0 {
-        return Rest {
-            number: framed.number,
-            held: read.held,
-            table,
-            count: read.count,
-        };
-    }
-    let claims = framed.claims;
-    take_in_turn(keys, read.held, table, read.count, claims, framed.count)
-}
+ghost use Rattle.host.specs.Call.{imageCounted, frameTaken, frameTakenOut, keyEntered, keyEnteredOut, imageBeaten, imageBeatenOut, imageBeatenFrames};
 
 // Takes an image and a frame, takes each claim in turn, writes the new image to the front of `out` and returns its length; or minus the number of the
 // first question answered no, and then nothing is written. Asks 14, 1, 10 to 13, 6 claim by claim, and 15.
@@ -52,15 +28,31 @@ pub extern "C" fn minutefrost_take_frame(image: &[u8], frame: &[u8], out: &mut [
 {
     let mut keys = [0; Store::LIMIT];
     let taken = taken_from(image, frame, &mut keys);
-    if taken.number != 0 {
-        return refusal(taken.number);
+    save(&keys, taken, out)
+}
+
+// Takes an image and a key, enters the key, writes the new image to the front of `out` and returns its length; or minus the number of the first question
+// answered no, and then nothing is written. Asks 14, 1, 6 and 15. Pending claims stay.
+#[no_mangle]
+pub extern "C" fn minutefrost_enter(image: &[u8], key: u64, out: &mut [u8]) -> i64
+    ensures { λ r. ⌜ (r ≡ keyEntered (now (image .entry)) key (length (now (out .entry)))) × (now (out .exit) ≡ keyEnteredOut (now (image .entry)) key (now (out .entry))) ⌝ }
+{
+    let mut keys = [0; Store::LIMIT];
+    let entered = entered_into(image, key, &mut keys);
+    save(&keys, entered, out)
+}
+
+// How many keys an image holds; or minus the number of the first question answered no. Asks 14 and 1.
+#[no_mangle]
+pub extern "C" fn minutefrost_count(image: &[u8]) -> i64
+    ensures { λ r. ⌜ r ≡ imageCounted (now (image .entry)) ⌝ }
+{
+    let mut keys = [0; Store::LIMIT];
+    let read = load(image, &mut keys);
+    if read.number != 0 {
+        return refusal(read.number);
     }
-    if out.len() < Imaged::LENGTH {
-        return refusal(15);
-    }
-    let table = taken.table;
-    let written = write_image_in(&keys, taken.held, table, taken.count, out);
-    size(written.length)
+    size(read.held)
 }
 
 // Takes an image, runs a beat, writes the new image to the front of `out` and the claims to the front of `frames`, four to a frame and the rest in a last

@@ -1,4 +1,4 @@
-// What a host call returns: a length, or minus the number of a question.
+// What a host call returns: a length or a count, or minus the number of a question.
 ghost use mathlib.Core.Path.{_≡_};
 ghost use Prim.Native.Nat.{_≤_};
 ghost use lib.IntN.{pos};
@@ -12,7 +12,7 @@ pub(crate) fn refusal(number: u8) -> i64
     -(number as i64)
 }
 
-// A length; none is greater than an image's.
+// A length or a count; none is greater than an image's length.
 pub(crate) fn size(length: usize) -> i64
     requires { ⌜ length ≤ imageLimit ⌝ }
     ensures { λ r. ⌜ r ≡ pos length ⌝ }

@@ -1,22 +1,25 @@
 // The claims of a frame, taken in turn.
+use crate::load::load;
 use claims::Claim;
 use keys::Store;
 use nodes::take_next;
 use rule::Node;
 use rule::Rest;
 use wire::Framed;
+use wire::read_frame;
 ghost use mathlib.Core.Path.{_≡_};
 ghost use mathlib.Core.Bool.{true};
 ghost use Prim.Native.Nat.{_≤_};
 ghost use lib.ListN.{length, take};
-ghost use Rattle.keys.specs.Store.{limit};
+ghost use Rattle.keys.specs.Store.{limit, zeros};
 ghost use Rattle.rule.specs.Node.{nodeInOrder};
 ghost use Rattle.nodes.specs.Lent.{nodeWith, takenWith};
 ghost use Rattle.wire.specs.Frame.{frameLimit, allPass};
 ghost use Rattle.host.specs.Taking.{takenUntil};
+ghost use Rattle.host.specs.Known.{TakenFrom};
 
 // Takes the first n of four claims in turn into a node whose keys are lent, until one is refused, with 6.
-pub(crate) fn take_in_turn(
+fn take_in_turn(
     keys: &mut [u64; Store::LIMIT],
     held: usize,
     table: [Claim; Node::TABLE],
@@ -44,4 +47,27 @@ pub(crate) fn take_in_turn(
         i += 1;
     }
     taken
+}
+
+// The node of an image with the claims of a frame taken, in turn, its keys in a lent run of zeros. Asks 14, 1, 10 to 13, and 6 claim by claim.
+pub(crate) fn taken_from(image: &[u8], frame: &[u8], keys: &mut [u64; Store::LIMIT]) -> Rest
+    requires { ⌜ now keys ≡ zeros limit ⌝ }
+    ensures { λ r. ⌜ TakenFrom (now (image .entry)) (now (frame .entry)) (now (keys .exit)) r ⌝ }
+{
+    let read = load(image, keys);
+    if read.number != 0 {
+        return read;
+    }
+    let framed = read_frame(frame);
+    let table = read.table;
+    if framed.number != 0 {
+        return Rest {
+            number: framed.number,
+            held: read.held,
+            table,
+            count: read.count,
+        };
+    }
+    let claims = framed.claims;
+    take_in_turn(keys, read.held, table, read.count, claims, framed.count)
 }

@@ -15,7 +15,7 @@ use Rattle.keys.proofs.Tests.{and-left, and-right}
 use Rattle.claims.specs.declared.claim.Claim.{Claim}
 use Rattle.claims.specs.Claim.{noClaim}
 use Rattle.claims.specs.Question.{firstNo}
-use Rattle.claims.proofs.QuestionLaws.{firstNo-zero}
+use Rattle.claims.proofs.QuestionLaws.{firstNo-zero, settle-refused}
 use Rattle.rule.specs.Table.{tableLimit}
 use Rattle.rule.specs.declared.node.Node.{Node}
 use Rattle.rule.specs.declared.answer.Rest.{Rest}
@@ -264,6 +264,11 @@ module _ (bs : List ℕ) {r : Rest} (e : r ≡ readIn bs) where
       go : (t : Bool) → question14 bs .yes ≡ t → noImage (r .number) ≡ readImage bs
       go true y = absurd (f (readIn-number ∙ rw y))
       go false y = rw (readIn-number, y)
+
+  -- .. and then the lent run is as it was
+  pub readInLent-refused : (keys : List ℕ) → (r .number ≡ 0 → ⊥) → readInLent bs keys ≡ keys
+  unfolding readInLent
+  readInLent-refused keys f = settle-refused (firstNo (question14 bs ∷ [])) _ (λ (k : ℕ). keys) (λ z. f (readIn-number ∙ z))
 
   -- read into the places of the empty store
   module _ (done : r .number ≡ 0) {ks : List ℕ} (k : ks ≡ readInLent bs (emptyStore .keys)) where

@@ -5,9 +5,12 @@ use borrow.Author.Needs.{needs}
 use borrow.Author.Tests.{not-true, not-false}
 use lib.ListN.{length}
 use Rattle.keys.specs.Store.{limit, zeros, emptyStore}
+use Rattle.keys.proofs.Order.{length-zeros}
 use Rattle.wire.specs.declared.answer.Imaged.{Imaged}
 use Rattle.wire.specs.Lent.{readInLent}
-use Rattle.wire.proofs.Images.{readIn-refused, readImage-1, readImage-lent}
+use Rattle.wire.proofs.Images.{readIn-refused, readInLent-refused, readImage-1, readImage-lent, readImage-number}
+use Rattle.host.proofs.Saving.{known-refused}
+use Rattle.host.proofs.Answers.{loaded-lent}
 use Rattle.host.proofs.load.load.Statement.{statement}
 use Rattle.host.proofs.load.load.Tie as tie
 
@@ -16,11 +19,16 @@ empty-zeros : zeros limit ≡ emptyStore .keys
 unfolding emptyStore
 empty-zeros = refl
 
-keys : (c : tie.After-read-image-in) → c .read-image-in .last .1 .0 ≡ readInLent (c .before .before .before .args .image .now) (emptyStore .keys)
-keys c = let s = c .before .before .before in
-    c .read-image-in .ensures .1 ∙ ap (readInLent (s .args .image .now)) (s .pre ∙ empty-zeros)
+-- where the image was read, from the test of its order
+abbrev read : tie.After-ordered-lent-arg2 → tie.After-read-image-in
+read o = o .before .before .before .before .before
 
-long : (c : tie.After-ordered-lent-arg2) → length (c .before .before .before .before .before .read-image-in .last .1 .0) ≡ limit
+keys : (r : tie.After-read-image-in) → r .read-image-in .last .1 .0 ≡ readInLent (r .before .before .before .args .image .now) (emptyStore .keys)
+keys r =
+    let s = r .before .before .before in
+    r .read-image-in .ensures .1 ∙ ap (readInLent (s .args .image .now)) (s .pre ∙ empty-zeros)
+
+long : (c : tie.After-ordered-lent-arg2) → length (read c .read-image-in .last .1 .0) ≡ limit
 long c = search needs
 
 read-image-in-requires : tie.Need-read-image-in-requires
@@ -29,11 +37,9 @@ read-image-in-requires c κs = search needs
 returns : tie.Need-returns
 returns c =
     let r = c .before .before in
-    record {
-      number = ap (λ (x : Imaged). x .number) (readIn-refused _ (r .read-image-in .ensures .0) (c .if1 .taken));
-      node = λ z. absurd (c .if1 .taken z);
-      long = λ z. absurd (c .if1 .taken z);
-    }
+    known-refused
+    (ap (λ (x : Imaged). x .number) (readIn-refused _ (r .read-image-in .ensures .0) (c .if1 .taken)) ∙ readImage-number _)
+    (rw (keys r, readInLent-refused _ (r .read-image-in .ensures .0) (emptyStore .keys) (c .if1 .taken)) (rw (← empty-zeros) (length-zeros limit))) (c .if1 .taken)
 
 ordered-lent-requires : tie.Need-ordered-lent-requires
 ordered-lent-requires c κs = search needs
@@ -41,27 +47,20 @@ ordered-lent-requires c κs = search needs
 returns-2 : tie.Need-returns-2
 returns-2 c =
     let o = c .before in
-    let e = o .before .before .before .before in
-    let r = e .before .before in
-    record {
-      number =
-          ap (λ (x : Imaged). x .number)
-          (readImage-1 _ (r .read-image-in .ensures .0) (e .if1 .left) (keys r) (long (o .before)) (sym (o .ordered-lent .ensures) ∙ not-true _ (c .if2 .taken)));
-      node = λ z. absurd (omega arith);
-      long = λ z. absurd (omega arith);
-    }
+    let r = read (o .before) in
+    known-refused
+    (ap (λ (x : Imaged). x .number)
+    (readImage-1 _ (r .read-image-in .ensures .0) (search needs) (keys r) (long (o .before)) (sym (o .ordered-lent .ensures) ∙ not-true _ (c .if2 .taken)))
+    ∙ readImage-number _)
+    (long (o .before)) (λ (z : 1 ≡ 0). omega arith)
 
 returns-3 : tie.Need-returns-3
 returns-3 c =
     let o = c .before in
-    let e = o .before .before .before .before in
-    let r = e .before .before in
-    let w = readImage-lent _ (r .read-image-in .ensures .0) (e .if1 .left) (keys r) (long (o .before)) (sym (o .ordered-lent .ensures) ∙ not-false _ (c .if2 .left)) in
-    record {
-      number = e .if1 .left ∙ ap (λ (x : Imaged). x .number) w;
-      node = λ z. ap (λ (x : Imaged). x .node) w;
-      long = λ z. long (o .before);
-    }
+    let r = read (o .before) in
+    loaded-lent _ (search needs)
+    (readImage-lent _ (r .read-image-in .ensures .0) (search needs) (keys r) (long (o .before)) (sym (o .ordered-lent .ensures) ∙ not-false _ (c .if2 .left)))
+    (long (o .before))
 
 pub load-spec : {M : Type 1} → statement M
 load-spec =

@@ -14,7 +14,7 @@ use Rattle.wire.specs.Image.{nodeBytes, Shaped}
 use Rattle.host.specs.Call.{nodeServed}
 use Rattle.host.specs.Frames.{framesBytes}
 use Rattle.host.proofs.Beats.{nodeServed-ordered, length-framesSent, beat-node, beat-read, beat-room, beat-pass}
-use Rattle.host.proofs.Answers.{writeImageIn-room}
+use Rattle.host.proofs.Saving.{writeImageIn-room}
 use Rattle.host.proofs.sent.send.Statement.{statement}
 use Rattle.host.proofs.sent.send.Tie as tie
 
