@@ -1,5 +1,5 @@
--- What the host calls return, one law for each way that the code goes. In order: what reading tells; every question has a number; an image that was loaded: counting,
--- taking a frame, entering a key; a beat. Not here: the end of a call that writes one image (Saving). Assumes nothing.
+-- What the host calls return, one law for each way that the code goes. In order: what reading tells; every question has a number; an image that was loaded:
+-- counting, taking a frame, entering a key; a beat. Not here: the end of a call that writes one image (Saving). Assumes nothing.
 use Prim.Native.Nat.{ℕ, _≤_, _<_}
 use native.Mathlib.Omega.{arith}
 use mathlib.Core.Bool.{true}
@@ -71,14 +71,14 @@ numbered-append : (a b : List Question) → Numbered a → Numbered b → Number
 numbered-append [] b m n = n
 numbered-append (q ∷ qs) b m n = (m .0, numbered-append qs b (m .1) n)
 
-image-numbered : (image : List ℕ) → Numbered (readImageQuestions image)
+pub image-numbered : (image : List ℕ) → Numbered (readImageQuestions image)
 image-numbered image = (lit< tt, (lit< tt, tt))
 
-frame-numbered : (frame : List ℕ) → Numbered (readFrameQuestions frame)
+pub frame-numbered : (frame : List ℕ) → Numbered (readFrameQuestions frame)
 frame-numbered frame = (lit< tt, (lit< tt, (lit< tt, (lit< tt, tt))))
 
 -- 6 for each claim of the frame
-abbrev sixes : List ℕ → List ℕ → List Question
+abbrev pub sixes : List ℕ → List ℕ → List Question
 sixes image frame = questions6 (frameClaims frame) (nodeKeys (nodeIn image))
 
 pub taking-numbered : (image frame : List ℕ) → Numbered (takingQuestions image frame)
@@ -141,7 +141,8 @@ module _ (image : List ℕ) {keys : List ℕ} {r : Rest} (loaded : Loaded image 
     pub takenFrom-frame : (frame : List ℕ) {t : Rest} → t .number ≡ readFrame frame .number → (t .number ≡ 0 → ⊥) → TakenFrom image frame keys t
     takenFrom-frame frame {t} e f =
         let q : t .number ≡ firstNo (readFrameQuestions frame) = e ∙ readFrame-number frame in
-        known-refused (q ∙ (sym (firstNo-append-no (readFrameQuestions frame) (sixes image frame) (λ z. f (q ∙ z))) ∙ sym (past-image (readFrameQuestions frame ++ sixes image frame))))
+        let first = firstNo-append-no (readFrameQuestions frame) (sixes image frame) (λ z. f (q ∙ z)) in
+        known-refused (q ∙ (sym first ∙ sym (past-image (readFrameQuestions frame ++ sixes image frame))))
         (loaded .sound .long) f
 
     pub takenFrom-turns : (frame : List ℕ) → readFrame frame .number ≡ 0 → {new : List ℕ} {t : Rest}
@@ -204,7 +205,9 @@ module _ (image out frames : List ℕ) {keys : List ℕ} {r : Rest} (loaded : Lo
     module _ (room : imageLimit ≤ length out) where
       pub beaten-frames : length frames < framesLimit → Beaten image out frames out frames (minus 15)
       beaten-frames h =
-          beaten-refused 15 (past-image image loaded read rooms ∙ rw (le-leb imageLimit (length out) room, lt-leb framesLimit (length frames) h)) (λ (z : 15 ≡ 0). omega arith)
+          let q : firstNo (beatImageQuestions image (length out) (length frames)) ≡ 15 =
+          past-image image loaded read rooms ∙ rw (le-leb imageLimit (length out) room, lt-leb framesLimit (length frames) h) in
+          beaten-refused 15 q (λ (z : 15 ≡ 0). omega arith)
 
       pub beaten-0 : framesLimit ≤ length frames
           → Beaten image out frames (writtenOver (nodeBytes (nodeServed (nodeIn image))) out) (writtenOver (framesSent (nodeIn image)) frames)

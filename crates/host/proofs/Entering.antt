@@ -1,5 +1,5 @@
--- A key entered into a node in order: `nodeEntered` of specs/Call. In order: where the key fits; the node then, in order; what adding the key to the node's lent keys
--- tells and leaves, which is that. Assumes nothing.
+-- A key entered into a node in order: `nodeEntered` of specs/Call. In order: where the key fits; the node then, in order; what adding the key to the node's
+-- lent keys tells and leaves, which is that. Assumes nothing.
 use Prim.Native.Nat.{ℕ, _+_, _≤_, _<_}
 use native.Mathlib.Omega.{arith}
 use mathlib.Core.Bool.{true}
@@ -40,7 +40,9 @@ module _ (n : Node) (key : ℕ) where
   six-full f = rw (le-ltb (length grown) (limit + 1) (omega arith))
 
   pub fits-six : six ≡ 0 → length grown ≤ limit
-  fits-six z = ⊎-elim {C = length grown ≤ limit} (λ (f : limit < length grown). absurd (omega (arith, six-full f))) (λ (f : length grown ≤ limit). f) (lt-or-le limit (length grown))
+  fits-six z =
+      ⊎-elim {C = length grown ≤ limit} (λ (f : limit < length grown). absurd (omega (arith, six-full f))) (λ (f : length grown ≤ limit). f)
+      (lt-or-le limit (length grown))
 
   module _ (o : Ordered n) where
     rise : Rising (nodeKeys n)

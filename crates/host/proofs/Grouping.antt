@@ -1,10 +1,11 @@
--- Claims in frames of four: `fours` and `framesBytes` of specs/Frames. In order: enough groups are enough; no claim is lost; one frame and then the rest; how long
--- the frames are. Assumes nothing.
+-- Claims in frames of four: `fours` and `framesBytes` of specs/Frames. In order: enough groups are enough; no claim is lost; what a group has; one frame and
+-- then the rest; how long the frames are. Assumes nothing.
 use Prim.Native.Nat.{ℕ, zero, suc, _+_, _-_, _≤_, _<_, min}
 use native.Mathlib.Omega.{arith}
 use mathlib.Core.List.{List, [], _∷_, _++_, flatten}
+use mathlib.Core.List.{List·Memᴰ, List·Memᴰ·head, List·Memᴰ·tail, List·Memᴰ·not-nil, Memᴰ·append-left, Memᴰ·append-right}
 use mathlib.Core.Logic.{⊎-elim}
-use mathlib.Core.Path.{_≡_, refl, ap, sym}
+use mathlib.Core.Path.{_≡_, refl, ap, sym, _∙_, subst}
 use lib.ListN.{length, take, drop, length-append, length-take, length-drop, take-append-drop, drop-of-length-le}
 use lib.Seq.{take-all}
 use Rattle.keys.proofs.Tests.{lt-or-le}
@@ -42,6 +43,17 @@ module _ {A : Type 0} where
       let l = length-drop n (x ∷ xs) in
       rw (flatten-groups m n (drop n (x ∷ xs)) h (omega arith)) (take-append-drop n (x ∷ xs))
 
+  -- each group has from one thing to n, all of them among the things
+  groups-mem : (m n : ℕ) (xs g : List A) → 0 < n → List·Memᴰ g (groups m n xs) → (1 ≤ length g) × (length g ≤ n) × ((x : A) → List·Memᴰ x g → List·Memᴰ x xs)
+  groups-mem zero n xs g h i = absurd (List·Memᴰ·not-nil i)
+  groups-mem (suc m) n [] g h i = absurd (List·Memᴰ·not-nil i)
+  groups-mem (suc m) n (x ∷ xs) g h (List·Memᴰ·head e) =
+      let l : length g ≡ min n (suc (length xs)) = ap length e ∙ length-take n (x ∷ xs) in
+      (omega arith, omega arith, λ y j. subst (List·Memᴰ y) (take-append-drop n (x ∷ xs)) (Memᴰ·append-left (drop n (x ∷ xs)) (subst (List·Memᴰ y) e j)))
+  groups-mem (suc m) n (x ∷ xs) g h (List·Memᴰ·tail i) =
+      let (some, few, sub) = groups-mem m n (drop n (x ∷ xs)) g h i in
+      (some, few, λ y j. subst (List·Memᴰ y) (take-append-drop n (x ∷ xs)) (Memᴰ·append-right (take n (x ∷ xs)) (sub y j)))
+
   -- no more than there are
   take-capped : (n : ℕ) (xs : List A) → take (min (length xs) n) xs ≡ take n xs
   take-capped n xs = ⊎-elim {C = take (min (length xs) n) xs ≡ take n xs}
@@ -68,15 +80,23 @@ pub flatten-fours : (cs : List Claim) → flatten (fours cs) ≡ cs
 unfolding fours
 flatten-fours cs = flatten-groups (length cs) frameLimit cs (omega arith) (omega arith)
 
+-- each group has from one claim to four, all of them among the claims
+pub fours-mem : (cs g : List Claim) → List·Memᴰ g (fours cs)
+    → (1 ≤ length g) × (length g ≤ frameLimit) × ((c : Claim) → List·Memᴰ c g → List·Memᴰ c cs)
+unfolding fours
+fours-mem cs g m = groups-mem (length cs) frameLimit cs g (omega arith) m
+
 -- one frame, and then the rest
-pub framesBytes-turn : (cs : List Claim) (n : ℕ) → 0 < length cs → n ≡ min (length cs) frameLimit → framesBytes cs ≡ frameBytes (take n cs) ++ framesBytes (drop n cs)
+pub framesBytes-turn : (cs : List Claim) (n : ℕ) → 0 < length cs → n ≡ min (length cs) frameLimit
+    → framesBytes cs ≡ frameBytes (take n cs) ++ framesBytes (drop n cs)
 unfolding framesBytes fours
 framesBytes-turn [] n h e = absurd (omega arith)
 framesBytes-turn (c ∷ cs) n h e =
     let l = length-drop frameLimit (c ∷ cs) in
     let rest : groups (length cs) frameLimit (drop frameLimit (c ∷ cs)) ≡ groups (length (drop frameLimit (c ∷ cs))) frameLimit (drop frameLimit (c ∷ cs)) =
     groups-enough (length cs) (length (drop frameLimit (c ∷ cs))) frameLimit (drop frameLimit (c ∷ cs)) (omega arith) (omega arith) (omega arith) in
-    rw (e, take-capped frameLimit (c ∷ cs), drop-capped frameLimit (c ∷ cs)) (ap (λ (g : List (List Claim)). frameBytes (take frameLimit (c ∷ cs)) ++ inFrames g) rest)
+    rw (e, take-capped frameLimit (c ∷ cs), drop-capped frameLimit (c ∷ cs))
+    (ap (λ (g : List (List Claim)). frameBytes (take frameLimit (c ∷ cs)) ++ inFrames g) rest)
 
 pub framesBytes-nil : framesBytes [] ≡ []
 unfolding framesBytes fours

@@ -9,6 +9,8 @@
 --   Entering  a key entered into a node in order
 --   Saving    the end of a call that writes one image
 --   Answers   what the host calls return, one law for each way that the code goes
+--   Fitting   numbers that fit their widths in bytes
+--   Trips     what the daemon is given back is what the next call takes
 mod Signs
 mod Turns
 mod Grouping
@@ -19,3 +21,5 @@ mod Beats
 mod Entering
 mod Saving
 mod Answers
+mod Fitting
+pub mod Trips

@@ -1,5 +1,5 @@
--- Every claim that a beat sends passes questions 2 to 5, so it may go into a frame: it is the claim of some keys of the store. Assumes nothing.
-use Prim.Native.Nat.{ℕ, _≤_}
+-- Every claim that a beat sends is the claim of some keys of the store, so it passes questions 2 to 5 and may go into a frame. Assumes nothing.
+use Prim.Native.Nat.{ℕ, _≤_, _<_}
 use native.Mathlib.Omega.{arith}
 use mathlib.Core.Bool.{true}
 use mathlib.Core.List.{List, [], _∷_, List·Memᴰ, List·Memᴰ·head, List·Memᴰ·tail, List·Memᴰ·not-nil, List·Memᴰ·append-cases, List·Memᴰ·eq-of-singleton}
@@ -15,7 +15,8 @@ use Rattle.claims.specs.declared.claim.Claim.{Claim}
 use Rattle.claims.specs.Claim.{wholeClaim}
 use Rattle.claims.specs.Call.{judged}
 use Rattle.claims.proofs.QuestionLaws.{Passes, passes, passes-firstNo, judged-firstNo}
-use Rattle.claims.proofs.ClaimLaws.{spanClaim-passes, claimOf-passes}
+use Rattle.claims.proofs.Span.{between-first-last}
+use Rattle.claims.proofs.ClaimLaws.{spanClaim, spanClaim-passes, wholeClaim-span}
 use Rattle.claims.proofs.ReplyLaws.{spanned-keys, hear-held, Spanned, reply-spanned}
 use Rattle.rule.specs.Table.{serve, sending}
 use Rattle.rule.proofs.TableLaws.{sent-mem}
@@ -28,28 +29,32 @@ allPass-mem (c ∷ cs) f =
     and-both (eqb (judged c) 0) (allPass cs) (eq-eqb (judged c) 0 (judged-firstNo c ∙ passes-firstNo c (f c (List·Memᴰ·head refl))))
     (allPass-mem cs (λ d m. f d (List·Memᴰ·tail m)))
 
+-- the whole claim, and the claims of replies that add nothing, since the ends of a pending claim are held
+pub sending-spanned : (l : List ℕ) → Rising l → (t : List Claim) → ((c : Claim) → List·Memᴰ c t → Fits c l)
+    → (d : Claim) → List·Memᴰ d (sending l t) → Spanned l d
+sending-spanned l rise t f d m =
+    ⊎-elim
+    {C = Spanned l d}
+    (whole l rise)
+    (λ (n : List·Memᴰ d (serve l t .sent)).
+    let (c, i, o) = sent-mem l t d n in
+    let g : Fits c l = f c i in
+    let pass : Passes c = passes c (sym (judged-firstNo c) ∙ g .passes) in
+    subst (λ (k : List ℕ). Spanned k d) (hear-held c l rise (g .held)) (reply-spanned c l rise pass d o))
+    (List·Memᴰ·append-cases (wholeClaim l) m)
+  where
+    whole : (k : List ℕ) → Rising k → List·Memᴰ d (wholeClaim k) → Spanned k d
+    whole [] r n = absurd (List·Memᴰ·not-nil n)
+    whole (k ∷ ks) r n =
+        let some : 0 < length (k ∷ ks) = omega arith in
+        let e : d ≡ spanClaim (k ∷ ks) = List·Memᴰ·eq-of-singleton (subst (List·Memᴰ d) (wholeClaim-span (k ∷ ks) some) n) in
+        record { keys = k ∷ ks; claim = e; some = some; whole = sym (between-first-last (k ∷ ks) r) }
+
 module _ (l : List ℕ) (rise : Rising l) (short : length l ≤ limit) where
-  spanned-passes : (c : Claim) → Spanned l c → Passes c
-  spanned-passes c t =
-      let (r, s, n) = spanned-keys l c rise t in
-      subst Passes (sym (t .claim)) (spanClaim-passes (t .keys) r (t .some) (omega arith))
+  pub spanned-passes : (d : Claim) → Spanned l d → Passes d
+  spanned-passes d s =
+      let (r, sub, n) = spanned-keys l d rise s in
+      subst Passes (sym (s .claim)) (spanClaim-passes (s .keys) r (s .some) (omega arith))
 
-  wholeClaim-passes : (c : Claim) → List·Memᴰ c (wholeClaim l) → Passes c
-  wholeClaim-passes c m = go l rise short m
-    where
-      go : (k : List ℕ) → Rising k → length k ≤ limit → List·Memᴰ c (wholeClaim k) → Passes c
-      go [] r s n = absurd (List·Memᴰ·not-nil n)
-      go (k ∷ ks) r s n = subst Passes (sym (List·Memᴰ·eq-of-singleton n)) (claimOf-passes 0 (length ks) (k ∷ ks) r s (omega arith) (omega arith))
-
-  -- the whole claim, and the claims of replies that add nothing, since the ends of a pending claim are held
   pub sending-passes : (t : List Claim) → ((c : Claim) → List·Memᴰ c t → Fits c l) → allPass (sending l t) ≡ true
-  sending-passes t f =
-      allPass-mem (sending l t) (λ d m.
-      ⊎-elim
-      {C = Passes d}
-      (wholeClaim-passes d)
-      (λ (n : List·Memᴰ d (serve l t .sent)).
-      let (c, i, o) = sent-mem l t d n in
-      let g : Fits c l = f c i in
-      spanned-passes d (subst (λ (k : List ℕ). Spanned k d) (hear-held c l rise (g .held)) (reply-spanned c l rise (passes c (sym (judged-firstNo c) ∙ g .passes)) d o)))
-      (List·Memᴰ·append-cases (wholeClaim l) m))
+  sending-passes t f = allPass-mem (sending l t) (λ d m. spanned-passes d (sending-spanned l rise t f d m))

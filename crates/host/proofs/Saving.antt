@@ -1,5 +1,5 @@
--- The end of a call that writes one image (src/save.rt). In order: what is known where a question was answered no; the longest image has room for any; one law for
--- each way that the code goes; the questions put so far come to the same as one and one by one. Assumes nothing.
+-- The end of a call that writes one image (src/save.rt). In order: what is known where a question was answered no; the longest image has room for any; one law
+-- for each way that the code goes; the questions put so far come to the same as one and one by one. Assumes nothing.
 use Prim.Native.Nat.{ℕ, _≤_, _<_}
 use native.Mathlib.Omega.{arith}
 use mathlib.Core.Bool.{true}
@@ -80,7 +80,8 @@ module _ {questions : List Question} {n : Node} {keys : List ℕ} {r : Rest} (nu
       → settle (firstNo (savingQuestions (asOne (r .number)) room)) (done (nodeHeld keys r)) refused
       ≡ settle (firstNo (savingQuestions questions room)) (done n) refused
   settle-known room done refused = ⊎-elim
-      {C = settle (firstNo (savingQuestions (asOne (r .number)) room)) (done (nodeHeld keys r)) refused ≡ settle (firstNo (savingQuestions questions room)) (done n) refused}
+      {C = settle (firstNo (savingQuestions (asOne (r .number)) room)) (done (nodeHeld keys r)) refused
+      ≡ settle (firstNo (savingQuestions questions room)) (done n) refused}
       (λ (z : r .number ≡ 0).
       let rest = firstNo-append-zero questions (question15 room imageLimit ∷ []) numbered (sym (known .number) ∙ z) in
       rw (rest, eq-eqb (r .number) 0 z, known .node z))

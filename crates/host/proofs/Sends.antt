@@ -50,7 +50,8 @@ allPass-drop (suc n) (c ∷ cs) p = allPass-drop n cs (and-right (eqb (judged c)
 
 -- word by word, as the code reads it
 pub inWords-at : (ws : List ℕ) (at : ℕ)
-    → record { lo = getD ws (4 * at) 0; hi = getD ws (4 * at + 1) 0; sum = getD ws (4 * at + 2) 0; cnt = getD ws (4 * at + 3) 0 } ≡ inWords .read (drop (4 * at) ws)
+    → record { lo = getD ws (4 * at) 0; hi = getD ws (4 * at + 1) 0; sum = getD ws (4 * at + 2) 0; cnt = getD ws (4 * at + 3) 0 }
+    ≡ inWords .read (drop (4 * at) ws)
 inWords-at ws at =
     let e : 4 * at ≡ 4 * at + 0 = omega arith in
     let first : getD ws (4 * at) 0 ≡ getD (drop (4 * at) ws) 0 0 = ap (λ (k : ℕ). getD ws k 0) e ∙ sym (getD-drop (4 * at) ws 0 0) in
@@ -88,7 +89,8 @@ module _ (ws : List ℕ) (at i : ℕ) where
 
 -- ---- one frame, written to the part of the buffer from a place on
 
-module _ (frames : List ℕ) (at n : ℕ) (cs : List Claim) (many : countable n ≡ true) (pass : allPass (take n cs) ≡ true) (room : at + frameLength n ≤ length frames) where
+module _ (frames : List ℕ) (at n : ℕ) (cs : List Claim) (many : countable n ≡ true) (pass : allPass (take n cs) ≡ true)
+    (room : at + frameLength n ≤ length frames) where
   -- that part, as it is lent
   abbrev part : List ℕ
   part = take (length frames - at) (drop at frames)
@@ -144,7 +146,8 @@ module _ (cs : List Claim) (before : List ℕ) where
       turn-split : framesBytes (drop i cs) ≡ frameBytes (take n (drop i cs)) ++ framesBytes (drop (i + n) cs)
       turn-split =
           let l = left in
-          framesBytes-turn (drop i cs) n (omega arith) (rw left most) ∙ ap (λ (ds : List Claim). frameBytes (take n (drop i cs)) ++ framesBytes ds) (drop-drop n i cs)
+          framesBytes-turn (drop i cs) n (omega arith) (rw left most)
+          ∙ ap (λ (ds : List Claim). frameBytes (take n (drop i cs)) ++ framesBytes ds) (drop-drop n i cs)
 
       turn-size : length (frameBytes (take n (drop i cs))) ≡ frameLength n
       turn-size = length-frameBytes (take n (drop i cs)) ∙ ap (λ (k : ℕ). frameLength k) turn-many
@@ -159,7 +162,8 @@ module _ (cs : List Claim) (before : List ℕ) where
           let e = so .long in
           omega arith
 
-      pub turn-written : {after : List ℕ} {next : ℕ} → next ≡ at + frameLength n → after ≡ putAt frames at (frameBytes (take n (drop i cs))) → Written cs before after (i + n) next
+      pub turn-written : {after : List ℕ} {next : ℕ} → next ≡ at + frameLength n
+          → after ≡ putAt frames at (frameBytes (take n (drop i cs))) → Written cs before after (i + n) next
       turn-written {after} {next} e f =
           let l = turn-length in
           let w = so .whole in

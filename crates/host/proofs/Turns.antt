@@ -1,5 +1,5 @@
--- The claims of a frame taken in turn, by a node in order: one turn of the code, after which it is in order and its run of keys has all its places; then its number is that of the first question 6 answered no, and its
--- node the one that took all; that one is in order. Assumes nothing.
+-- The claims of a frame taken in turn, by a node in order: one turn of the code, after which it is in order and its run of keys has all its places; then its
+-- number is that of the first question 6 answered no, and its node the one that took all; that one is in order. Assumes nothing.
 use Prim.Native.Nat.{ℕ, zero, suc, _+_, _≤_, _<_}
 use native.Mathlib.Omega.{arith}
 use native.Mathlib.Numerals.{add-one}
@@ -40,8 +40,8 @@ allPass-getD (c ∷ cs) (suc i) p h = allPass-getD cs i (and-right (eqb (judged 
 
 -- ---- one turn: r is what taking the claim at place i gave
 
-module _ (n : Node) (cs : List Claim) (i : ℕ) {r : Taken} (below : i < length cs) (shaped : Shaped n) (ordered : nodeInOrder n ≡ true) (pass : allPass cs ≡ true)
-    (next : r ≡ takenNext n (getD cs i noClaim)) where
+module _ (n : Node) (cs : List Claim) (i : ℕ) {r : Taken} (below : i < length cs) (shaped : Shaped n) (ordered : nodeInOrder n ≡ true)
+    (pass : allPass cs ≡ true) (next : r ≡ takenNext n (getD cs i noClaim)) where
   turn-taken : r ≡ taken n (getD cs i noClaim)
   turn-taken = next ∙ takenNext-taken n (shaped .pending) (nodeInOrder-ordered n ordered) (getD cs i noClaim) (shaped .keys) (allPass-getD cs i pass below)
 
@@ -63,7 +63,8 @@ module _ (n : Node) (cs : List Claim) (i : ℕ) {r : Taken} (below : i < length 
       let c = getD cs i noClaim in
       ⊎-elim {C = length (r .node .store .keys) ≡ limit}
       (λ (e : firstNo (takeQuestions n c) ≡ 0).
-      rw (turn-taken ∙ taken-done n c e, store-nodeOf (hear c (nodeKeys n)) (tableWith c (pendingOf n))) (length-keys-storeOf (hear c (nodeKeys n)) (takeQuestions-yes n c e .room)))
+      rw (turn-taken ∙ taken-done n c e, store-nodeOf (hear c (nodeKeys n)) (tableWith c (pendingOf n)))
+      (length-keys-storeOf (hear c (nodeKeys n)) (takeQuestions-yes n c e .room)))
       (λ (f : firstNo (takeQuestions n c) ≡ 0 → ⊥). rw (turn-taken ∙ taken-refused n c f) (shaped .keys))
       (eq-or-ne (firstNo (takeQuestions n c)) 0)
 

@@ -1,4 +1,5 @@
--- Claims in a lent run of words, four to a claim: the layout is that of `claimWords`, so what a beat wrote is read again; parts of what is read. Assumes nothing.
+-- Claims in a lent run of words, four to a claim: the layout is that of `claimWords`, so what a beat wrote is read again; parts of what is read.
+-- Assumes nothing.
 use Prim.Native.Nat.{ℕ, zero, suc, _+_, _*_, _≤_, _<_}
 use native.Mathlib.Nat.{mul-suc, mul-zero}
 use native.Mathlib.Omega.{arith}

@@ -47,8 +47,8 @@ EnteredInto image key = Known (enteringQuestions image key) (nodeEntered (nodeIn
 abbrev pub asOne : ℕ → List Question
 asOne number = question number (eqb number 0) ∷ []
 
--- The node's image was saved, or not where a question was answered no, 15 being the last: what was returned, a number of 64 bits, and what the buffer, `before`,
--- holds afterwards.
+-- The node's image was saved, or not where a question was answered no, 15 being the last: what was returned, a number of 64 bits, and what the buffer
+-- `before` holds afterwards.
 pub record Saved (keys : List ℕ) (r : Rest) (before after : List ℕ) (result : ℤ) : Type 0 where
   pub returned : result ≡ saved (asOne (r .number)) (nodeHeld keys r) (length before)
   pub fits : SFits w64 result

@@ -1,5 +1,6 @@
--- The round trips of frames, over the definitions that the contracts of `read_frame` and `write_frame` cite: a frame that is written is read as the
--- same contents, and one that is accepted is written again as the same bytes. The lemmas come first, the theorems last. Assumes nothing.
+-- The round trips of frames, over the definitions that the contracts of `read_frame` and `write_frame` cite: every frame of claims that pass is accepted, and
+-- read as these; a frame that is written is read as the same contents, and one that is accepted is written again as the same bytes. The lemmas come first, the
+-- theorems last. Assumes nothing.
 use Prim.Native.Nat.{ℕ, suc, _*_, _≤_}
 use native.Mathlib.Omega.{arith}
 use mathlib.Core.Bool.{true, _&&_}
@@ -39,14 +40,6 @@ head-frameBytes cs p q =
     let s : sized (frameBytes cs) ≡ true = rw (countable-of (length cs) p q) (eq-eqb _ _ (length-frameBytes cs)) in
     rw (m, s)
 
-readFrame-frameBytes : (cs : List Claim) → Each ClaimFits cs → 1 ≤ length cs → length cs ≤ frameLimit → allPass cs ≡ true
-    → readFrame (frameBytes cs) ≡ record { number = 0; claims = fourOf cs; count = length cs }
-unfolding frameBytes headBytes
-readFrame-frameBytes cs f p q a =
-    let c : frameClaims (frameBytes cs) ≡ cs = frameClaims-frameBytes cs f in
-    let r = readFrame-0 (frameBytes cs) (head-frameBytes cs p q) (rw c a) in
-    sym r ∙ (λ i. record { number = 0; claims = fourOf (c i); count = length cs })
-
 -- ---- a frame's claims are written as its bytes
 
 frameBytes-frameClaims : (bs : List ℕ) → Below byte bs → marked bs ≡ true → getD bs versionPlace 0 ≡ version → length bs ≡ frameLength (frameCount bs)
@@ -72,6 +65,15 @@ frameBytes-frameClaims (a ∷ (b ∷ (d ∷ (n ∷ bs)))) h m v e =
 pub frame-at-most : (cs : List Claim) → length cs ≤ frameLimit → length (frameBytes cs) ≤ frameMost
 frame-at-most cs h = rw length-frameBytes (omega arith)
 
+-- Every frame of one to four claims that pass 13 is accepted, and read as these claims.
+pub frame-accepted : (cs : List Claim) → Each ClaimFits cs → 1 ≤ length cs → length cs ≤ frameLimit → allPass cs ≡ true
+    → readFrame (frameBytes cs) ≡ record { number = 0; claims = fourOf cs; count = length cs }
+unfolding frameBytes headBytes
+frame-accepted cs f p q a =
+    let c : frameClaims (frameBytes cs) ≡ cs = frameClaims-frameBytes cs f in
+    let r = readFrame-0 (frameBytes cs) (head-frameBytes cs p q) (rw c a) in
+    sym r ∙ (λ i. record { number = 0; claims = fourOf (c i); count = length cs })
+
 -- A frame that is written is read as the same contents: the claims that were given, with zeros past the count. (The claims' fields fit their
 -- widths, as those of every claim that the code holds do.)
 pub frame-written-is-read : (cs : List Claim) (n : ℕ) (out : List ℕ) → length cs ≡ frameLimit → Each ClaimFits cs → writeFrame cs n (length out) .number ≡ 0
@@ -84,7 +86,7 @@ frame-written-is-read cs n out long fit done =
     let written : writeFrame cs n (length out) .length ≡ frameLength n = λ i. sym (writeFrame-0 cs n (length out) e) i .length in
     let front : take (frameLength n) (writtenOver (frameBytes (take n cs)) out) ≡ frameBytes (take n cs) =
     take-at (frameBytes (take n cs)) _ (frameLength n) (length-frameBytes (take n cs) ∙ ap frameLength count) in
-    let read = readFrame-frameBytes (take n cs) (each-take ClaimFits n cs fit) (rw count (z .0)) (rw count (z .1)) (y .1) in
+    let read = frame-accepted (take n cs) (each-take ClaimFits n cs fit) (rw count (z .0)) (rw count (z .1)) (y .1) in
     rw (written, frameLent-yes cs n out e, front) (read ∙ (λ i. record { number = 0; claims = fourOf (take n cs); count = count i }))
 
 -- A frame that is accepted is written again as the same bytes, past which the buffer keeps its contents.

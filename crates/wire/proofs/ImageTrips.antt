@@ -4,8 +4,9 @@
 use Prim.Native.Nat.{ℕ, _+_, _^_, _≤_, _<_}
 use native.Mathlib.Omega.{arith}
 use mathlib.Core.Bool.{true}
-use mathlib.Core.List.{List, [], _++_, append-nil}
+use mathlib.Core.List.{List, [], _++_, append-nil, append-assoc}
 use mathlib.Core.Path.{_≡_, ap, sym, _∙_}
+use borrow.Author.Tests.{le-leb}
 use lib.ListN.{length, take, drop, length-append, length-drop, drop-of-length-le}
 use lib.Seq.{take-append-seam}
 use Rattle.keys.specs.Store.{limit}
@@ -19,7 +20,7 @@ use Rattle.rule.proofs.NodeLaws.{nodeInOrder-ordered, nodeOf-same, nodeKeys-nod
 use Rattle.wire.specs.Number.{byte, Below}
 use Rattle.wire.specs.Claim.{keyWidth, countWidth, ClaimFits}
 use Rattle.wire.specs.Run.{key, claim, Each}
-use Rattle.wire.specs.Image.{keySection, claimSection, sections, sectionLength, imageLimit, sectionBytes, imageBytes, nodeBytes, Shaped, NodeFits, countOf, behind, countFits, countsFit, toldLength, thingsIn, parse, nodeFrom, readImage, writeImage, imageLent}
+use Rattle.wire.specs.Image.{keySection, claimSection, sections, sectionLength, imageLimit, sectionBytes, imageBytes, nodeBytes, Shaped, NodeFits, countOf, behind, countFits, countsFit, toldLength, thingsIn, parse, nodeFrom, readImage, imageLength, writeImage, imageLent}
 use Rattle.wire.specs.Told.{AsTold}
 use Rattle.wire.proofs.Numbers.{below-drop}
 use Rattle.wire.proofs.Runs.{each-take, key-faithful, claim-faithful}
@@ -60,6 +61,32 @@ module _ (ks : List ℕ) (cs : List Claim) (few : length ks ≤ limit) (several 
       let whole : length (imageBytes ks cs) ≡ toldLength sections (imageBytes ks cs) = omega arith in
       record { counts = rw (r, s); whole = whole; keys = sym p; pending = sym q }
 
+  -- an image at the front of some bytes: what its counts tell, whatever follows it
+  module _ (rest : List ℕ) where
+    front : imageBytes ks cs ++ rest ≡ sectionBytes key ks ++ (sectionBytes claim cs ++ rest)
+    unfolding imageBytes
+    front = append-assoc (sectionBytes key ks) (sectionBytes claim cs) rest
+
+    behind-front : behind keySection (imageBytes ks cs ++ rest) ≡ sectionBytes claim cs ++ rest
+    behind-front = rw front (behind-section key-faithful ks (sectionBytes claim cs ++ rest) small)
+
+    front-counts : countsFit sections (imageBytes ks cs ++ rest) ≡ true
+    unfolding countsFit
+    front-counts =
+        let r : countFits limit (imageBytes ks cs ++ rest) ≡ true = rw front (countFits-section key-faithful ks (sectionBytes claim cs ++ rest) small limit few) in
+        let s : countFits tableLimit (behind keySection (imageBytes ks cs ++ rest)) ≡ true =
+        rw behind-front (countFits-section claim-faithful cs rest little tableLimit several) in
+        rw (r, s)
+
+    front-length : toldLength sections (imageBytes ks cs ++ rest) ≡ length (imageBytes ks cs)
+    unfolding toldLength imageBytes
+    front-length =
+        let p : countOf (imageBytes ks cs ++ rest) ≡ length ks = rw front (countOf-section key-faithful ks (sectionBytes claim cs ++ rest) small) in
+        let q : countOf (behind keySection (imageBytes ks cs ++ rest)) ≡ length cs = rw behind-front (countOf-section claim-faithful cs rest little) in
+        let long : length (imageBytes ks cs) ≡ sectionLength keySection (length ks) + sectionLength claimSection (length cs) =
+        rw (length-append (sectionBytes key ks), length-sectionBytes key-faithful, length-sectionBytes claim-faithful) in
+        omega arith
+
 -- ---- an image's keys and claims are written as its bytes
 
 imageBytes-parse : (bs : List ℕ) → Below byte bs → length bs ≡ toldLength sections bs → imageBytes (parse bs .keys) (parse bs .pending) ≡ bs
@@ -91,6 +118,17 @@ image-accepted n fit e =
     parse-imageBytes ks cs k c (each-take _ (n .store .count) (n .store .keys) (fit .keys)) (each-take ClaimFits (n .count) (n .pending) (fit .pending)) in
     let node : nodeFrom (parse (nodeBytes n)) ≡ n = ap nodeFrom parsed ∙ sym (nodeOf-same n (fit .shaped .keys) (fit .shaped .pending) (nodeInOrder-ordered n e)) in
     sym (readImage-0 (imageBytes-told ks cs k c) (ap nodeInOrder node ∙ e)) ∙ (λ i. record { number = 0; node = node i })
+
+-- Bytes that begin with the image of a node in order tell its length.
+pub image-length-is-told : (n : Node) (rest : List ℕ) → Shaped n → nodeInOrder n ≡ true
+    → imageLength (nodeBytes n ++ rest) ≡ record { number = 0; length = length (nodeBytes n) }
+unfolding imageLength
+image-length-is-told n rest shaped e =
+    let (few, several) = ordered-counts n e in
+    let k : length (nodeKeys n) ≤ limit = rw (length-nodeKeys n shaped few several) few in
+    let c : length (pendingOf n) ≤ tableLimit = rw (length-pending n shaped few several) several in
+    let long : length (nodeBytes n) ≤ length (nodeBytes n ++ rest) = rw (length-append (nodeBytes n) rest) (omega arith) in
+    rw (front-counts (nodeKeys n) (pendingOf n) k c rest, front-length (nodeKeys n) (pendingOf n) k c rest, le-leb (length (nodeBytes n)) (length (nodeBytes n ++ rest)) long)
 
 -- No two nodes in order have the same image.
 pub image-tells-node : (n m : Node) → NodeFits n → NodeFits m → nodeInOrder n ≡ true → nodeInOrder m ≡ true → nodeBytes n ≡ nodeBytes m → n ≡ m

@@ -4,10 +4,10 @@ use Prim.Native.Nat.{ℕ, zero, suc, _+_, _*_, _^_, _≤_, _<_}
 use native.Mathlib.Nat.{mul-suc, mul-zero}
 use native.Mathlib.Numerals.{add-one}
 use native.Mathlib.Omega.{arith}
-use mathlib.Core.Path.{_≡_, refl, ap}
-use mathlib.Core.List.{List, [], _∷_, _++_, append-assoc, append-nil}
+use mathlib.Core.Path.{_≡_, refl, ap, sym, subst}
+use mathlib.Core.List.{List, [], _∷_, _++_, append-assoc, append-nil, List·Memᴰ, List·Memᴰ·head, List·Memᴰ·tail, List·Memᴰ·not-nil}
 use lib.Dec.{lit≤}
-use lib.ListN.{length, take, drop, getD, set, length-append, length-drop}
+use lib.ListN.{length, take, drop, getD, set, replicate, length-append, length-drop}
 use lib.Seq.{drop-drop, take-add, take-suc, length-take-le, drop-at}
 use Rattle.rule.specs.Call.{writtenOver}
 use Rattle.wire.specs.Number.{byte, Below}
@@ -36,6 +36,26 @@ key-faithful =
 
 pub claim-faithful : Faithful claim ClaimFits
 claim-faithful = record { long = length-claimBytes; back = claimFrom-claimBytes; again = claimBytes-claimFrom; fits = claimFrom-fits }
+
+-- ---- each of some things
+
+-- by its members
+pub each-mem : {A : Type 0} (P : A → Type 0) (xs : List A) → ((x : A) → List·Memᴰ x xs → P x) → Each P xs
+each-mem P [] f = tt
+each-mem P (x ∷ xs) f = (f x (List·Memᴰ·head refl), each-mem P xs (λ y m. f y (List·Memᴰ·tail m)))
+
+pub mem-each : {A : Type 0} (P : A → Type 0) (xs : List A) → Each P xs → (x : A) → List·Memᴰ x xs → P x
+mem-each P [] e x m = absurd (List·Memᴰ·not-nil m)
+mem-each P (y ∷ ys) e x (List·Memᴰ·head p) = subst P (sym p) (e .0)
+mem-each P (y ∷ ys) e x (List·Memᴰ·tail m) = mem-each P ys (e .1) x m
+
+pub each-append : {A : Type 0} (P : A → Type 0) (xs ys : List A) → Each P xs → Each P ys → Each P (xs ++ ys)
+each-append P [] ys e f = f
+each-append P (x ∷ xs) ys e f = (e .0, each-append P xs ys (e .1) f)
+
+pub each-replicate : {A : Type 0} (P : A → Type 0) (n : ℕ) (x : A) → P x → Each P (replicate n x)
+each-replicate P zero x p = tt
+each-replicate P (suc n) x p = (p, each-replicate P n x p)
 
 -- the first things of a list are as the list's things are
 pub each-take : {A : Type 0} (P : A → Type 0) (n : ℕ) (xs : List A) → Each P xs → Each P (take n xs)
