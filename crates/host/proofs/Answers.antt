@@ -9,6 +9,8 @@ use borrow.Author.Tests.{le-leb, lt-leb, ne-eqb}
 use lib.Dec.{lit<}
 use lib.IntN.{ℤ, pos}
 use lib.ListN.{length, take, drop}
+use mir.Syntax.{w64}
+use mir.Val.{toZ, ofZ}
 use Rattle.keys.specs.declared.lent.Added.{Added}
 use Rattle.keys.specs.Store.{limit}
 use Rattle.keys.specs.Lent.{addIn, keysAdding}
@@ -35,7 +37,8 @@ use Rattle.host.specs.Taking.{questions6, takenUntil}
 use Rattle.host.specs.Frames.{framesLimit}
 use Rattle.host.specs.Call.{minus, nodeIn, imageCounted, takingQuestions, nodeAfter, enteringQuestions, nodeEntered}
 use Rattle.host.specs.Call.{beatImageQuestions, nodeServed, framesSent, imageBeaten, imageBeatenOut, imageBeatenFrames}
-use Rattle.host.specs.Known.{nodeHeld, Known, Loaded, TakenFrom, EnteredInto}
+use Rattle.host.specs.Known.{nodeHeld, Known, Loaded, TakenFrom, EnteredInto, Sent}
+use Rattle.host.proofs.Signs.{returned, fits-pos, fits-minus}
 use Rattle.host.proofs.Turns.{questions6-numbered, takenUntil-number, takenUntil-node, ordered-takenInTurn}
 use Rattle.host.proofs.Entering.{six, fits-six, ordered-entered, added-number, added-node, added-long}
 use Rattle.host.proofs.Saving.{known-refused}
@@ -109,9 +112,10 @@ module _ (image : List ℕ) {keys : List ℕ} {r : Rest} (loaded : Loaded image 
   loaded-refused f b =
       known-refused (loaded .number ∙ sym (firstNo-append-no (readImageQuestions image) b (λ z. f (loaded .number ∙ z)))) (loaded .sound .long) f
 
-  pub counted-no : (r .number ≡ 0 → ⊥) → minus (r .number) ≡ imageCounted image
+  -- z is what a function above returned, handed on
+  pub counted-no : {z : ℤ} → z ≡ minus (r .number) → r .number < 256 → (r .number ≡ 0 → ⊥) → toZ w64 (ofZ w64 z) ≡ imageCounted image
   unfolding imageCounted
-  counted-no f = rw (← loaded .number, ne-eqb (r .number) 0 f)
+  counted-no e few f = returned e (fits-minus (r .number) few) ∙ rw (← loaded .number, ne-eqb (r .number) 0 f)
 
   module _ (read : r .number ≡ 0) where
     -- it was accepted
@@ -121,16 +125,20 @@ module _ (image : List ℕ) {keys : List ℕ} {r : Rest} (loaded : Loaded image 
     pub loaded-ordered : Ordered (nodeIn image)
     loaded-ordered = subst Ordered (loaded .node read) (nodeInOrder-ordered (nodeHeld keys r) (loaded .sound .ordered read))
 
-    pub loaded-held : r .held ≡ length (nodeKeys (nodeIn image))
+    loaded-held : r .held ≡ length (nodeKeys (nodeIn image))
     loaded-held = rw (← loaded .node read)
         (sym (length-keysOf (nodeHeld keys r .store) (loaded .sound .long) (nodeInOrder-ordered (nodeHeld keys r) (loaded .sound .ordered read) .store)))
 
-    pub loaded-few : r .held ≤ limit
+    loaded-few : r .held ≤ limit
     loaded-few = inOrder-count (nodeHeld keys r .store) (nodeInOrder-ordered (nodeHeld keys r) (loaded .sound .ordered read) .store)
 
-    pub counted-yes : pos (r .held) ≡ imageCounted image
+    -- a count is no greater than an image's length
+    pub loaded-small : r .held ≤ imageLimit
+    loaded-small = omega (arith, loaded-few)
+
+    pub counted-yes : {z : ℤ} → z ≡ pos (r .held) → toZ w64 (ofZ w64 z) ≡ imageCounted image
     unfolding imageCounted
-    counted-yes = rw (← loaded .number, read, loaded-held)
+    counted-yes e = returned e (fits-pos (r .held) loaded-small) ∙ rw (← loaded .number, read, loaded-held)
 
     -- what is asked behind 14 and 1
     past-image : (b : List Question) → firstNo (readImageQuestions image ++ b) ≡ firstNo b
@@ -180,40 +188,49 @@ module _ (image : List ℕ) {keys : List ℕ} {r : Rest} (loaded : Loaded image 
 
 -- ---- a beat
 
--- what a beat of an image returns, and what it leaves in both buffers
-pub record Beaten (image out frames out₁ frames₁ : List ℕ) (result : ℤ) : Type 0 where
-  pub returned : result ≡ imageBeaten image (length out) (length frames)
-  pub left : out₁ ≡ imageBeatenOut image out (length frames)
-  pub sent : frames₁ ≡ imageBeatenFrames image (length out) frames
+-- What a beat of an image returns, and what it leaves in both buffers: z is what a function above returned, handed on.
+abbrev pub Beaten : List ℕ → List ℕ → List ℕ → List ℕ → List ℕ → ℤ → Type 0
+Beaten image out frames out₁ frames₁ z =
+    (toZ w64 (ofZ w64 z) ≡ imageBeaten image (length out) (length frames))
+    × (out₁ ≡ imageBeatenOut image out (length frames))
+    × (frames₁ ≡ imageBeatenFrames image (length out) frames)
 
 module _ (image out frames : List ℕ) {keys : List ℕ} {r : Rest} (loaded : Loaded image keys r) where
-  -- 15 of both buffers
+  -- its questions, and of them 15 of both buffers
+  abbrev asked : List Question
+  asked = beatImageQuestions image (length out) (length frames)
+
   abbrev rooms : List Question
   rooms = question15 (length out) imageLimit ∷ question15 (length frames) framesLimit ∷ []
 
-  beaten-refused : (k : ℕ) → firstNo (beatImageQuestions image (length out) (length frames)) ≡ k → (k ≡ 0 → ⊥) → Beaten image out frames out frames (minus k)
+  beaten-refused : (k : ℕ) → k < 256 → (k ≡ 0 → ⊥) → firstNo asked ≡ k → {z : ℤ} → z ≡ minus k → Beaten image out frames out frames z
   unfolding imageBeaten imageBeatenOut imageBeatenFrames
-  beaten-refused k q f = let no = ne-eqb k 0 f in record { returned = rw (q, no); left = rw (q, no); sent = rw (q, no) }
+  beaten-refused k few f q e = let no = ne-eqb k 0 f in (returned e (fits-minus k few) ∙ rw (q, no), rw (q, no), rw (q, no))
 
-  pub beaten-image : (r .number ≡ 0 → ⊥) → Beaten image out frames out frames (minus (r .number))
-  beaten-image f = beaten-refused (r .number) (firstNo-append-no (readImageQuestions image) rooms (λ z. f (loaded .number ∙ z)) ∙ sym (loaded .number)) f
+  pub beaten-image : r .number < 256 → (r .number ≡ 0 → ⊥) → {z : ℤ} → z ≡ minus (r .number) → Beaten image out frames out frames z
+  beaten-image few f =
+      beaten-refused (r .number) few f (firstNo-append-no (readImageQuestions image) rooms (λ z. f (loaded .number ∙ z)) ∙ sym (loaded .number))
 
   module _ (read : r .number ≡ 0) where
-    pub beaten-out : length out < imageLimit → Beaten image out frames out frames (minus 15)
-    beaten-out h = beaten-refused 15 (past-image image loaded read rooms ∙ rw (lt-leb imageLimit (length out) h)) (λ (z : 15 ≡ 0). omega arith)
+    past : firstNo asked ≡ firstNo rooms
+    past = past-image image loaded read rooms
+
+    pub beaten-out : length out < imageLimit → {z : ℤ} → z ≡ minus 15 → Beaten image out frames out frames z
+    beaten-out h = beaten-refused 15 (lit< tt) (λ (z : 15 ≡ 0). omega arith) (past ∙ rw (lt-leb imageLimit (length out) h))
 
     module _ (room : imageLimit ≤ length out) where
-      pub beaten-frames : length frames < framesLimit → Beaten image out frames out frames (minus 15)
+      pub beaten-frames : length frames < framesLimit → {z : ℤ} → z ≡ minus 15 → Beaten image out frames out frames z
       beaten-frames h =
-          let q : firstNo (beatImageQuestions image (length out) (length frames)) ≡ 15 =
-          past-image image loaded read rooms ∙ rw (le-leb imageLimit (length out) room, lt-leb framesLimit (length frames) h) in
-          beaten-refused 15 q (λ (z : 15 ≡ 0). omega arith)
+          beaten-refused 15 (lit< tt) (λ (z : 15 ≡ 0). omega arith) (past ∙ rw (le-leb imageLimit (length out) room, lt-leb framesLimit (length frames) h))
 
-      pub beaten-0 : framesLimit ≤ length frames
-          → Beaten image out frames (writtenOver (nodeBytes (nodeServed (nodeIn image))) out) (writtenOver (framesSent (nodeIn image)) frames)
-          (pos (length (framesSent (nodeIn image))))
+      pub beaten-0 : framesLimit ≤ length frames → {z : ℤ} {sent : ℕ} {out₁ frames₁ : List ℕ} → z ≡ pos sent
+          → Sent (nodeHeld keys r) out out₁ frames frames₁ sent → Beaten image out frames out₁ frames₁ z
       unfolding imageBeaten imageBeatenOut imageBeatenFrames
-      beaten-0 h =
-          let q : firstNo (beatImageQuestions image (length out) (length frames)) ≡ 0 =
-          past-image image loaded read rooms ∙ rw (le-leb imageLimit (length out) room, le-leb framesLimit (length frames) h) in
-          record { returned = rw q; left = rw q; sent = rw q }
+      beaten-0 h e s =
+          let q : firstNo asked ≡ 0 = past ∙ rw (le-leb imageLimit (length out) room, le-leb framesLimit (length frames) h) in
+          let n = loaded .node read in
+          let most = s .most in (
+            returned e (fits-pos _ (omega arith)) ∙ rw q (ap pos (s .size ∙ ap (λ (m : Node). length (framesSent m)) n)),
+            s .left ∙ rw q (ap (λ (m : Node). writtenOver (nodeBytes (nodeServed m)) out) n),
+            s .sent ∙ rw q (ap (λ (m : Node). writtenOver (framesSent m) frames) n),
+          )

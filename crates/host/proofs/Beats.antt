@@ -30,6 +30,13 @@ use Rattle.host.proofs.Grouping.{length-framesBytes, framesLength-limit
 use Rattle.host.proofs.Passing.{sending-passes}
 use Rattle.host.proofs.Words.{readRun-claimWords}
 
+-- A beat of a node returned r and left `words` in the run that it was lent: the node after it, and the claims that it sends, which pass 13.
+pub record Ran (n : Node) (r : Beaten) (words : List ℕ) : Type 0 where
+  pub node : r .node ≡ nodeServed n
+  pub sent : readRun inWords (r .written) words ≡ sending (nodeKeys n) (pendingOf n)
+  pub room : 4 * r .written ≤ length words
+  pub pass : allPass (readRun inWords (r .written) words) ≡ true
+
 module _ (n : Node) (ordered : nodeInOrder n ≡ true) where
   o : Ordered n
   o = nodeInOrder-ordered n ordered
@@ -55,26 +62,27 @@ module _ (n : Node) (ordered : nodeInOrder n ≡ true) where
     done : r ≡ record { number = 0; node = nodeServed n; written = length sent }
     done = beaten ∙ (beatenIn-beaten n lent long o ∙ beaten-done n lent asked)
 
-    pub beat-node : r .node ≡ nodeServed n
-    beat-node = ap (λ (b : Beaten). b .node) done
-
     beat-written : r .written ≡ length sent
     beat-written = ap (λ (b : Beaten). b .written) done
 
     beat-words : words ≡ writtenOver (claimWords sent) lent
     beat-words = left ∙ (beatenInLent-beatenLent n lent long o ∙ beatenLent-done n lent asked)
 
-    -- the claims that were written are those that are sent
-    pub beat-read : readRun inWords (r .written) words ≡ sent
+    beat-read : readRun inWords (r .written) words ≡ sent
     beat-read = rw (beat-written, beat-words) (readRun-claimWords sent (drop (length (claimWords sent)) lent))
 
-    pub beat-room : 4 * r .written ≤ length words
+    beat-room : 4 * r .written ≤ length words
     beat-room =
         let m = length-claimWords sent in
         let k = sent-count in
         rw (beat-written, beat-words, length-writtenOver (claimWords sent) lent (omega arith)) (omega arith)
 
-    pub beat-pass : allPass (readRun inWords (r .written) words) ≡ true
-    beat-pass =
+    pub beat-ran : Ran n r words
+    beat-ran =
         let short : length (nodeKeys n) ≤ limit = omega (arith, length-keysOf (n .store) long (o .store), inOrder-count (n .store) (o .store)) in
-        rw beat-read (sending-passes (nodeKeys n) (inOrder-rising (n .store) (o .store)) short (pendingOf n) (o .fit))
+        record {
+          node = ap (λ (b : Beaten). b .node) done;
+          sent = beat-read;
+          room = beat-room;
+          pass = rw beat-read (sending-passes (nodeKeys n) (inOrder-rising (n .store) (o .store)) short (pendingOf n) (o .fit));
+        }

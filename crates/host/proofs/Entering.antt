@@ -2,7 +2,6 @@
 -- lent keys tells and leaves, which is that. Assumes nothing.
 use Prim.Native.Nat.{ℕ, _+_, _≤_, _<_}
 use native.Mathlib.Omega.{arith}
-use mathlib.Core.Bool.{true}
 use mathlib.Core.List.{List, [], _∷_}
 use mathlib.Core.Logic.{⊎-elim}
 use mathlib.Core.Path.{_≡_, ap, ap₂, sym, _∙_, subst}
@@ -10,7 +9,7 @@ use borrow.Author.Tests.{lt-ltb, le-ltb}
 use lib.ListN.{length}
 use Rattle.keys.specs.declared.store.Store.{Store}
 use Rattle.keys.specs.declared.lent.Added.{Added}
-use Rattle.keys.specs.Store.{limit, keysOf, storeOf, insert}
+use Rattle.keys.specs.Store.{limit, storeOf, insert}
 use Rattle.keys.specs.Lent.{addIn, keysAdding}
 use Rattle.keys.proofs.Tests.{lt-or-le}
 use Rattle.keys.proofs.Rising.{Rising}

@@ -2,11 +2,11 @@
 -- the node once claims are taken, after a beat, and with a key entered; the claims that a beat sends. Assumes nothing.
 use Prim.Native.Nat.{ℕ, _-_, _^_, _≤_, _<_}
 use native.Mathlib.Omega.{arith}
-use mathlib.Core.List.{List, [], _∷_, _++_, List·Memᴰ, List·Memᴰ·eq-of-singleton, List·Memᴰ·cases-cons}
+use mathlib.Core.List.{List, [], _∷_, List·Memᴰ}
 use mathlib.Core.Logic.{⊎-elim}
-use mathlib.Core.Path.{_≡_, refl, sym, _∙_, ap, subst}
+use mathlib.Core.Path.{_≡_, sym, subst}
 use lib.ListN.{length, drop, length-append, length-replicate}
-use Rattle.keys.specs.Store.{limit, zeros, storeOf, insert}
+use Rattle.keys.specs.Store.{limit, zeros, storeOf}
 use Rattle.keys.proofs.Tests.{eq-or-ne}
 use Rattle.keys.proofs.Insert.{insert-mem}
 use Rattle.keys.proofs.Order.{keys-storeOf, keysOf-storeOf, length-keys-storeOf, inOrder-rising}
@@ -21,9 +21,9 @@ use Rattle.claims.proofs.Xor.{xorAll-lt}
 use Rattle.rule.specs.declared.node.Node.{Node}
 use Rattle.rule.specs.declared.answer.Taken.{Taken}
 use Rattle.rule.specs.Table.{tableLimit, insertClaim, tableWith, serve, sending}
-use Rattle.rule.specs.Node.{blanks, nodeKeys, pendingOf, nodeOf, nodeInOrder}
+use Rattle.rule.specs.Node.{blanks, nodeKeys, pendingOf, nodeOf}
 use Rattle.rule.specs.Call.{takeQuestions, taken}
-use Rattle.rule.proofs.NodeLaws.{Ordered, restored, nodeInOrder-ordered, nodeKeys-nodeOf, pendingOf-nodeOf, nodeOf-same}
+use Rattle.rule.proofs.NodeLaws.{Ordered, nodeKeys-nodeOf, pendingOf-nodeOf, nodeOf-same}
 use Rattle.rule.proofs.CallLaws.{takeQuestions-yes, taken-done, taken-refused, length-nodeKeys, length-pendingOf}
 use Rattle.rule.proofs.TableLaws.{insertClaim-mem, length-tableWith, kept-mem, length-kept}
 use Rattle.wire.specs.declared.answer.Imaged.{Imaged}

@@ -3,15 +3,15 @@
 use Prim.Native.Nat.{ℕ, _≤_, _<_}
 use native.Mathlib.Omega.{arith}
 use mathlib.Core.Bool.{true}
-use mathlib.Core.List.{List, [], _∷_, _++_}
+use mathlib.Core.List.{List, [], _∷_}
 use mathlib.Core.Logic.{⊎-elim}
-use mathlib.Core.Path.{_≡_, refl, ap, sym, _∙_, subst}
+use mathlib.Core.Path.{_≡_, ap, sym, _∙_, subst}
 use borrow.Author.Tests.{le-leb, lt-leb, eq-eqb, ne-eqb}
 use lib.Dec.{lit<}
 use lib.IntN.{ℤ, pos}
 use lib.ListN.{length}
 use mir.Syntax.{w64}
-use mir.Val.{SFits}
+use mir.Val.{SFits, toZ, ofZ}
 use Rattle.keys.specs.Store.{limit}
 use Rattle.keys.proofs.Tests.{eq-or-ne}
 use Rattle.claims.specs.Question.{Question, firstNo, settle}
@@ -21,13 +21,14 @@ use Rattle.rule.specs.declared.answer.Rest.{Rest}
 use Rattle.rule.specs.Node.{nodeInOrder}
 use Rattle.rule.specs.Question.{question15}
 use Rattle.rule.specs.Call.{writtenOver}
+use Rattle.wire.specs.declared.answer.Length.{Length}
 use Rattle.wire.specs.Image.{imageLimit, nodeBytes, Shaped}
 use Rattle.wire.specs.Lent.{writeImageIn, imageInLent}
 use Rattle.wire.proofs.Images.{ordered-withinLimits, writeImageIn-0}
 use Rattle.wire.proofs.ImageTrips.{image-at-most}
 use Rattle.host.specs.Call.{minus, savingQuestions, saved, savedOut}
 use Rattle.host.specs.Known.{nodeHeld, Known, asOne, Saved}
-use Rattle.host.proofs.Signs.{fits-pos, fits-minus}
+use Rattle.host.proofs.Signs.{returned, fits-pos, fits-minus}
 
 -- ---- where a question was answered no
 
@@ -43,34 +44,44 @@ writeImageIn-room n shaped ordered out h =
     let l = image-at-most n shaped ordered in
     writeImageIn-0 n out (ordered-withinLimits n out (shaped .keys) ordered) (omega arith)
 
--- ---- the ways of the code
+-- .. and then its length is at most that
+pub written-length : (n : Node) → Shaped n → nodeInOrder n ≡ true → (out : List ℕ) → imageLimit ≤ length out
+    → {w : Length} → w ≡ writeImageIn n (length out) → w .length ≡ length (nodeBytes n)
+written-length n shaped ordered out h e = ap (λ (x : Length). x .length) (e ∙ sym (writeImageIn-room n shaped ordered out h .0))
 
-module _ {keys : List ℕ} {r : Rest} {out : List ℕ} {result : ℤ} where
-  pub saved-refused : (r .number ≡ 0 → ⊥) → r .number < 256 → result ≡ minus (r .number) → Saved keys r out out result
+pub written-most : (n : Node) → Shaped n → nodeInOrder n ≡ true → (out : List ℕ) → imageLimit ≤ length out
+    → {w : Length} → w ≡ writeImageIn n (length out) → w .length ≤ imageLimit
+written-most n shaped ordered out h e = rw (written-length n shaped ordered out h e) (image-at-most n shaped ordered)
+
+-- ---- the ways of the code: z is what a function above returned, handed on
+
+module _ {keys : List ℕ} {r : Rest} {out : List ℕ} {z : ℤ} where
+  pub saved-refused : z ≡ minus (r .number) → r .number < 256 → (r .number ≡ 0 → ⊥) → Saved keys r out out (toZ w64 (ofZ w64 z))
   unfolding saved savedOut
-  saved-refused f few e =
+  saved-refused e few f =
       let no = ne-eqb (r .number) 0 f in
-      record { returned = e ∙ rw (no, no); fits = subst (SFits w64) (sym e) (fits-minus (r .number) few); left = rw (no, no) }
+      let result = returned e (fits-minus (r .number) few) in
+      record { returned = result ∙ rw (no, no); fits = subst (SFits w64) (sym result) (fits-minus (r .number) few); left = rw (no, no) }
 
   module _ (none : r .number ≡ 0) where
-    pub saved-15 : length out < imageLimit → result ≡ minus 15 → Saved keys r out out result
+    pub saved-15 : z ≡ minus 15 → length out < imageLimit → Saved keys r out out (toZ w64 (ofZ w64 z))
     unfolding saved savedOut
-    saved-15 h e =
+    saved-15 e h =
         let no = lt-leb imageLimit (length out) h in
-        record { returned = e ∙ rw (none, no); fits = subst (SFits w64) (sym e) (fits-minus 15 (lit< tt)); left = rw (none, no) }
+        let result = returned e (fits-minus 15 (lit< tt)) in
+        record { returned = result ∙ rw (none, no); fits = subst (SFits w64) (sym result) (fits-minus 15 (lit< tt)); left = rw (none, no) }
 
-    module _ (shaped : Shaped (nodeHeld keys r)) (ordered : nodeInOrder (nodeHeld keys r) ≡ true) (room : imageLimit ≤ length out) where
-      pub saved-0 : {after : List ℕ} → result ≡ pos (length (nodeBytes (nodeHeld keys r))) → after ≡ imageInLent (nodeHeld keys r) out
-          → Saved keys r out after result
-      unfolding saved savedOut
-      saved-0 e f =
-          let yes = le-leb imageLimit (length out) room in
-          let written = f ∙ sym (writeImageIn-room (nodeHeld keys r) shaped ordered out room .1) in
-          record {
-            returned = e ∙ rw (none, yes);
-            fits = subst (SFits w64) (sym e) (fits-pos _ (image-at-most (nodeHeld keys r) shaped ordered));
-            left = written ∙ rw (none, yes);
-          }
+    pub saved-0 : Shaped (nodeHeld keys r) → nodeInOrder (nodeHeld keys r) ≡ true → imageLimit ≤ length out
+        → {w : Length} → w ≡ writeImageIn (nodeHeld keys r) (length out) → z ≡ pos (w .length)
+        → {after : List ℕ} → after ≡ imageInLent (nodeHeld keys r) out → Saved keys r out after (toZ w64 (ofZ w64 z))
+    unfolding saved savedOut
+    saved-0 shaped ordered room written e f =
+        let yes = le-leb imageLimit (length out) room in
+        let long = written-length (nodeHeld keys r) shaped ordered out room written in
+        let fit = fits-pos _ (image-at-most (nodeHeld keys r) shaped ordered) in
+        let result = returned (e ∙ ap pos long) fit in
+        let image = f ∙ sym (writeImageIn-room (nodeHeld keys r) shaped ordered out room .1) in
+        record { returned = result ∙ rw (none, yes); fits = subst (SFits w64) (sym result) fit; left = image ∙ rw (none, yes) }
 
 -- ---- the questions put so far, as one and one by one
 

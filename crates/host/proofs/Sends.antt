@@ -28,6 +28,7 @@ use Rattle.wire.proofs.FrameTrips.{length-frameBytes}
 use Rattle.wire.proofs.Places.{length-putAt, putAt-nil, putAt-zero, putAt-append}
 use Rattle.wire.proofs.Runs.{length-readRun, set-readRun}
 use Rattle.host.specs.Frames.{framesBytes, inWords}
+use Rattle.host.specs.Known.{FramesWritten}
 use Rattle.host.proofs.Words.{getD-readRun}
 use Rattle.host.proofs.Turns.{allPass-getD}
 use Rattle.host.proofs.Grouping.{framesBytes-turn, framesBytes-nil}
@@ -125,59 +126,66 @@ module _ (cs : List Claim) (before : List ℕ) where
   written-none = record { whole = zero-add (length (framesBytes cs)); put = putAt-zero before (framesBytes cs); long = refl }
 
   module _ (frames : List ℕ) (i at : ℕ) (so : Written cs before frames i at) where
-    pub written-all : length cs ≤ i → (at ≡ length (framesBytes cs)) × (frames ≡ writtenOver (framesBytes cs) before)
+    pub written-all : length cs ≤ i → FramesWritten cs before frames at
     written-all h =
         let none : framesBytes (drop i cs) ≡ [] = ap framesBytes (drop-of-length-le cs h) ∙ framesBytes-nil in
         let w = so .whole in
         let e : length (framesBytes (drop i cs)) ≡ 0 = ap length none in
-        (omega arith, sym (putAt-nil frames at) ∙ (ap (λ (bs : List ℕ). putAt frames at bs) (sym none) ∙ so .put))
+        record { size = omega arith; frames = sym (putAt-nil frames at) ∙ (ap (λ (bs : List ℕ). putAt frames at bs) (sym none) ∙ so .put) }
 
-    -- the next frame: that of the n claims from i on
-    module _ (n : ℕ) (below : i < length cs) (most : n ≡ min (length cs - i) frameLimit) (fits : length (framesBytes cs) ≤ length before) where
-      left : length (drop i cs) ≡ length cs - i
-      left = length-drop i cs
+-- the next frame: that of the n claims from i on
+pub record Turn (cs : List Claim) (before frames : List ℕ) (i at n : ℕ) : Type 0 where
+  pub so : Written cs before frames i at
+  pub below : i < length cs
+  pub most : n ≡ min (length cs - i) frameLimit
+  pub fits : length (framesBytes cs) ≤ length before
 
-      pub turn-many : length (take n (drop i cs)) ≡ n
-      turn-many = let l = left in omega (arith, length-take n (drop i cs))
+module _ {cs : List Claim} {before frames : List ℕ} {i at n : ℕ} (t : Turn cs before frames i at n) where
+  left : length (drop i cs) ≡ length cs - i
+  left = length-drop i cs
 
-      pub turn-countable : countable n ≡ true
-      turn-countable = countable-of n (omega arith) (omega arith)
+  turn-many : length (take n (drop i cs)) ≡ n
+  turn-many = omega (arith, left, t .most, length-take n (drop i cs))
 
-      turn-split : framesBytes (drop i cs) ≡ frameBytes (take n (drop i cs)) ++ framesBytes (drop (i + n) cs)
-      turn-split =
-          let l = left in
-          framesBytes-turn (drop i cs) n (omega arith) (rw left most)
-          ∙ ap (λ (ds : List Claim). frameBytes (take n (drop i cs)) ++ framesBytes ds) (drop-drop n i cs)
+  pub turn-few : n ≤ frameLimit
+  turn-few = omega (arith, t .most)
 
-      turn-size : length (frameBytes (take n (drop i cs))) ≡ frameLength n
-      turn-size = length-frameBytes (take n (drop i cs)) ∙ ap (λ (k : ℕ). frameLength k) turn-many
+  pub turn-more : 0 < n
+  turn-more = omega (arith, t .below, t .most)
 
-      turn-length : length (framesBytes (drop i cs)) ≡ frameLength n + length (framesBytes (drop (i + n) cs))
-      turn-length = ap length turn-split ∙ rw (length-append, turn-size)
+  pub turn-inside : i + n ≤ length cs
+  turn-inside = omega (arith, t .below, t .most)
 
-      pub turn-room : at + frameLength n ≤ length frames
-      turn-room =
-          let l = turn-length in
-          let w = so .whole in
-          let e = so .long in
-          omega arith
+  pub turn-countable : countable n ≡ true
+  turn-countable = countable-of n turn-more turn-few
 
-      pub turn-written : {after : List ℕ} {next : ℕ} → next ≡ at + frameLength n
-          → after ≡ putAt frames at (frameBytes (take n (drop i cs))) → Written cs before after (i + n) next
-      turn-written {after} {next} e f =
-          let l = turn-length in
-          let w = so .whole in
-          let size = turn-size in
-          let room = turn-room in
-          record {
-            whole = omega arith;
-            put =
-                rw (e, f)
-                (putAt-append frames at (frameBytes (take n (drop i cs))) (framesBytes (drop (i + n) cs)) (frameLength n) turn-size turn-room
-                ∙ (ap (λ (bs : List ℕ). putAt frames at bs) (sym turn-split) ∙ so .put));
-            long = rw f (length-putAt frames at (frameBytes (take n (drop i cs))) (omega arith) ∙ so .long);
-          }
+  turn-split : framesBytes (drop i cs) ≡ frameBytes (take n (drop i cs)) ++ framesBytes (drop (i + n) cs)
+  turn-split =
+      framesBytes-turn (drop i cs) n (omega (arith, left, t .below)) (rw left (t .most))
+      ∙ ap (λ (ds : List Claim). frameBytes (take n (drop i cs)) ++ framesBytes ds) (drop-drop n i cs)
 
-  -- the claims of the next frame pass, as all do
-  pub turn-pass : (i n : ℕ) → allPass cs ≡ true → allPass (take n (drop i cs)) ≡ true
-  turn-pass i n p = allPass-take n (drop i cs) (allPass-drop i cs p)
+  turn-size : length (frameBytes (take n (drop i cs))) ≡ frameLength n
+  turn-size = length-frameBytes (take n (drop i cs)) ∙ ap (λ (k : ℕ). frameLength k) turn-many
+
+  turn-length : length (framesBytes (drop i cs)) ≡ frameLength n + length (framesBytes (drop (i + n) cs))
+  turn-length = ap length turn-split ∙ rw (length-append, turn-size)
+
+  pub turn-room : at + frameLength n ≤ length frames
+  turn-room = omega (arith, turn-length, t .so .whole, t .so .long, t .fits)
+
+  pub turn-pass : allPass cs ≡ true → allPass (take n (drop i cs)) ≡ true
+  turn-pass p = allPass-take n (drop i cs) (allPass-drop i cs p)
+
+  pub turn-written : {after : List ℕ} {next : ℕ} → next ≡ at + frameLength n → after ≡ putAt frames at (frameBytes (take n (drop i cs)))
+      → Written cs before after (i + n) next
+  turn-written {after} {next} e f =
+      let size = turn-size in
+      let room = turn-room in
+      record {
+        whole = omega (arith, turn-length, t .so .whole);
+        put =
+            rw (e, f)
+            (putAt-append frames at (frameBytes (take n (drop i cs))) (framesBytes (drop (i + n) cs)) (frameLength n) turn-size turn-room
+            ∙ (ap (λ (bs : List ℕ). putAt frames at bs) (sym turn-split) ∙ t .so .put));
+        long = rw f (length-putAt frames at (frameBytes (take n (drop i cs))) (omega arith) ∙ t .so .long);
+      }

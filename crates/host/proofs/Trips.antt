@@ -1,12 +1,12 @@
 -- What the daemon is given back is what the next call takes, over the definitions that the contracts of the host calls cite, for images and frames of bytes.
 -- A call that was not refused returned a length, `pos n`; then the image that it wrote is read as exactly the node that the rule gives, by the next host call
 -- too, and each frame of a beat as exactly its claims. The lemmas come first, the theorems last. Assumes nothing.
-use Prim.Native.Nat.{ℕ, zero, suc, _^_, _≤_, _<_}
+use Prim.Native.Nat.{ℕ, zero, suc, _^_, _<_}
 use native.Mathlib.Omega.{arith}
 use mathlib.Core.List.{List, [], _∷_, _++_, List·Memᴰ, flatten}
 use mathlib.Core.Logic.{⊎-elim}
 use mathlib.Core.Path.{_≡_, refl, sym, _∙_, ap}
-use lib.IntN.{ℤ, pos}
+use lib.IntN.{pos}
 use lib.ListN.{length, take, drop}
 use lib.Seq.{take-append-seam}
 use Rattle.keys.proofs.Tests.{eq-or-ne}
@@ -18,7 +18,6 @@ use Rattle.rule.specs.declared.node.Node.{Node}
 use Rattle.rule.specs.Table.{sending}
 use Rattle.rule.specs.Node.{nodeKeys, pendingOf}
 use Rattle.rule.specs.Question.{question15}
-use Rattle.rule.specs.Call.{writtenOver}
 use Rattle.rule.proofs.NodeLaws.{Ordered, nodeInOrder-ordered, ordered-nodeInOrder}
 use Rattle.rule.proofs.CallLaws.{ordered-beaten, length-nodeKeys, length-pendingOf}
 use Rattle.wire.specs.declared.answer.Imaged.{Imaged}
@@ -28,7 +27,7 @@ use Rattle.wire.specs.Frame.{headSize, frameCount, frameClaims, frameBytes, fou
 use Rattle.wire.specs.Image.{imageLimit, nodeBytes, readImageQuestions, readImage, imageLength}
 use Rattle.wire.proofs.Numbers.{below-drop}
 use Rattle.wire.proofs.Runs.{each-mem, mem-each, claim-faithful, readRun-fits}
-use Rattle.wire.proofs.Frames.{readFrame-number, readFrame-yes}
+use Rattle.wire.proofs.Frames.{readFrame-yes}
 use Rattle.wire.proofs.FrameTrips.{frame-accepted}
 use Rattle.wire.proofs.Images.{readImage-number}
 use Rattle.wire.proofs.ImageTrips.{image-accepted, image-length-is-told}
@@ -39,7 +38,7 @@ use Rattle.host.specs.Call.{imageBeaten, imageBeatenOut, imageBeatenFram
 use Rattle.host.proofs.Turns.{ordered-takenInTurn}
 use Rattle.host.proofs.Grouping.{flatten-fours, fours-mem}
 use Rattle.host.proofs.Passing.{allPass-mem, sending-spanned, spanned-passes}
-use Rattle.host.proofs.Entering.{six, fits-six, ordered-entered}
+use Rattle.host.proofs.Entering.{fits-six, ordered-entered}
 use Rattle.host.proofs.Answers.{sixes, image-numbered, frame-numbered, readImage-ordered}
 use Rattle.host.proofs.Fitting.{Narrow, narrow-fits, narrow-read, narrow-takenInTurn, narrow-served, narrow-entered, sending-fits}
 
@@ -184,5 +183,6 @@ beaten-frames-are-read image out frames m below e =
       λ g i.
           let (some, few, sub) = fours-mem sent g i in
           frame-accepted g (each-mem ClaimFits g (λ c j. mem-each ClaimFits sent fit c (sub c j))) some few
-          (allPass-mem g (λ c j. spanned-passes (nodeKeys n) rise (length-nodeKeys n o) c (sending-spanned (nodeKeys n) rise (pendingOf n) (o .fit) c (sub c j)))),
+          (allPass-mem g (λ c j.
+          spanned-passes (nodeKeys n) rise (length-nodeKeys n o) c (sending-spanned (nodeKeys n) rise (pendingOf n) (o .fit) c (sub c j)))),
     )

@@ -40,32 +40,46 @@ allPass-getD (c ∷ cs) (suc i) p h = allPass-getD cs i (and-right (eqb (judged 
 
 -- ---- one turn: r is what taking the claim at place i gave
 
-module _ (n : Node) (cs : List Claim) (i : ℕ) {r : Taken} (below : i < length cs) (shaped : Shaped n) (ordered : nodeInOrder n ≡ true)
-    (pass : allPass cs ≡ true) (next : r ≡ takenNext n (getD cs i noClaim)) where
-  turn-taken : r ≡ taken n (getD cs i noClaim)
-  turn-taken = next ∙ takenNext-taken n (shaped .pending) (nodeInOrder-ordered n ordered) (getD cs i noClaim) (shaped .keys) (allPass-getD cs i pass below)
+pub record Turn (n : Node) (cs : List Claim) (i : ℕ) (r : Taken) : Type 0 where
+  pub below : i < length cs
+  pub shaped : Shaped n
+  pub ordered : nodeInOrder n ≡ true
+  pub pass : allPass cs ≡ true
+  pub next : r ≡ takenNext n (getD cs i noClaim)
+
+module _ {n : Node} {cs : List Claim} {i : ℕ} {r : Taken} (t : Turn n cs i r) where
+  -- the claim
+  abbrev c : Claim
+  c = getD cs i noClaim
+
+  passes : judged c ≡ 0
+  passes = allPass-getD cs i (t .pass) (t .below)
+
+  o : Ordered n
+  o = nodeInOrder-ordered n (t .ordered)
+
+  turn-taken : r ≡ taken n c
+  turn-taken = t .next ∙ takenNext-taken n (t .shaped .pending) o c (t .shaped .keys) passes
 
   pub turn-refused : (r .number ≡ 0 → ⊥) → takenUntil n (drop i cs) ≡ r
-  turn-refused f = rw (drop-cons cs i noClaim below, ← turn-taken, ne-eqb (r .number) 0 f)
+  turn-refused f = rw (drop-cons cs i noClaim (t .below), ← turn-taken, ne-eqb (r .number) 0 f)
 
   pub turn-done : r .number ≡ 0 → takenUntil n (drop i cs) ≡ takenUntil (r .node) (drop (i + 1) cs)
-  turn-done e = rw (add-one, drop-cons cs i noClaim below, ← turn-taken, eq-eqb (r .number) 0 e)
+  turn-done e = rw (add-one, drop-cons cs i noClaim (t .below), ← turn-taken, eq-eqb (r .number) 0 e)
 
   pub turn-ordered : nodeInOrder (r .node) ≡ true
   turn-ordered =
-      subst (λ (t : Taken). nodeInOrder (t .node) ≡ true) (sym next)
-      (ordered-nodeInOrder (takenNext n (getD cs i noClaim) .node)
-      (ordered-takenNext n (shaped .pending) (nodeInOrder-ordered n ordered) (getD cs i noClaim) (shaped .keys) (allPass-getD cs i pass below)))
+      subst (λ (x : Taken). nodeInOrder (x .node) ≡ true) (sym (t .next))
+      (ordered-nodeInOrder (takenNext n c .node) (ordered-takenNext n (t .shaped .pending) o c (t .shaped .keys) passes))
 
   -- the run of keys keeps its places
   pub turn-long : length (r .node .store .keys) ≡ limit
   turn-long =
-      let c = getD cs i noClaim in
       ⊎-elim {C = length (r .node .store .keys) ≡ limit}
       (λ (e : firstNo (takeQuestions n c) ≡ 0).
       rw (turn-taken ∙ taken-done n c e, store-nodeOf (hear c (nodeKeys n)) (tableWith c (pendingOf n)))
       (length-keys-storeOf (hear c (nodeKeys n)) (takeQuestions-yes n c e .room)))
-      (λ (f : firstNo (takeQuestions n c) ≡ 0 → ⊥). rw (turn-taken ∙ taken-refused n c f) (shaped .keys))
+      (λ (f : firstNo (takeQuestions n c) ≡ 0 → ⊥). rw (turn-taken ∙ taken-refused n c f) (t .shaped .keys))
       (eq-or-ne (firstNo (takeQuestions n c)) 0)
 
 -- none is left

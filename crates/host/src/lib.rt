@@ -1,18 +1,18 @@
 // What the kiosk daemon links: four calls on images and frames (document 01, "Host calls").
 mod enter;
 mod load;
-mod reply;
 mod save;
 mod sent;
+mod sign;
 mod turn;
 
 use crate::enter::entered_into;
 use crate::load::load;
-use crate::reply::refusal;
-use crate::reply::size;
 use crate::save::save;
 use crate::sent::FRAMES;
 use crate::sent::send;
+use crate::sign::refusal;
+use crate::sign::size;
 use crate::turn::taken_from;
 use keys::Store;
 use wire::Imaged;
@@ -24,7 +24,8 @@ ghost use Rattle.host.specs.Call.{imageCounted, frameTaken, frameTakenOu
 // first question answered no, and then nothing is written. Asks 14, 1, 10 to 13, 6 claim by claim, and 15.
 #[no_mangle]
 pub extern "C" fn minutefrost_take_frame(image: &[u8], frame: &[u8], out: &mut [u8]) -> i64
-    ensures { λ r. ⌜ (r ≡ frameTaken (now (image .entry)) (now (frame .entry)) (length (now (out .entry)))) × (now (out .exit) ≡ frameTakenOut (now (image .entry)) (now (frame .entry)) (now (out .entry))) ⌝ }
+    ensures { λ r. ⌜ (r ≡ frameTaken (now (image .entry)) (now (frame .entry)) (length (now (out .entry))))
+        × (now (out .exit) ≡ frameTakenOut (now (image .entry)) (now (frame .entry)) (now (out .entry))) ⌝ }
 {
     let mut keys = [0; Store::LIMIT];
     let taken = taken_from(image, frame, &mut keys);
@@ -35,7 +36,8 @@ pub extern "C" fn minutefrost_take_frame(image: &[u8], frame: &[u8], out: &mut [
 // answered no, and then nothing is written. Asks 14, 1, 6 and 15. Pending claims stay.
 #[no_mangle]
 pub extern "C" fn minutefrost_enter(image: &[u8], key: u64, out: &mut [u8]) -> i64
-    ensures { λ r. ⌜ (r ≡ keyEntered (now (image .entry)) key (length (now (out .entry)))) × (now (out .exit) ≡ keyEnteredOut (now (image .entry)) key (now (out .entry))) ⌝ }
+    ensures { λ r. ⌜ (r ≡ keyEntered (now (image .entry)) key (length (now (out .entry))))
+        × (now (out .exit) ≡ keyEnteredOut (now (image .entry)) key (now (out .entry))) ⌝ }
 {
     let mut keys = [0; Store::LIMIT];
     let entered = entered_into(image, key, &mut keys);
@@ -59,7 +61,9 @@ pub extern "C" fn minutefrost_count(image: &[u8]) -> i64
 // one, and returns the length of the frames; or minus the number of the first question answered no, and then nothing is written. Asks 14, 1 and 15.
 #[no_mangle]
 pub extern "C" fn minutefrost_beat(image: &[u8], out: &mut [u8], frames: &mut [u8]) -> i64
-    ensures { λ r. ⌜ (r ≡ imageBeaten (now (image .entry)) (length (now (out .entry))) (length (now (frames .entry)))) × (now (out .exit) ≡ imageBeatenOut (now (image .entry)) (now (out .entry)) (length (now (frames .entry)))) × (now (frames .exit) ≡ imageBeatenFrames (now (image .entry)) (length (now (out .entry))) (now (frames .entry))) ⌝ }
+    ensures { λ r. ⌜ (r ≡ imageBeaten (now (image .entry)) (length (now (out .entry))) (length (now (frames .entry))))
+        × (now (out .exit) ≡ imageBeatenOut (now (image .entry)) (now (out .entry)) (length (now (frames .entry))))
+        × (now (frames .exit) ≡ imageBeatenFrames (now (image .entry)) (length (now (out .entry))) (now (frames .entry))) ⌝ }
 {
     let mut keys = [0; Store::LIMIT];
     let read = load(image, &mut keys);

@@ -1,6 +1,6 @@
 // The end of a call that writes one image.
-use crate::reply::refusal;
-use crate::reply::size;
+use crate::sign::refusal;
+use crate::sign::size;
 use rule::Rest;
 use wire::Imaged;
 use wire::write_image_in;

@@ -10,16 +10,12 @@ ghost use mathlib.Core.Path.{_≡_};
 ghost use mathlib.Core.Bool.{true};
 ghost use Prim.Native.Nat.{_+_, _*_, _≤_, _<_};
 ghost use lib.ListN.{length, take, drop};
-ghost use Rattle.keys.specs.Store.{limit};
-ghost use Rattle.rule.specs.Node.{nodeInOrder};
-ghost use Rattle.rule.specs.Call.{writtenOver};
 ghost use Rattle.nodes.specs.Lent.{nodeWith};
 ghost use Rattle.wire.specs.Frame.{frameLimit, frameLength, frameBytes, countable, allPass, fourOf};
-ghost use Rattle.wire.specs.Image.{imageLimit, nodeBytes};
 ghost use Rattle.wire.specs.Run.{readRun};
 ghost use Rattle.wire.specs.Place.{putAt};
-ghost use Rattle.host.specs.Frames.{framesBytes, framesLimit, inWords};
-ghost use Rattle.host.specs.Call.{nodeServed, framesSent};
+ghost use Rattle.host.specs.Frames.{inWords};
+ghost use Rattle.host.specs.Known.{FramesGiven, FramesWritten, SendGiven, Sent};
 
 // The length of the frames of as many claims as a beat may send.
 pub(crate) const FRAMES: usize = Framed::HEAD
@@ -73,8 +69,8 @@ fn write_at(frames: &mut [u8], at: usize, claims: [Claim; Framed::CLAIMS], n: us
 
 // Writes the first `count` claims of a lent run in frames, and returns their length.
 fn write_frames(words: &[u64], count: usize, frames: &mut [u8]) -> usize
-    requires { ⌜ (4 * count ≤ length (now words)) × (allPass (readRun inWords count (now words)) ≡ true) × (length (framesBytes (readRun inWords count (now words))) ≤ length (now frames)) ⌝ }
-    ensures { λ r. ⌜ (r ≡ length (framesBytes (readRun inWords count (now (words .entry))))) × (now (frames .exit) ≡ writtenOver (framesBytes (readRun inWords count (now (words .entry)))) (now (frames .entry))) ⌝ }
+    requires { ⌜ FramesGiven (now words) count (length (now frames)) ⌝ }
+    ensures { λ r. ⌜ FramesWritten (readRun inWords count (now (words .entry))) (now (frames .entry)) (now (frames .exit)) r ⌝ }
 {
     let mut i: usize = 0;
     let mut at: usize = 0;
@@ -96,8 +92,8 @@ pub(crate) fn send(
     out: &mut [u8],
     frames: &mut [u8],
 ) -> usize
-    requires { ⌜ (length (now keys) ≡ limit) × (nodeInOrder (nodeWith (now keys) held table count) ≡ true) × (imageLimit ≤ length (now out)) × (framesLimit ≤ length (now frames)) ⌝ }
-    ensures { λ r. ⌜ (r ≡ length (framesSent (nodeWith (now (keys .entry)) held table count))) × (r ≤ framesLimit) × (now (out .exit) ≡ writtenOver (nodeBytes (nodeServed (nodeWith (now (keys .entry)) held table count))) (now (out .entry))) × (now (frames .exit) ≡ writtenOver (framesSent (nodeWith (now (keys .entry)) held table count)) (now (frames .entry))) ⌝ }
+    requires { ⌜ SendGiven (nodeWith (now keys) held table count) (length (now out)) (length (now frames)) ⌝ }
+    ensures { λ r. ⌜ Sent (nodeWith (now (keys .entry)) held table count) (now (out .entry)) (now (out .exit)) (now (frames .entry)) (now (frames .exit)) r ⌝ }
 {
     let mut words = [0; WORDS * Node::BEAT];
     let kept = beat_in(keys, held, table, count, &mut words);

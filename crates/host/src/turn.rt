@@ -8,15 +8,10 @@ use rule::Rest;
 use wire::Framed;
 use wire::read_frame;
 ghost use mathlib.Core.Path.{_≡_};
-ghost use mathlib.Core.Bool.{true};
-ghost use Prim.Native.Nat.{_≤_};
-ghost use lib.ListN.{length, take};
+ghost use lib.ListN.{take};
 ghost use Rattle.keys.specs.Store.{limit, zeros};
-ghost use Rattle.rule.specs.Node.{nodeInOrder};
-ghost use Rattle.nodes.specs.Lent.{nodeWith, takenWith};
-ghost use Rattle.wire.specs.Frame.{frameLimit, allPass};
-ghost use Rattle.host.specs.Taking.{takenUntil};
-ghost use Rattle.host.specs.Known.{TakenFrom};
+ghost use Rattle.nodes.specs.Lent.{nodeWith};
+ghost use Rattle.host.specs.Known.{TurnsGiven, Turned, TakenFrom};
 
 // Takes the first n of four claims in turn into a node whose keys are lent, until one is refused, with 6.
 fn take_in_turn(
@@ -27,8 +22,8 @@ fn take_in_turn(
     claims: [Claim; Framed::CLAIMS],
     n: usize,
 ) -> Rest
-    requires { ⌜ (length (now keys) ≡ limit) × (nodeInOrder (nodeWith (now keys) held table count) ≡ true) × (n ≤ frameLimit) × (allPass (take n claims) ≡ true) ⌝ }
-    ensures { λ r. ⌜ (takenWith (now (keys .exit)) r ≡ takenUntil (nodeWith (now (keys .entry)) held table count) (take n claims)) × (length (now (keys .exit)) ≡ limit) ⌝ }
+    requires { ⌜ TurnsGiven (nodeWith (now keys) held table count) claims n ⌝ }
+    ensures { λ r. ⌜ Turned (nodeWith (now (keys .entry)) held table count) (take n claims) (now (keys .exit)) r ⌝ }
 {
     let mut taken = Rest {
         number: 0,

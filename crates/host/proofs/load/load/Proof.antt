@@ -39,7 +39,7 @@ returns c =
     let r = c .before .before in
     known-refused
     (ap (λ (x : Imaged). x .number) (readIn-refused _ (r .read-image-in .ensures .0) (c .if1 .taken)) ∙ readImage-number _)
-    (rw (keys r, readInLent-refused _ (r .read-image-in .ensures .0) (emptyStore .keys) (c .if1 .taken)) (rw (← empty-zeros) (length-zeros limit))) (c .if1 .taken)
+    (rw (keys r, readInLent-refused _ (r .read-image-in .ensures .0) (emptyStore .keys) (c .if1 .taken), ← empty-zeros) (length-zeros limit)) (c .if1 .taken)
 
 ordered-lent-requires : tie.Need-ordered-lent-requires
 ordered-lent-requires c κs = search needs

@@ -1,5 +1,4 @@
 -- `sent::claim_at` meets its contract: four words are read. Assumes nothing.
-use native.Mathlib.Omega.{arith}
 use borrow.Author.Needs.{needs}
 use Rattle.host.proofs.Sends.{inWords-at, cnt-at}
 use Rattle.host.proofs.sent.claim_at.Statement.{statement}
@@ -42,10 +41,10 @@ shared-slice-read-t18 : tie.Need-shared-slice-read-t18
 shared-slice-read-t18 c = search needs
 
 cast-t19 : tie.Need-cast-t19
-cast-t19 c = let a = c .before .before .before .before .args in omega (arith, cnt-at (a .words .now) (a .at), c .before .before .before .before .pre .1)
+cast-t19 c = search (needs, cnt-at)
 
 returns : tie.Need-returns
-returns c = let a = c .before .before .before .before .args in inWords-at (a .words .now) (a .at)
+returns c = search (needs, inWords-at)
 
 pub claim-at-spec : {M : Type 1} → statement M
 claim-at-spec =

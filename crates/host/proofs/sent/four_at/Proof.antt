@@ -27,7 +27,7 @@ add-claim-at : tie.Need-add-claim-at Inv-loop μ-loop
 add-claim-at c = search needs
 
 claim-at-requires : tie.Need-claim-at-requires Inv-loop μ-loop
-claim-at-requires c κs = let s = c .before .before .before in (search needs, four-small (s .args .words .now) (s .args .at) (c .before .loop .i) (s .args .n) (s .pre .2) (c .loop-test .taken))
+claim-at-requires c κs = search (needs, four-small)
 
 mul-claims : tie.Need-mul-claims Inv-loop μ-loop
 mul-claims c = search needs
@@ -43,15 +43,14 @@ loop-less c = search needs
 
 loop-again : tie.Need-loop-again Inv-loop μ-loop
 loop-again c =
-    let l = c .before .before .loop in
-    let a = c .before .before .before .before .args in
-    (search needs, four-turn (a .words .now) (a .at) (l .i) (omega arith) (l .inv .1) (c .claim-at .ensures))
+    (search needs, four-turn _ _ _ (omega arith) (c .before .before .loop .inv .1) (c .claim-at .ensures))
 
 returns : tie.Need-returns Inv-loop μ-loop
 returns c =
-    let a = c .before .before .before .args in
-    let e : c .before .loop .i ≡ a .n = omega arith in
-    rw (← e) (c .before .loop .inv .1 ∙ writtenOver-four (readRun inWords (c .before .loop .i) (drop (4 * a .at) (a .words .now))))
+    let l = c .before in
+    let a = l .before .before .args in
+    let e : l .loop .i ≡ a .n = omega arith in
+    rw (← e) (l .loop .inv .1 ∙ writtenOver-four (readRun inWords (l .loop .i) (drop (4 * a .at) (a .words .now))))
 
 pub four-at-spec : {M : Type 1} → statement M
 four-at-spec =

@@ -1,11 +1,11 @@
 -- `turn::take_in_turn` meets its contract. The invariant: the node is in order, and what it has yet to take decides. Assumes nothing.
-use Prim.Native.Nat.{ℕ, _-_, _≤_, _<_}
+use Prim.Native.Nat.{ℕ, _-_, _≤_}
 use native.Mathlib.Omega.{arith}
 use mathlib.Core.Bool.{true}
 use mathlib.Core.List.{List}
 use mathlib.Core.Path.{_≡_, refl, sym, _∙_}
 use borrow.Author.Needs.{needs}
-use lib.ListN.{length, take, drop, getD}
+use lib.ListN.{length, take, drop}
 use lib.Seq.{getD-take, length-take-le}
 use Rattle.claims.specs.declared.claim.Claim.{Claim}
 use Rattle.claims.specs.Claim.{noClaim}
@@ -14,10 +14,10 @@ use Rattle.rule.specs.declared.answer.Rest.{Rest}
 use Rattle.rule.specs.Table.{tableLimit}
 use Rattle.rule.specs.Node.{nodeInOrder}
 use Rattle.rule.proofs.NodeLaws.{length-mapped}
-use Rattle.nodes.specs.Lent.{nodeWith, takenWith, takenNext}
+use Rattle.nodes.specs.Lent.{nodeWith, takenWith}
 use Rattle.wire.specs.Image.{Shaped}
 use Rattle.host.specs.Taking.{takenUntil}
-use Rattle.host.proofs.Turns.{turn-refused, turn-done, turn-ordered, turn-long, takenUntil-end}
+use Rattle.host.proofs.Turns.{Turn, turn-refused, turn-done, turn-ordered, turn-long, takenUntil-end}
 use Rattle.host.proofs.turn.take_in_turn.Statement.{statement}
 use Rattle.host.proofs.turn.take_in_turn.Tie as tie
 
@@ -35,29 +35,36 @@ abbrev μ-loop : tie.MeasureT-loop
 
 -- the claims to take
 abbrev given : tie.Start Inv-loop μ-loop → List Claim
-given c = take (c .args .n) (c .args .t5)
+given s = take (s .args .n) (s .args .t5)
 
-counted : (c : tie.Start Inv-loop μ-loop) → length (given c) ≡ c .args .n
-counted c =
-    let e : length (c .args .t5) ≡ 4 = search (needs, length-mapped) in
-    let h = c .pre .2 in
-    length-take-le (c .args .n) (c .args .t5) (omega arith)
+counted : (s : tie.Start Inv-loop μ-loop) → length (given s) ≡ s .args .n
+counted s =
+    let e : length (s .args .t5) ≡ 4 = search (needs, length-mapped) in
+    length-take-le (s .args .n) (s .args .t5) (omega (arith, s .pre .few))
 
-below : (c : tie.In-loop Inv-loop μ-loop) → c .before .loop .i < length (given (c .before .before))
-below c = rw (counted (c .before .before)) (c .loop-test .taken)
+-- the turn of a claim, from the test on
+abbrev tested : tie.After-take-next Inv-loop μ-loop → tie.In-loop Inv-loop μ-loop
+tested c = c .before .before .before .before
 
-next : (c : tie.After-take-next Inv-loop μ-loop) → let l = c .before .before .before .before .before in
-    takenWith (c .take-next .last .0) (c .take-next .result) ≡ takenNext (node (l .loop .keys) (l .loop .taken)) (getD (given (l .before)) (l .loop .i) noClaim)
-next c =
-    let t = c .before .before .before .before in
-    let a = t .before .before .args in
-    rw (getD-take (a .n) (a .t5) (t .before .loop .i) noClaim (t .loop-test .taken)) (c .take-next .ensures)
+turn : (c : tie.After-take-next Inv-loop μ-loop) → let l = tested c .before in
+    Turn (node (l .loop .keys) (l .loop .taken)) (given (l .before)) (l .loop .i) (takenWith (c .take-next .last .0) (c .take-next .result))
+turn c =
+    let l = tested c .before in
+    let a = l .before .args in
+    let (h, shaped, ordered, until, none) = l .loop .inv in
+    record {
+      below = rw (counted (l .before)) (tested c .loop-test .taken);
+      shaped = shaped;
+      ordered = ordered;
+      pass = l .before .pre .pass;
+      next = rw (getD-take (a .n) (a .t5) (l .loop .i) noClaim (tested c .loop-test .taken)) (c .take-next .ensures);
+    }
 
 places-next : (c : tie.After-struct-known Inv-loop μ-loop) → length (c .before .take-next .result .table) ≡ tableLimit
 places-next c = search (needs, length-mapped)
 
 loop-holds : tie.Need-loop-holds Inv-loop μ-loop
-loop-holds c = (search needs, record { keys = c .pre .0; pending = search (needs, length-mapped) }, c .pre .1, refl, refl)
+loop-holds c = (search needs, record { keys = c .pre .long; pending = search (needs, length-mapped) }, c .pre .ordered, refl, refl)
 
 mul-take-next : tie.Need-mul-take-next Inv-loop μ-loop
 mul-take-next c = search needs
@@ -70,10 +77,9 @@ take-next-requires c κs = search needs
 
 returns : tie.Need-returns Inv-loop μ-loop
 returns c =
-    let t = c .before .before in
-    let w = t .before .before .before .before in
-    let (h, shaped, ordered, until, none) = w .before .loop .inv in
-    (sym (until ∙ turn-refused _ (given (w .before .before)) _ (below w) shaped ordered (w .before .before .pre .3) (next t) (c .if1 .taken)), turn-long _ (given (w .before .before)) _ (below w) shaped ordered (w .before .before .pre .3) (next t))
+    let t = turn (c .before .before) in
+    let before = tested (c .before .before) .before .loop .inv in
+    record { taken = sym (before .3 ∙ turn-refused t (c .if1 .taken)); long = turn-long t }
 
 add-i : tie.Need-add-i Inv-loop μ-loop
 add-i c = search needs
@@ -83,25 +89,21 @@ loop-less c = search needs
 
 loop-again : tie.Need-loop-again Inv-loop μ-loop
 loop-again c =
-    let t = c .before .before in
-    let w = t .before .before .before .before in
-    let (h, shaped, ordered, until, none) = w .before .loop .inv in (
+    let t = turn (c .before .before) in
+    let before = tested (c .before .before) .before .loop .inv in (
       search needs,
-      record {
-        keys = turn-long _ (given (w .before .before)) _ (below w) shaped ordered (w .before .before .pre .3) (next t);
-        pending = places-next (c .before);
-      },
-      turn-ordered _ (given (w .before .before)) _ (below w) shaped ordered (w .before .before .pre .3) (next t),
-      until ∙ turn-done _ (given (w .before .before)) _ (below w) shaped ordered (w .before .before .pre .3) (next t) (c .if1 .left),
+      record { keys = turn-long t; pending = places-next (c .before) },
+      turn-ordered t,
+      before .3 ∙ turn-done t (c .if1 .left),
       c .if1 .left,
     )
 
 returns-2 : tie.Need-returns-2 Inv-loop μ-loop
 returns-2 c =
-    let t = c .before in
-    let (h, shaped, ordered, until, none) = t .loop .inv in
-    let past : length (given (t .before)) ≤ t .loop .i = rw (counted (t .before)) (omega arith) in
-    (sym (until ∙ takenUntil-end (takenWith (t .loop .keys) (t .loop .taken)) (given (t .before)) _ past none), shaped .keys)
+    let l = c .before in
+    let (h, shaped, ordered, until, none) = l .loop .inv in
+    let past : length (given (l .before)) ≤ l .loop .i = rw (counted (l .before)) (omega arith) in
+    record { taken = sym (until ∙ takenUntil-end (takenWith (l .loop .keys) (l .loop .taken)) (given (l .before)) _ past none); long = shaped .keys }
 
 pub take-in-turn-spec : {M : Type 1} → statement M
 take-in-turn-spec =

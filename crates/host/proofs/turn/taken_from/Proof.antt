@@ -1,5 +1,5 @@
 -- `turn::taken_from` meets its contract: one law for each way. Assumes nothing.
-use mathlib.Core.Path.{_≡_, ap, sym, _∙_}
+use mathlib.Core.Path.{ap, sym, _∙_}
 use borrow.Author.Needs.{needs}
 use Rattle.rule.specs.declared.node.Node.{Node}
 use Rattle.wire.specs.declared.answer.Framed.{Framed}
@@ -24,7 +24,7 @@ load-requires : tie.Need-load-requires
 load-requires c κs = search needs
 
 returns : tie.Need-returns
-returns c = loaded-refused _ (c .before .before .load .ensures) (c .if1 .taken) _
+returns c = search (needs, loaded-refused)
 
 read-frame-requires : tie.Need-read-frame-requires
 read-frame-requires c κs = search needs
@@ -41,7 +41,7 @@ take-in-turn-requires c κs =
     let e = framed t .before in
     let l = e .before .before .load .ensures in
     let a = accepted t in
-    (l .sound .long, l .sound .ordered (e .if1 .left), a .few, rw (a .claims) (a .pass))
+    record { long = l .sound .long; ordered = l .sound .ordered (e .if1 .left); few = a .few; pass = rw (a .claims) (a .pass) }
 
 returns-3 : tie.Need-returns-3
 returns-3 c =
@@ -50,8 +50,8 @@ returns-3 c =
     let l = e .before .before .load .ensures in
     let a = accepted t in
     takenFrom-turns _ l (e .if1 .left) _ (sym (ap (λ (x : Framed). x .number) (framed t .read-frame .ensures)) ∙ t .if2 .left)
-    (c .take-in-turn .ensures .0 ∙ rw (a .claims) (ap (λ (n : Node). takenUntil n (frameClaims (given e .args .frame .now))) (l .node (e .if1 .left))))
-    (c .take-in-turn .ensures .1)
+    (c .take-in-turn .ensures .taken ∙ rw (a .claims) (ap (λ (n : Node). takenUntil n (frameClaims (given e .args .frame .now))) (l .node (e .if1 .left))))
+    (c .take-in-turn .ensures .long)
 
 pub taken-from-spec : {M : Type 1} → statement M
 taken-from-spec =

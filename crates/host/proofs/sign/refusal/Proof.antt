@@ -1,9 +1,9 @@
--- `reply::refusal` meets its contract: a byte taken from zero. Assumes nothing.
+-- `sign::refusal` meets its contract: a byte taken from zero. Assumes nothing.
 use Prim.Native.Nat.{_<_}
 use borrow.Author.Needs.{needs}
 use Rattle.host.proofs.Signs.{minus-fits, minus-value}
-use Rattle.host.proofs.reply.refusal.Statement.{statement}
-use Rattle.host.proofs.reply.refusal.Tie as tie
+use Rattle.host.proofs.sign.refusal.Statement.{statement}
+use Rattle.host.proofs.sign.refusal.Tie as tie
 
 few : (c : tie.Start) → c .args .number < 256
 few c = search needs

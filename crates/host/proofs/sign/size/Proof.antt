@@ -1,10 +1,10 @@
--- `reply::size` meets its contract. Assumes nothing.
+-- `sign::size` meets its contract. Assumes nothing.
 use native.Mathlib.Omega.{arith}
 use borrow.Author.Needs.{needs}
 use mir.Facts.{toZ-pos}
 use mir.Syntax.{w64}
-use Rattle.host.proofs.reply.size.Statement.{statement}
-use Rattle.host.proofs.reply.size.Tie as tie
+use Rattle.host.proofs.sign.size.Statement.{statement}
+use Rattle.host.proofs.sign.size.Tie as tie
 
 cast-result : tie.Need-cast-result
 cast-result c = search needs
