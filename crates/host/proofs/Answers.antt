@@ -70,10 +70,6 @@ readFrame-accepted frame e h =
 
 -- ---- every question has a number
 
-numbered-append : (a b : List Question) → Numbered a → Numbered b → Numbered (a ++ b)
-numbered-append [] b m n = n
-numbered-append (q ∷ qs) b m n = (m .0, numbered-append qs b (m .1) n)
-
 pub image-numbered : (image : List ℕ) → Numbered (readImageQuestions image)
 image-numbered image = (lit< tt, (lit< tt, tt))
 
@@ -86,12 +82,10 @@ sixes image frame = questions6 (frameClaims frame) (nodeKeys (nodeIn image))
 
 pub taking-numbered : (image frame : List ℕ) → Numbered (takingQuestions image frame)
 taking-numbered image frame =
-    numbered-append (readImageQuestions image) (readFrameQuestions frame ++ sixes image frame) (image-numbered image)
-    (numbered-append (readFrameQuestions frame) (sixes image frame) (frame-numbered frame) (questions6-numbered (frameClaims frame) (nodeKeys (nodeIn image))))
+    (lit< tt, (lit< tt, (lit< tt, (lit< tt, (lit< tt, (lit< tt, questions6-numbered (frameClaims frame) (nodeKeys (nodeIn image))))))))
 
 pub entering-numbered : (image : List ℕ) (key : ℕ) → Numbered (enteringQuestions image key)
-entering-numbered image key =
-    numbered-append (readImageQuestions image) (question6 (key ∷ []) (nodeKeys (nodeIn image)) ∷ []) (image-numbered image) (lit< tt, tt)
+entering-numbered image key = (lit< tt, (lit< tt, (lit< tt, tt)))
 
 -- ---- an image that was loaded
 
@@ -118,10 +112,6 @@ module _ (image : List ℕ) {keys : List ℕ} {r : Rest} (loaded : Loaded image 
   counted-no e few f = returned e (fits-minus (r .number) few) ∙ rw (← loaded .number, ne-eqb (r .number) 0 f)
 
   module _ (read : r .number ≡ 0) where
-    -- it was accepted
-    pub loaded-0 : readImage image .number ≡ 0
-    loaded-0 = readImage-number image ∙ (sym (loaded .number) ∙ read)
-
     pub loaded-ordered : Ordered (nodeIn image)
     loaded-ordered = subst Ordered (loaded .node read) (nodeInOrder-ordered (nodeHeld keys r) (loaded .sound .ordered read))
 

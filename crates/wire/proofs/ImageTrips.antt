@@ -1,11 +1,11 @@
 -- The round trips of images, over the definitions that the contracts of `read_image` and `write_image` cite: every image of a node in order is
--- accepted, and read as that node; no two nodes in order have the same image; an image that is written is read as the same node; one that is accepted is
--- written again as the same bytes. The lemmas come first, the theorems last. Assumes nothing.
+-- accepted, and read as that node; bytes that begin with one tell its length; no two nodes in order have the same image; an image that is written is
+-- read as the same node; one that is accepted is written again as the same bytes. The lemmas come first, the theorems last. Assumes nothing.
 use Prim.Native.Nat.{ℕ, _+_, _^_, _≤_, _<_}
 use native.Mathlib.Omega.{arith}
 use mathlib.Core.Bool.{true}
 use mathlib.Core.List.{List, [], _++_, append-nil, append-assoc}
-use mathlib.Core.Path.{_≡_, ap, sym, _∙_}
+use mathlib.Core.Path.{_≡_, ap, sym, _∙_, subst}
 use borrow.Author.Tests.{le-leb}
 use lib.ListN.{length, take, drop, length-append, length-drop, drop-of-length-le}
 use lib.Seq.{take-append-seam}
@@ -27,7 +27,7 @@ use Rattle.wire.proofs.Runs.{each-take, key-faithful, claim-faithful}
 use Rattle.wire.proofs.Images.{ordered-counts, length-nodeBytes, length-nodeKeys, length-pending, readImage-0, readImage-yes, writeImage-0, writeImage-yes}
 use Rattle.wire.proofs.Sections.{length-sectionBytes, countOf-section, thingsIn-section, behind-section, countFits-section, sectionBytes-thingsIn}
 
--- ---- an image's bytes are read as its keys and claims
+-- ---- an image's bytes are read as its keys and claims, whatever follows them
 
 module _ (ks : List ℕ) (cs : List Claim) (few : length ks ≤ limit) (several : length cs ≤ tableLimit) where
   small : length ks < byte ^ countWidth
@@ -36,56 +36,58 @@ module _ (ks : List ℕ) (cs : List Claim) (few : length ks ≤ limit) (several 
   little : length cs < byte ^ countWidth
   little = omega arith
 
-  -- what stands behind the keys, with nothing behind it
-  behind-imageBytes : behind keySection (imageBytes ks cs) ≡ sectionBytes claim cs ++ []
-  unfolding imageBytes
-  behind-imageBytes = behind-section key-faithful ks (sectionBytes claim cs) small ∙ sym (append-nil (sectionBytes claim cs))
-
-  parse-imageBytes : Each (λ (k : ℕ). k < byte ^ keyWidth) ks → Each ClaimFits cs → parse (imageBytes ks cs) ≡ record { keys = ks; pending = cs }
-  unfolding parse imageBytes
-  parse-imageBytes f g =
-      let p : thingsIn key (imageBytes ks cs) ≡ ks = thingsIn-section key-faithful ks (sectionBytes claim cs) small f in
-      let q : thingsIn claim (behind keySection (imageBytes ks cs)) ≡ cs = rw behind-imageBytes (thingsIn-section claim-faithful cs [] little g) in
-      λ i. record { keys = p i; pending = q i }
-
-  imageBytes-told : AsTold (imageBytes ks cs) (length ks) (length cs)
-  unfolding countsFit toldLength imageBytes
-  imageBytes-told =
-      let p : countOf (imageBytes ks cs) ≡ length ks = countOf-section key-faithful ks (sectionBytes claim cs) small in
-      let q : countOf (behind keySection (imageBytes ks cs)) ≡ length cs = rw behind-imageBytes (countOf-section claim-faithful cs [] little) in
-      let r : countFits limit (imageBytes ks cs) ≡ true = countFits-section key-faithful ks (sectionBytes claim cs) small limit few in
-      let s : countFits tableLimit (behind keySection (imageBytes ks cs)) ≡ true =
-      rw behind-imageBytes (countFits-section claim-faithful cs [] little tableLimit several) in
-      let long : length (imageBytes ks cs) ≡ sectionLength keySection (length ks) + sectionLength claimSection (length cs) =
-      rw (length-append (sectionBytes key ks), length-sectionBytes key-faithful, length-sectionBytes claim-faithful) in
-      let whole : length (imageBytes ks cs) ≡ toldLength sections (imageBytes ks cs) = omega arith in
-      record { counts = rw (r, s); whole = whole; keys = sym p; pending = sym q }
-
-  -- an image at the front of some bytes: what its counts tell, whatever follows it
   module _ (rest : List ℕ) where
     front : imageBytes ks cs ++ rest ≡ sectionBytes key ks ++ (sectionBytes claim cs ++ rest)
     unfolding imageBytes
     front = append-assoc (sectionBytes key ks) (sectionBytes claim cs) rest
 
-    behind-front : behind keySection (imageBytes ks cs ++ rest) ≡ sectionBytes claim cs ++ rest
-    behind-front = rw front (behind-section key-faithful ks (sectionBytes claim cs ++ rest) small)
+    front-behind : behind keySection (imageBytes ks cs ++ rest) ≡ sectionBytes claim cs ++ rest
+    front-behind = rw front (behind-section key-faithful ks (sectionBytes claim cs ++ rest) small)
+
+    front-keys : countOf (imageBytes ks cs ++ rest) ≡ length ks
+    front-keys = rw front (countOf-section key-faithful ks (sectionBytes claim cs ++ rest) small)
+
+    front-pending : countOf (behind keySection (imageBytes ks cs ++ rest)) ≡ length cs
+    front-pending = rw front-behind (countOf-section claim-faithful cs rest little)
 
     front-counts : countsFit sections (imageBytes ks cs ++ rest) ≡ true
     unfolding countsFit
     front-counts =
         let r : countFits limit (imageBytes ks cs ++ rest) ≡ true = rw front (countFits-section key-faithful ks (sectionBytes claim cs ++ rest) small limit few) in
         let s : countFits tableLimit (behind keySection (imageBytes ks cs ++ rest)) ≡ true =
-        rw behind-front (countFits-section claim-faithful cs rest little tableLimit several) in
+        rw front-behind (countFits-section claim-faithful cs rest little tableLimit several) in
         rw (r, s)
 
     front-length : toldLength sections (imageBytes ks cs ++ rest) ≡ length (imageBytes ks cs)
     unfolding toldLength imageBytes
     front-length =
-        let p : countOf (imageBytes ks cs ++ rest) ≡ length ks = rw front (countOf-section key-faithful ks (sectionBytes claim cs ++ rest) small) in
-        let q : countOf (behind keySection (imageBytes ks cs ++ rest)) ≡ length cs = rw behind-front (countOf-section claim-faithful cs rest little) in
+        let p = front-keys in
+        let q = front-pending in
         let long : length (imageBytes ks cs) ≡ sectionLength keySection (length ks) + sectionLength claimSection (length cs) =
         rw (length-append (sectionBytes key ks), length-sectionBytes key-faithful, length-sectionBytes claim-faithful) in
         omega arith
+
+    front-parse : Each (λ (k : ℕ). k < byte ^ keyWidth) ks → Each ClaimFits cs → parse (imageBytes ks cs ++ rest) ≡ record { keys = ks; pending = cs }
+    unfolding parse
+    front-parse f g =
+        let p : thingsIn key (imageBytes ks cs ++ rest) ≡ ks = rw front (thingsIn-section key-faithful ks (sectionBytes claim cs ++ rest) small f) in
+        let q : thingsIn claim (behind keySection (imageBytes ks cs ++ rest)) ≡ cs = rw front-behind (thingsIn-section claim-faithful cs rest little g) in
+        λ i. record { keys = p i; pending = q i }
+
+  -- nothing follows
+
+  parse-imageBytes : Each (λ (k : ℕ). k < byte ^ keyWidth) ks → Each ClaimFits cs → parse (imageBytes ks cs) ≡ record { keys = ks; pending = cs }
+  parse-imageBytes f g = ap parse (sym (append-nil (imageBytes ks cs))) ∙ front-parse [] f g
+
+  imageBytes-told : AsTold (imageBytes ks cs) (length ks) (length cs)
+  imageBytes-told =
+      subst (λ (bs : List ℕ). AsTold bs (length ks) (length cs)) (append-nil (imageBytes ks cs))
+      (record {
+        counts = front-counts [];
+        whole = omega (arith, front-length [], length-append (imageBytes ks cs) []);
+        keys = sym (front-keys []);
+        pending = sym (front-pending []);
+      })
 
 -- ---- an image's keys and claims are written as its bytes
 
@@ -128,7 +130,9 @@ image-length-is-told n rest shaped e =
     let k : length (nodeKeys n) ≤ limit = rw (length-nodeKeys n shaped few several) few in
     let c : length (pendingOf n) ≤ tableLimit = rw (length-pending n shaped few several) several in
     let long : length (nodeBytes n) ≤ length (nodeBytes n ++ rest) = rw (length-append (nodeBytes n) rest) (omega arith) in
-    rw (front-counts (nodeKeys n) (pendingOf n) k c rest, front-length (nodeKeys n) (pendingOf n) k c rest, le-leb (length (nodeBytes n)) (length (nodeBytes n ++ rest)) long)
+    let counts = front-counts (nodeKeys n) (pendingOf n) k c rest in
+    let told = front-length (nodeKeys n) (pendingOf n) k c rest in
+    rw (counts, told, le-leb (length (nodeBytes n)) (length (nodeBytes n ++ rest)) long)
 
 -- No two nodes in order have the same image.
 pub image-tells-node : (n m : Node) → NodeFits n → NodeFits m → nodeInOrder n ≡ true → nodeInOrder m ≡ true → nodeBytes n ≡ nodeBytes m → n ≡ m
