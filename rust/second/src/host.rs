@@ -1,5 +1,9 @@
 //! The host calls, on numbers and byte slices (document 01, "Frame and
 //! image").
+//!
+//! Document 01 names two of them, [`take_frame`] and [`beat`]. By the other two
+//! a daemon enters a key, as document 01 enters one into a store, and learns
+//! how many keys an image holds.
 
 use crate::frame::{FRAME_CLAIMS, claims_of_frame, put_frame};
 use crate::image::{IMAGE_MOST, node_of_image, put_image};
@@ -8,11 +12,11 @@ use crate::questions::{self, Asked, ask};
 /// The bytes of a beat's frames: "129 claims' worth (3,486 bytes)".
 pub const BEAT_FRAMES: usize = 3_486;
 
-/// The length of what was written, or minus the number.
-fn answer(length: Asked<usize>) -> i64 {
-    match length {
+/// A length or a count, or minus the number.
+fn answer(found: Asked<usize>) -> i64 {
+    match found {
         // At most 9,860.
-        Ok(length) => length as i64,
+        Ok(found) => found as i64,
         Err(number) => -i64::from(number),
     }
 }
@@ -63,4 +67,27 @@ fn try_beat(image: &[u8], out: &mut [u8], frames: &mut [u8]) -> Asked<usize> {
         length += put_frame(claims, &mut frames[length..]);
     }
     Ok(length)
+}
+
+/// Enters a key into the store of an image, writes the new image and returns
+/// its length, or minus the number. Pending claims stay.
+///
+/// Asks 14 and 1 of the image, 6 of the key and 15: the buffer is as long as
+/// [`take_frame`] needs it, whether or not the key is held already.
+pub fn enter(image: &[u8], key: u64, out: &mut [u8]) -> i64 {
+    answer(try_enter(image, key, out))
+}
+
+fn try_enter(image: &[u8], key: u64, out: &mut [u8]) -> Asked<usize> {
+    let mut node = node_of_image(image)?;
+    ask(6, questions::q6_missing_fit(node.store.keys(), &[key]))?;
+    let needs = [(out.len(), IMAGE_MOST)];
+    ask(15, questions::q15_outputs_long_enough(&needs))?;
+    node.store.enter(key);
+    Ok(put_image(node.store.keys(), &node.pending, out))
+}
+
+/// How many keys an image holds, or minus the number. Asks 14 and 1.
+pub fn count(image: &[u8]) -> i64 {
+    answer(node_of_image(image).map(|node| node.store.keys().len()))
 }

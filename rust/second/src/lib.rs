@@ -1,4 +1,5 @@
-//! Document 01 in plain Rust, written from that document and the paper alone.
+//! Document 01 in plain Rust, written from that document and the paper alone;
+//! beyond it are two host calls, [`host::enter`] and [`host::count`].
 //!
 //! This is the second program of document 01 ("the rest, with random stores,
 //! run against a second program"): it shares no code, table or constant with

@@ -283,6 +283,20 @@ pub fn of_host_beat(image: &[u8], out: usize, frames: usize) -> Asked {
     ask(15, q15_outputs_long_enough(&needs))
 }
 
+/// 14, 1, 6, 15. As for a frame, a plain set of keys grows here.
+pub fn of_host_enter(image: &[u8], key: u64, out: usize) -> Asked {
+    let node = node_of_image(image)?;
+    let mut keys: BTreeSet<u64> = node.store.keys().iter().copied().collect();
+    keys.insert(key);
+    ask(6, keys.len() <= RawStore::LIMIT)?;
+    ask(15, q15_outputs_long_enough(&[(out, IMAGE_MOST)]))
+}
+
+/// 14, 1.
+pub fn of_host_count(image: &[u8]) -> Asked {
+    of_read_image(image)
+}
+
 /// 14 and 1 of the first image, 14 and 1 of the second, 8, 9.
 pub fn of_rehearse(input: &[u8]) -> Asked {
     let (first, rest) = input.split_at(front_length(input)?);

@@ -1,5 +1,6 @@
 //! Host calls.
 
+use super::MAX;
 use super::beat::{beats, helped_in_two};
 use super::common::*;
 use second::*;
@@ -143,4 +144,82 @@ fn beating_an_image_asks_14_1_15() {
     check(&good, 9_860, 3_485, -15);
     check(&good, 0, 0, -15);
     check(&good, 9_860, 3_486, 30);
+}
+
+#[test]
+fn entering_a_key_into_an_image() {
+    let pending = [c(1, 9, 8, 2), c(1, 9, 0, 5)];
+    let image = image_of(&[1, 9], &pending);
+    // Before, between and after the keys held; 0 and the largest are keys too.
+    for (key, keys) in [
+        (0, &[0, 1, 9][..]),
+        (4, &[1, 4, 9]),
+        (10, &[1, 9, 10]),
+        (MAX, &[1, 9, MAX]),
+        // "a key already held changes nothing"
+        (1, &[1, 9]),
+        (9, &[1, 9]),
+    ] {
+        let expected = image_of(keys, &pending);
+        let mut out = vec![0x55; 9_900];
+        let length = host::enter(&image, key, &mut out);
+        assert_eq!(length, expected.len() as i64);
+        assert_eq!(out[..expected.len()], expected);
+        assert!(out[expected.len()..].iter().all(|&byte| byte == 0x55));
+    }
+    let mut out = vec![0x55; 9_860];
+    assert_eq!(host::enter(&[0, 0, 0, 0], 0, &mut out), 12);
+    assert_eq!(out[..12], image_of_keys(&[0]));
+}
+
+#[test]
+fn entering_a_key_asks_14_1_6_15() {
+    let good = image_of_keys(&[1, 2]);
+    let bad = image_of_keys(&[2, 1]);
+    let even = full(2).keys;
+    let full = image_of_keys(&even[..]);
+    let nearly = image_of_keys(&even[..1_023]);
+    let check = |image: &[u8], key: u64, length: usize, answer: i64| {
+        let mut out = vec![0x55; length];
+        assert_eq!(host::enter(image, key, &mut out), answer);
+        if answer < 0 {
+            assert_eq!(out, vec![0x55; length]);
+        }
+        let number = questions::of_host_enter(image, key, length);
+        assert_eq!(number.err().map_or(0, i64::from), (-answer).max(0));
+    };
+    check(&full[..full.len() - 1], 1, 0, -14);
+    check(&[&good[..], &[0]].concat(), 3, 0, -14);
+    check(&bad, 3, 0, -1);
+    check(&full, 1, 0, -6);
+    check(&full, MAX, 9_860, -6);
+    // A key held needs no room, and one more is the last that fits.
+    check(&full, 0, 0, -15);
+    check(&full, 2_046, 9_860, (4 + 8 * 1_024) as i64);
+    check(&nearly, 1, 9_859, -15);
+    check(&nearly, 1, 9_860, (4 + 8 * 1_024) as i64);
+    // As long as a frame needs it, even where nothing changes.
+    check(&good, 1, 9_859, -15);
+    check(&good, 1, 9_860, 20);
+    check(&good, 3, 9_859, -15);
+    check(&good, 3, 9_860, 28);
+}
+
+#[test]
+fn counting_asks_14_1() {
+    let good = image_of(&[1, 2], &[c(1, 2, 3, 2)]);
+    for (image, answer) in [
+        (&[][..], -14),
+        (&good[..good.len() - 1], -14),
+        (&[&good[..], &[0]].concat(), -14),
+        (&image_of_keys(&[2, 1]), -1),
+        (&image_of(&[1, 2], &[c(1, 3, 2, 2)]), -1),
+        (&[0, 0, 0, 0], 0),
+        (&good, 2),
+        (&image_of_keys(&full(1).keys[..]), 1_024),
+    ] {
+        assert_eq!(host::count(image), answer);
+        let number = questions::of_host_count(image);
+        assert_eq!(number.err().map_or(0, i64::from), (-answer).max(0));
+    }
 }

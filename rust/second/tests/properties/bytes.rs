@@ -1,5 +1,8 @@
 //! Frames, images and the host calls on them.
 
+use std::cell::RefCell;
+use std::collections::BTreeSet;
+
 use super::common::*;
 use super::number;
 use second::*;
@@ -42,6 +45,46 @@ fn images_round_trip() {
         assert_eq!(image_length(&out).length, written.length);
         assert_eq!(read_image(image), ImageRead { number: 0, node });
     });
+}
+
+#[test]
+fn entering_and_counting_are_those_of_stores() {
+    // What each entering did, so that nothing goes untried.
+    let seen = RefCell::new(BTreeSet::new());
+    for_seeds(400, |rng| {
+        let node = rng.node();
+        let image = image_of(node.store.held(), node.table());
+        assert_eq!(host::count(&image), node.store.count as i64);
+        let density = rng.density();
+        let room = *rng.pick(&[9_860, 9_860, 9_861, 9_859, 0]);
+        let mut out = vec![0x55; room];
+        let key = rng.key(density);
+        let answer = host::enter(&image, key, &mut out);
+
+        let entered = enter(node.store.clone(), key);
+        let no = match entered.number {
+            0 if room < 9_860 => 15,
+            number => number,
+        };
+        let gained = entered.store.count - node.store.count;
+        let full = node.store.count == RawStore::LIMIT;
+        seen.borrow_mut().insert((no, gained, full));
+        if no != 0 {
+            assert_eq!(answer, -i64::from(no));
+            assert!(out.iter().all(|&byte| byte == 0x55));
+            return;
+        }
+        let expected = image_of(entered.store.held(), node.table());
+        assert_eq!(answer, expected.len() as i64);
+        assert_eq!(out[..expected.len()], expected);
+        assert!(out[expected.len()..].iter().all(|&byte| byte == 0x55));
+    });
+    if std::env::var("SECOND_SEED").is_err() {
+        let held_and_new = [(0, 0, false), (0, 1, false), (15, 0, false), (15, 1, false)];
+        let full = [(0, 0, true), (6, 0, true), (15, 0, true)];
+        let all: BTreeSet<_> = held_and_new.into_iter().chain(full).collect();
+        assert_eq!(*seen.borrow(), all);
+    }
 }
 
 #[test]

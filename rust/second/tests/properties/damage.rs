@@ -73,6 +73,23 @@ fn damaged_bytes_are_answered() {
             assert!(frames.iter().all(|&byte| byte == 0x66));
         }
 
+        let mut out = vec![0x55; room];
+        let key = rng.key(density);
+        let answer = host::enter(&image, key, &mut out);
+        let no = number(questions::of_host_enter(&image, key, room));
+        assert_eq!((-answer).max(0), i64::from(no));
+        seen.insert(("host::enter", no));
+        if no != 0 {
+            assert!(out.iter().all(|&byte| byte == 0x55));
+        } else {
+            assert_eq!(read_image(&out[..answer as usize]).number, 0);
+        }
+
+        let answer = host::count(&image);
+        let no = number(questions::of_host_count(&image));
+        assert_eq!((-answer).max(0), i64::from(no));
+        seen.insert(("host::count", no));
+
         let no = number(questions::of_rehearse(&input));
         let output = rehearse(&input);
         assert_eq!(output == format!("refused {no}\n"), no != 0);
@@ -89,6 +106,8 @@ fn damaged_bytes_are_answered() {
         ("image_length", &[0, 14]),
         ("host::take_frame", &[0, 1, 6, 10, 11, 12, 13, 14, 15]),
         ("host::beat", &[0, 1, 14, 15]),
+        ("host::enter", &[0, 1, 6, 14, 15]),
+        ("host::count", &[0, 1, 14]),
         ("rehearse", &[0, 1, 8, 14]),
     ] {
         for &number in numbers {
@@ -123,6 +142,8 @@ fn any_bytes_are_answered() {
         host::take_frame(&bytes, &bytes, &mut out);
         host::take_frame(&good, &bytes, &mut out);
         host::beat(&bytes, &mut out, &mut frames);
+        host::enter(&bytes, length as u64, &mut out);
+        host::count(&bytes);
     });
 }
 
