@@ -1,6 +1,8 @@
 //! Two kiosks over a radio that loses every other frame, until they agree.
 
-use minutefrost::{BEAT_FRAMES, IMAGE_MOST, Refusal, beat, frames, take_frame};
+use minutefrost::{
+    BEAT_FRAMES, EMPTY_IMAGE, IMAGE_MOST, Refusal, beat, enter, frames, keys, take_frame,
+};
 
 /// A kiosk is its image, which a daemon keeps on its card.
 struct Kiosk {
@@ -8,21 +10,18 @@ struct Kiosk {
 }
 
 impl Kiosk {
-    /// The image of these keys with nothing pending: key count, keys in rising
-    /// order, pending count; numbers high byte first.
-    fn with_keys(keys: &[u64]) -> Kiosk {
-        let mut keys = keys.to_vec();
-        keys.sort();
-        let mut image = (keys.len() as u16).to_be_bytes().to_vec();
-        image.extend(keys.iter().flat_map(|key| key.to_be_bytes()));
-        image.extend([0, 0]);
+    /// A new kiosk holds no keys.
+    fn new() -> Kiosk {
+        let image = EMPTY_IMAGE.to_vec();
         Kiosk { image }
     }
 
-    /// The keys' part of the image.
-    fn keys(&self) -> &[u8] {
-        let count = u16::from_be_bytes([self.image[0], self.image[1]]);
-        &self.image[2..2 + 8 * usize::from(count)]
+    /// A book was lent or came back: its slip has this key.
+    fn enter(&mut self, key: u64) -> Result<(), Refusal> {
+        let mut out = [0; IMAGE_MOST];
+        let length = enter(&self.image, key, &mut out)?;
+        self.image = out[..length].to_vec();
+        Ok(())
     }
 
     /// A frame came by radio.
@@ -61,17 +60,23 @@ impl Radio {
 
 fn main() -> Result<(), Refusal> {
     let mut radio = Radio(2022);
+    let mut kiosks = [Kiosk::new(), Kiosk::new()];
     // 500 slips that both know, 12 that only one knows, 12 that only the other.
-    let keys: Vec<u64> = (0..524).map(|_| radio.draw()).collect();
-    let mut kiosks = [
-        Kiosk::with_keys(&keys[..512]),
-        Kiosk::with_keys(&keys[12..]),
-    ];
+    for slip in 0..524 {
+        let key = radio.draw();
+        if slip < 512 {
+            kiosks[0].enter(key)?;
+        }
+        if slip >= 12 {
+            kiosks[1].enter(key)?;
+        }
+    }
 
     for beats in 0.. {
-        let agree = kiosks[0].keys() == kiosks[1].keys();
+        let [left, right] = [keys(&kiosks[0].image)?, keys(&kiosks[1].image)?];
+        let agree = left.clone().eq(right.clone());
         if agree || beats % 8 == 0 {
-            let [left, right] = kiosks.each_ref().map(|kiosk| kiosk.keys().len() / 8);
+            let (left, right) = (left.len(), right.len());
             println!("after {beats} beats: {left} keys and {right} keys");
         }
         if agree {

@@ -12,15 +12,23 @@
  * read and write nothing but these bytes, keep no state, allocate nothing and
  * may run on several threads at once, on stacks of at least 128 KB each.
  *
- * A refused call returns minus the number of the first question that was
- * answered no, and writes nothing:
+ * A kiosk begins with an image of four zeros: no key, nothing pending. Frames
+ * may be lost, repeated, delayed and reordered.
  *
- *    1  the image's contents are out of order
+ * A refused call returns minus the number of the first question that was
+ * answered no, and writes nothing. 2 to 5 are about a claim in a frame, and
+ * told as 13.
+ *
+ *    1  a store, a node or an image's contents are out of order
+ *    2  a claim's lo is greater than its hi
+ *    3  a claim's cnt is not from 1 to 1,024
+ *    4  a claim's cnt is not 1 though lo = hi, or else not from 2 to hi − lo + 1
+ *    5  a claim's sum is not lo though cnt is 1, or not lo XOR hi though cnt is 2
  *    6  the keys to add don't fit: the store would have more than 1,024
  *   10  the frame has fewer than 4 bytes or doesn't begin with hex 4C 43
  *   11  the frame's version is not 1
  *   12  the frame's n is not from 1 to 4, or its length is not 4 + 26n
- *   13  a claim in the frame contradicts itself
+ *   13  a claim in the frame doesn't pass questions 2 to 5
  *   14  the image's counts exceed 1,024 or 64, or its length is not theirs
  *   15  a lent output is too short
  *
@@ -46,6 +54,14 @@ extern "C" {
 #endif
 
 /*
+ * Enters a key into an image, writes the new image to the front of `out` and
+ * returns its length. Pending claims stay; a key that is held already changes
+ * nothing. Asks 14, 1, 6, 15.
+ */
+int64_t minutefrost_enter(const uint8_t *image, size_t image_len, uint64_t key,
+                          uint8_t *out, size_t out_len);
+
+/*
  * Takes a frame into an image, writes the new image to the front of `out` and
  * returns its length. Asks 14, 1, 10 to 13, 6 of each claim in turn, 15.
  */
@@ -61,6 +77,12 @@ int64_t minutefrost_take_frame(const uint8_t *image, size_t image_len,
 int64_t minutefrost_beat(const uint8_t *image, size_t image_len,
                          uint8_t *out, size_t out_len,
                          uint8_t *frames, size_t frames_len);
+
+/*
+ * Returns how many keys an image holds; they stand at its bytes 2, 10, 18, ...
+ * Asks 14, 1: so this tells whether bytes are an image at all.
+ */
+int64_t minutefrost_count(const uint8_t *image, size_t image_len);
 
 #ifdef __cplusplus
 }

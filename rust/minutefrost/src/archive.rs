@@ -1,4 +1,4 @@
-//! The archive's two calls, and the only unsafe code of this crate.
+//! The archive's four calls, and the only unsafe code of this crate.
 //!
 //! A slice passes as a pointer and then a length. The calls are proved to read
 //! and write within the slices they are given, to keep nothing of them, and to
@@ -23,6 +23,16 @@ mod c {
             frames: *mut u8,
             frames_len: usize,
         ) -> i64;
+
+        pub fn minutefrost_enter(
+            image: *const u8,
+            image_len: usize,
+            key: u64,
+            out: *mut u8,
+            out_len: usize,
+        ) -> i64;
+
+        pub fn minutefrost_count(image: *const u8, image_len: usize) -> i64;
     }
 }
 
@@ -56,4 +66,26 @@ pub fn beat(image: &[u8], out: &mut [u8], frames: &mut [u8]) -> i64 {
             frames.len(),
         )
     }
+}
+
+/// The new image's length, or minus the number of the refusal.
+pub fn enter(image: &[u8], key: u64, out: &mut [u8]) -> i64 {
+    // SAFETY: each pointer comes with the length of its slice, and the slice
+    // that is written doesn't overlap the one that is read.
+    unsafe {
+        c::minutefrost_enter(
+            image.as_ptr(),
+            image.len(),
+            key,
+            out.as_mut_ptr(),
+            out.len(),
+        )
+    }
+}
+
+/// How many keys the image holds, or minus the number of the refusal.
+pub fn count(image: &[u8]) -> i64 {
+    // SAFETY: the pointer comes with the length of its slice, and nothing is
+    // written.
+    unsafe { c::minutefrost_count(image.as_ptr(), image.len()) }
 }

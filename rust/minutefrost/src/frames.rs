@@ -26,16 +26,12 @@ pub struct Frames<'a> {
 /// asked here, since whoever takes a frame asks it all.
 ///
 /// ```
-/// use minutefrost::{BEAT_FRAMES, IMAGE_MOST, beat, frames};
+/// use minutefrost::{BEAT_FRAMES, EMPTY_IMAGE, IMAGE_MOST, beat, enter, frames};
 ///
-/// // Keys 1 and 16, nothing pending: the beat sends the whole claim.
-/// let image = [
-///     0, 2, // two keys
-///     0, 0, 0, 0, 0, 0, 0, 1, //
-///     0, 0, 0, 0, 0, 0, 0, 16, //
-///     0, 0, // no pending claims
-/// ];
+/// // One key and nothing pending: the beat sends one claim.
 /// let (mut out, mut sent) = ([0; IMAGE_MOST], [0; BEAT_FRAMES]);
+/// let length = enter(&EMPTY_IMAGE, 7, &mut out)?;
+/// let image = out[..length].to_vec();
 /// let beaten = beat(&image, &mut out, &mut sent)?;
 /// for frame in frames(&sent[..beaten.frames]) {
 ///     assert_eq!(frame.len(), 30);

@@ -4,43 +4,59 @@
 //! bytes that lies on its card: the slip keys it holds and the claims that
 //! wait for an answer. A new kiosk has [`EMPTY_IMAGE`]. What kiosks send each
 //! other are *frames* of at most [`FRAME_MOST`] bytes, one to four claims in
-//! each. A daemon does two things, at any time and in any order:
+//! each. A daemon does four things, at any time and in any order:
 //!
+//! - A book was lent or came back: [`enter`] gives the image with the slip's
+//!   key in it.
 //! - A frame came: [`take_frame`] gives the image with the frame taken in.
 //! - Every now and then: [`beat`] gives the image after a beat, and the
 //!   [`frames`] to send.
+//! - Someone asks what the kiosk holds: [`keys`] gives the keys in order.
 //!
-//! Frames may be lost, repeated, delayed and reordered. Two kiosks that hear
-//! each other come to hold the same keys.
+//! ```
+//! use minutefrost::{BEAT_FRAMES, EMPTY_IMAGE, IMAGE_MOST, beat, enter, frames, keys, take_frame};
 //!
-//! Both calls take bytes of any content, and neither panics. One that can't do
+//! let (mut out, mut sent) = ([0; IMAGE_MOST], [0; BEAT_FRAMES]);
+//! // The van enters the key 7 and beats.
+//! let length = enter(&EMPTY_IMAGE, 7, &mut out)?;
+//! let van = out[..length].to_vec();
+//! let beaten = beat(&van, &mut out, &mut sent)?;
+//! // A kiosk enters the key 9, hears the van, and lists its keys.
+//! let length = enter(&EMPTY_IMAGE, 9, &mut out)?;
+//! let mut kiosk = out[..length].to_vec();
+//! for frame in frames(&sent[..beaten.frames]) {
+//!     let length = take_frame(&kiosk, frame, &mut out)?;
+//!     kiosk = out[..length].to_vec();
+//! }
+//! assert!(keys(&kiosk)?.eq([7, 9]));
+//! # Ok::<(), minutefrost::Refusal>(())
+//! ```
+//!
+//! # What is proved, and what was seen
+//!
+//! Every call takes bytes of any content, and none panics. One that can't do
 //! its work returns a [`Refusal`] and has written nothing. On success the bytes
 //! of a buffer past what was written keep their contents. The calls themselves
 //! are the archive `libhost.a`, every function of which is proved; it has no
 //! state, allocates nothing, and runs on a stack of 128 KB.
 //!
-//! ```
-//! use minutefrost::{BEAT_FRAMES, EMPTY_IMAGE, IMAGE_MOST, beat, take_frame};
+//! Frames may be lost, repeated, delayed and reordered: by what kiosks send, no
+//! key that was entered is lost, and no kiosk comes to hold one that nobody
+//! entered. (A frame has no checksum. Damage that leaves it a frame is for the
+//! radio link to find.)
 //!
-//! let (mut out, mut sent) = ([0; IMAGE_MOST], [0; BEAT_FRAMES]);
+//! That two kiosks come to hold the same keys is proved of *rounds*, in which
+//! each hears every claim of the other: after as many rounds as keys differ, none
+//! of them refused, both hold all keys of both, if no match is false. A match is
+//! false when the claim heard equals the kiosk's own although its sender held
+//! other keys there.
 //!
-//! // A frame of one claim: someone holds the key 7 and no other.
-//! let mut frame = vec![0x4C, 0x43, 1, 1];
-//! frame.extend([0, 0, 0, 0, 0, 0, 0, 7].repeat(3)); // lo, hi, sum
-//! frame.extend([0, 1]); // cnt
-//!
-//! // The kiosk takes the key and keeps the claim until it beats.
-//! let length = take_frame(&EMPTY_IMAGE, &frame, &mut out)?;
-//! let image = out[..length].to_vec();
-//! assert_eq!(image[..12], [0, 1, 0, 0, 0, 0, 0, 0, 0, 7, 0, 1]);
-//!
-//! // The claim is a match, so it leaves the table, and what is sent is the
-//! // kiosk's own claim: the same one.
-//! let beaten = beat(&image, &mut out, &mut sent)?;
-//! assert_eq!(out[..beaten.image], [0, 1, 0, 0, 0, 0, 0, 0, 0, 7, 0, 0]);
-//! assert_eq!(sent[..beaten.frames], frame);
-//! # Ok::<(), minutefrost::Refusal>(())
-//! ```
+//! Of *beats* over a radio it isn't proved. It was seen: in the tests and in the
+//! example `two_kiosks`, where keys are drawn at random from all 64-bit numbers,
+//! kiosks always came to hold the same keys. Where a match is false they may
+//! never do so: {1, 3, 4, 16} and {1, 2, 5, 16} have the same ends, the same
+//! count and the same XOR, and two kiosks that hold them learn nothing from each
+//! other until one of them gets another key.
 
 #![deny(unsafe_code)]
 #![warn(missing_docs)]
@@ -48,9 +64,11 @@
 #[allow(unsafe_code)]
 mod archive;
 mod frames;
+mod keys;
 mod refusal;
 
 pub use frames::{Frames, frames};
+pub use keys::{Keys, keys};
 pub use refusal::Refusal;
 
 /// The bytes of the longest image, of 1,024 keys and 64 pending claims: what
@@ -67,7 +85,8 @@ pub const FRAME_MOST: usize = 108;
 /// The image of a kiosk that holds no key, with nothing pending.
 ///
 /// ```
-/// # use minutefrost::{BEAT_FRAMES, EMPTY_IMAGE, IMAGE_MOST, beat};
+/// # use minutefrost::{BEAT_FRAMES, EMPTY_IMAGE, IMAGE_MOST, beat, keys};
+/// assert_eq!(keys(&EMPTY_IMAGE)?.len(), 0);
 /// // It has nothing to say.
 /// let beaten = beat(&EMPTY_IMAGE, &mut [0; IMAGE_MOST], &mut [0; BEAT_FRAMES])?;
 /// assert_eq!(beaten.frames, 0);
@@ -84,6 +103,32 @@ pub struct Beat {
     pub frames: usize,
 }
 
+/// Enters a key into an image: writes the new image to the front of `out` and
+/// returns its length.
+///
+/// The key goes to its place among the others; pending claims stay. A key that
+/// is held already changes nothing, and the new image is the old one. `out` has
+/// at least [`IMAGE_MOST`] bytes.
+///
+/// # Errors
+///
+/// Refused by 14 and 1 of the image, 6 of the key and 15 of the buffer; the
+/// first one answered no counts.
+///
+/// ```
+/// # use minutefrost::{EMPTY_IMAGE, IMAGE_MOST, enter, keys};
+/// let mut out = [0; IMAGE_MOST];
+/// let length = enter(&EMPTY_IMAGE, 7, &mut out)?;
+/// assert!(keys(&out[..length])?.eq([7]));
+///
+/// let short = enter(&EMPTY_IMAGE, 7, &mut out[1..]);
+/// assert_eq!(short.unwrap_err().number(), 15);
+/// # Ok::<(), minutefrost::Refusal>(())
+/// ```
+pub fn enter(image: &[u8], key: u64, out: &mut [u8]) -> Result<usize, Refusal> {
+    accepted(archive::enter(image, key, out))
+}
+
 /// Takes a frame into an image: writes the new image to the front of `out` and
 /// returns its length.
 ///
@@ -98,18 +143,22 @@ pub struct Beat {
 /// frame is taken whole or not at all.
 ///
 /// ```
-/// # use minutefrost::{EMPTY_IMAGE, IMAGE_MOST, take_frame};
-/// let frame = [&[0x4C, 0x43, 1, 1][..], &[0; 25], &[1]].concat();
+/// # use minutefrost::{EMPTY_IMAGE, IMAGE_MOST, keys, take_frame};
+/// // A frame of one claim: someone holds the key 7 and no other.
+/// let mut frame = vec![0x4C, 0x43, 1, 1];
+/// frame.extend([0, 0, 0, 0, 0, 0, 0, 7].repeat(3)); // lo, hi, sum
+/// frame.extend([0, 1]); // cnt
+///
 /// let mut out = [0; IMAGE_MOST];
+/// let length = take_frame(&EMPTY_IMAGE, &frame, &mut out)?;
+/// assert!(keys(&out[..length])?.eq([7]));
 ///
-/// // The key 0, alone, and the claim that told of it.
-/// assert_eq!(take_frame(&EMPTY_IMAGE, &frame, &mut out), Ok(2 + 8 + 2 + 26));
-///
-/// let short = take_frame(&EMPTY_IMAGE, &frame, &mut out[1..]);
-/// assert_eq!(short.unwrap_err().number(), 15);
+/// let cut = take_frame(&EMPTY_IMAGE, &frame[..29], &mut out);
+/// assert_eq!(cut.unwrap_err().number(), 12);
+/// # Ok::<(), minutefrost::Refusal>(())
 /// ```
 pub fn take_frame(image: &[u8], frame: &[u8], out: &mut [u8]) -> Result<usize, Refusal> {
-    length_of(archive::take_frame(image, frame, out))
+    accepted(archive::take_frame(image, frame, out))
 }
 
 /// Beats an image: writes the new image to the front of `out` and the frames
@@ -126,25 +175,31 @@ pub fn take_frame(image: &[u8], frame: &[u8], out: &mut [u8]) -> Result<usize, R
 /// answered no counts.
 ///
 /// ```
-/// # use minutefrost::{BEAT_FRAMES, Beat, IMAGE_MOST, beat};
-/// let image = [0, 1, 0, 0, 0, 0, 0, 0, 0, 7, 0, 0];
+/// # use minutefrost::{BEAT_FRAMES, EMPTY_IMAGE, IMAGE_MOST, beat, enter};
 /// let (mut out, mut frames) = ([0; IMAGE_MOST], [0; BEAT_FRAMES]);
-/// assert_eq!(beat(&image, &mut out, &mut frames), Ok(Beat { image: 12, frames: 30 }));
+/// let length = enter(&EMPTY_IMAGE, 7, &mut out)?;
+/// let image = out[..length].to_vec();
 ///
-/// let cut = beat(&image[..11], &mut out, &mut frames);
+/// // One frame of one claim; the image stays what it was.
+/// let beaten = beat(&image, &mut out, &mut frames)?;
+/// assert_eq!(beaten.frames, 30);
+/// assert_eq!(out[..beaten.image], image);
+///
+/// let cut = beat(&image[1..], &mut out, &mut frames);
 /// assert_eq!(cut.unwrap_err().number(), 14);
+/// # Ok::<(), minutefrost::Refusal>(())
 /// ```
 pub fn beat(image: &[u8], out: &mut [u8], frames: &mut [u8]) -> Result<Beat, Refusal> {
-    let frames = length_of(archive::beat(image, out, frames))?;
+    let frames = accepted(archive::beat(image, out, frames))?;
     Ok(Beat {
         image: length_by_counts(out),
         frames,
     })
 }
 
-/// The length that a call's answer is, or its refusal.
-fn length_of(answer: i64) -> Result<usize, Refusal> {
-    // Below 0 is a refusal; a length is at most 9,860.
+/// The length or count that a call's answer is, or its refusal.
+fn accepted(answer: i64) -> Result<usize, Refusal> {
+    // Below 0 is a refusal; a length is at most 9,860, and a count 1,024.
     usize::try_from(answer).map_err(|_| Refusal::of_answer(answer))
 }
 
@@ -158,11 +213,6 @@ fn length_by_counts(image: &[u8]) -> usize {
     let pending_at = 2 + 8 * count_at(0);
     pending_at + 2 + 26 * count_at(pending_at)
 }
-
-/// The README's code runs too.
-#[cfg(doctest)]
-#[doc = include_str!("../README.md")]
-struct Readme;
 
 #[cfg(test)]
 mod tests {
@@ -182,8 +232,8 @@ mod tests {
 
     #[test]
     fn answers_below_0_are_refusals() {
-        assert_eq!(length_of(0), Ok(0));
-        assert_eq!(length_of(9_860), Ok(IMAGE_MOST));
-        assert_eq!(length_of(-14).unwrap_err().number(), 14);
+        assert_eq!(accepted(0), Ok(0));
+        assert_eq!(accepted(9_860), Ok(IMAGE_MOST));
+        assert_eq!(accepted(-14).unwrap_err().number(), 14);
     }
 }

@@ -36,7 +36,8 @@ impl Refusal {
     ///
     /// [`take_frame`](crate::take_frame) gives 14 and 1 (the image), 10 to 13
     /// (the frame), 6 (no room for a key) and 15 (a short buffer);
-    /// [`beat`](crate::beat) gives 14, 1 and 15.
+    /// [`enter`](crate::enter) gives 14, 1, 6 and 15, [`beat`](crate::beat) 14,
+    /// 1 and 15, and [`keys`](crate::keys) 14 and 1.
     pub const fn number(self) -> u8 {
         self.number
     }
@@ -44,7 +45,7 @@ impl Refusal {
     /// What the answer no means, in words.
     pub const fn meaning(self) -> &'static str {
         match self.number {
-            1 => "a store or node is out of order",
+            1 => "a store, a node or an image's contents are out of order",
             2 => "a claim's lo is greater than its hi",
             3 => "a claim's cnt is not from 1 to 1,024",
             4 => "a claim's cnt is not 1 though lo = hi, or else not from 2 to hi − lo + 1",
@@ -87,13 +88,6 @@ mod tests {
             let row = format!("\n| {number} | {} |", refusal.meaning());
             assert!(readme.contains(&row), "the README lacks the row {row:?}");
         }
-    }
-
-    #[test]
-    fn the_readme_quotes_the_example() {
-        let readme = include_str!("../README.md");
-        let example = include_str!("../examples/two_kiosks.rs");
-        assert!(readme.contains(example));
     }
 
     /// No answer makes the words panic.

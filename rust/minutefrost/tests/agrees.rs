@@ -1,34 +1,36 @@
-//! Both calls against the second program, seeded, byte for byte: the answer,
+//! The calls against the second program, seeded, byte for byte: the answer,
 //! every buffer whole with guard bytes around it, and the inputs afterwards.
 
 #[path = "../../second/tests/common/mod.rs"]
 mod common;
 
 use std::cell::RefCell;
-use std::collections::BTreeMap;
+use std::collections::{BTreeMap, BTreeSet};
+use std::fmt::Debug;
 
 use common::{Rng, for_seeds, frame_of, image_of};
 use minutefrost::*;
 use second::{Claim, RawNode};
 
-/// How often each number was seen; 0 is success.
+/// How often each number was seen, 0 being success, or each of other things.
 #[derive(Default)]
-struct Seen(RefCell<BTreeMap<u8, usize>>);
+struct Seen<What = u8>(RefCell<BTreeMap<What, usize>>);
 
-impl Seen {
-    fn note(&self, number: u8) {
-        *self.0.borrow_mut().entry(number).or_default() += 1;
+impl<What: Copy + Ord + Debug> Seen<What> {
+    fn note(&self, what: What) {
+        *self.0.borrow_mut().entry(what).or_default() += 1;
     }
 
-    /// These numbers were seen often and no others.
-    fn check(&self, numbers: &[u8], often: usize) {
+    /// These were seen often and no others.
+    fn check(&self, all: &[What], often: usize) {
         // A lone seed can't see them all.
         if std::env::var_os("SECOND_SEED").is_some() {
             return;
         }
         let seen = self.0.borrow();
-        println!("numbers seen: {seen:?}");
-        assert!(seen.keys().eq(numbers), "{seen:?}");
+        println!("seen: {seen:?}");
+        assert!(all.iter().all(|what| seen.contains_key(what)), "{seen:?}");
+        assert_eq!(seen.len(), all.len(), "{seen:?}");
         assert!(seen.values().all(|&times| times >= often), "{seen:?}");
     }
 }
@@ -112,6 +114,35 @@ fn beat_both(
         let told = second::image_length(out.lent());
         assert_eq!((told.number, told.length), (0, beaten.image));
         (image, sent.lent()[..beaten.frames].to_vec())
+    })
+}
+
+/// Enters a key by both programs; the number, 0 if the new image stands in
+/// the buffer.
+fn enter_both(image: &[u8], key: u64, out: &mut Guarded, seen: &Seen) -> u8 {
+    let given = image.to_vec();
+    let mut other = out.clone();
+    let answer = as_number(enter(image, key, out.lent()));
+    let expected = second::host::enter(image, key, other.lent());
+    assert_eq!(answer, expected);
+    assert!(*out == other, "the images differ");
+    assert!(image == given, "the input changed");
+    seen.note(number_of(answer));
+    number_of(answer)
+}
+
+/// Lists the keys by both programs; how many there are, if it is an image.
+fn keys_both(image: &[u8], seen: &Seen) -> Option<usize> {
+    let found = keys(image);
+    let count = found.as_ref().map(|keys| keys.len());
+    let expected = second::host::count(image);
+    assert_eq!(as_number(count.map_err(|refusal| *refusal)), expected);
+    seen.note(number_of(expected));
+    found.ok().map(|keys| {
+        let read = second::read_image(image).node.store;
+        assert!(keys.clone().eq(read.held().iter().copied()));
+        assert!(keys.clone().rev().eq(read.held().iter().rev().copied()));
+        keys.len()
     })
 }
 
@@ -214,10 +245,93 @@ fn beat_agrees() {
     seen.check(&[0, 1, 14, 15], 50);
 }
 
+/// A key to enter: the ends of all keys, one that is held, one beside it, or
+/// any other.
+fn draw_key(rng: &mut Rng, keys: &[u64]) -> u64 {
+    match rng.below(8) {
+        0 => 0,
+        1 => u64::MAX,
+        2..=4 if !keys.is_empty() => *rng.pick(keys),
+        5 if !keys.is_empty() => rng.pick(keys).wrapping_add(1),
+        _ => rng.next(),
+    }
+}
+
+/// Where a key goes among these.
+fn place_of(keys: &[u64], key: u64) -> &'static str {
+    let full = keys.len() == 1_024;
+    match keys.binary_search(&key) {
+        Ok(_) if full => "held by a full store",
+        Ok(_) => "held",
+        Err(_) if full => "nowhere",
+        Err(0) if keys.is_empty() => "first of all",
+        Err(_) if keys.len() == 1_023 => "the last that fits",
+        Err(0) => "lowest",
+        Err(at) if at == keys.len() => "highest",
+        Err(_) => "between",
+    }
+}
+
+#[test]
+fn enter_agrees() {
+    let (seen, places, ends) = (Seen::default(), Seen::default(), Seen::default());
+    for_seeds(6_000, |rng| {
+        let (keys, image) = draw_image(rng);
+        for _ in 0..3 {
+            let key = draw_key(rng, &keys);
+            let mut out = Guarded::draw(rng, IMAGE_MOST);
+            if let number @ (0 | 6 | 15) = enter_both(&image, key, &mut out, &seen) {
+                // The image has these keys; it may have been damaged.
+                let held = second::read_image(&image).node.store;
+                places.note((number, place_of(held.held(), key)));
+                if number == 0 && (key == 0 || key == u64::MAX) {
+                    ends.note((key, held.held().contains(&key)));
+                }
+            }
+        }
+    });
+    seen.check(&[0, 1, 6, 14, 15], 50);
+    let room = [
+        "held",
+        "held by a full store",
+        "first of all",
+        "lowest",
+        "between",
+        "highest",
+        "the last that fits",
+    ];
+    let mut all = vec![(6, "nowhere")];
+    all.extend(room.map(|place| (0, place)));
+    all.extend(room.map(|place| (15, place)));
+    places.check(&all, 20);
+    ends.check(
+        &[(0, false), (0, true), (u64::MAX, false), (u64::MAX, true)],
+        50,
+    );
+}
+
+#[test]
+fn keys_agree() {
+    let (seen, counts) = (Seen::default(), Seen::default());
+    for_seeds(3_000, |rng| {
+        let (_, image) = draw_image(rng);
+        if let Some(count) = keys_both(&image, &seen) {
+            counts.note(match count {
+                0 => "none",
+                1..1_024 => "some",
+                _ => "all that fit",
+            });
+        }
+    });
+    seen.check(&[0, 1, 14], 50);
+    counts.check(&["none", "some", "all that fit"], 50);
+}
+
 /// Bytes of no sense at all, of any length.
 #[test]
 fn noise_agrees() {
     let (frames, beats) = (Seen::default(), Seen::default());
+    let (keys, counts) = (Seen::default(), Seen::default());
     for_seeds(3_000, |rng| {
         let mut noise = |most| -> Vec<u8> {
             let length = rng.below(most);
@@ -228,47 +342,55 @@ fn noise_agrees() {
         let mut out = Guarded::draw(rng, IMAGE_MOST);
         let mut sent = Guarded::draw(rng, BEAT_FRAMES);
         take_both(&image, &frame, &mut out.clone(), &frames);
+        enter_both(&image, rng.next(), &mut out.clone(), &keys);
+        keys_both(&image, &counts);
         beat_both(&image, &mut out, &mut sent, &beats);
     });
 }
 
-/// Three kiosks over a radio that loses, repeats, delays and reorders: the
-/// same images after every call, and in the end the same keys.
+/// Three kiosks that are given slips meanwhile, over a radio that loses,
+/// repeats, delays and reorders: the same images after every call, and in the
+/// end the same keys.
 #[test]
 fn kiosks_agree_call_by_call() {
-    let seen = Seen::default();
+    let (entered, heard, beaten, listed) = Default::default();
     for_seeds(12, |rng| {
-        let union: Vec<u64> = {
-            let mut keys: Vec<u64> = (0..40 + rng.below(400)).map(|_| rng.next()).collect();
-            keys.sort();
-            keys
-        };
-        let mut images: Vec<Vec<u8>> = (0..3)
-            .map(|_| {
-                let keys = union.iter().copied().filter(|_| !rng.one_in(9));
-                image_of(&keys.collect::<Vec<_>>(), &[])
-            })
-            .collect();
+        // Who is given which key; most are given to more than one.
+        let mut slips: Vec<(usize, u64)> = Vec::new();
+        for _ in 0..40 + rng.below(400) {
+            let key = rng.next();
+            slips.extend((0..3).filter(|_| !rng.one_in(9)).map(|kiosk| (kiosk, key)));
+        }
+        let union: BTreeSet<u64> = slips.iter().map(|&(_, key)| key).collect();
+        let mut images = [0; 3].map(|_| EMPTY_IMAGE.to_vec());
         let mut out = Guarded::of(rng, IMAGE_MOST);
         let mut sent = Guarded::of(rng, BEAT_FRAMES);
         let mut air: Vec<Vec<u8>> = Vec::new();
         let mut calls = 0;
-        let keys = |image: &Vec<u8>| second::read_image(image).node.store;
-        while images.iter().any(|image| keys(image) != keys(&images[0])) {
+        while !images
+            .iter()
+            .all(|image| keys(image).unwrap().eq(union.iter().copied()))
+        {
             calls += 1;
             assert!(calls < 200_000, "they never agree");
             let kiosk = rng.below(3);
-            if air.is_empty() || rng.one_in(8) {
-                let (image, sent) = beat_both(&images[kiosk], &mut out, &mut sent, &seen).unwrap();
+            if !slips.is_empty() && rng.one_in(3) {
+                let at = rng.below(slips.len());
+                let (kiosk, key) = slips.swap_remove(at);
+                assert_eq!(enter_both(&images[kiosk], key, &mut out, &entered), 0);
+                images[kiosk] = written(&mut out);
+                keys_both(&images[kiosk], &listed);
+            } else if air.is_empty() || rng.one_in(8) {
+                let (image, sent) =
+                    beat_both(&images[kiosk], &mut out, &mut sent, &beaten).unwrap();
                 images[kiosk] = image;
                 air.extend(frames(&sent).map(<[u8]>::to_vec));
                 assert_eq!(frames(&sent).map(<[u8]>::len).sum::<usize>(), sent.len());
             } else {
                 let at = rng.below(air.len());
                 if rng.one_in(3) {
-                    assert_eq!(take_both(&images[kiosk], &air[at], &mut out, &seen), 0);
-                    let length = second::image_length(out.lent()).length;
-                    images[kiosk] = out.lent()[..length].to_vec();
+                    assert_eq!(take_both(&images[kiosk], &air[at], &mut out, &heard), 0);
+                    images[kiosk] = written(&mut out);
                 }
                 if !rng.one_in(6) {
                     air.swap_remove(at);
@@ -276,5 +398,13 @@ fn kiosks_agree_call_by_call() {
             }
         }
     });
-    seen.check(&[0], 1_000);
+    for seen in [entered, heard, beaten, listed] {
+        seen.check(&[0], 1_000);
+    }
+}
+
+/// The image that a call left at the front of a buffer.
+fn written(out: &mut Guarded) -> Vec<u8> {
+    let length = second::image_length(out.lent()).length;
+    out.lent()[..length].to_vec()
 }

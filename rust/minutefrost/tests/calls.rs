@@ -1,4 +1,4 @@
-//! Both calls by hand: each refusal that there is, each with nothing written,
+//! The calls by hand: each refusal that there is, each with nothing written,
 //! and what a caller counts on.
 
 #[path = "../../second/tests/common/mod.rs"]
@@ -18,6 +18,18 @@ fn frame_refused(image: &[u8], frame: &[u8], mut out: Vec<u8>) -> u8 {
     let refusal = take_frame(image, frame, &mut out).unwrap_err();
     assert!(out.iter().all(|&byte| byte == 0xA5), "{refusal}");
     refusal.number()
+}
+
+/// The number with which a key is refused; nothing is written then.
+fn key_refused(image: &[u8], key: u64, mut out: Vec<u8>) -> u8 {
+    let refusal = enter(image, key, &mut out).unwrap_err();
+    assert!(out.iter().all(|&byte| byte == 0xA5), "{refusal}");
+    refusal.number()
+}
+
+/// The number with which bytes are refused whose keys are wanted.
+fn keys_refused(image: &[u8]) -> u8 {
+    keys(image).unwrap_err().number()
 }
 
 /// The number with which a beat is refused; nothing is written then.
@@ -47,25 +59,18 @@ fn full(cnt: u16) -> Vec<u8> {
     image
 }
 
-#[test]
-fn a_frame_is_refused_by_each_question_that_concerns_it() {
+/// Bytes that are no image, each with its number.
+fn no_images() -> Vec<(Vec<u8>, u8)> {
     let image = image_of_keys(&[1, 16]);
-    let frame = frame_of(&[c(7, 7, 7, 1)]);
-    let out = || buffers().0;
-
-    for cut in 0..image.len() {
-        assert_eq!(frame_refused(&image[..cut], &frame, out()), 14);
-    }
-    let long = [&image[..], &[0]].concat();
-    assert_eq!(frame_refused(&long, &frame, out()), 14);
-    let over = image_of_keys(&even(1_025));
-    assert_eq!(frame_refused(&over, &frame, out()), 14);
+    let mut all: Vec<_> = (0..image.len())
+        .map(|cut| (image[..cut].to_vec(), 14))
+        .collect();
+    all.push(([&image[..], &[0]].concat(), 14));
+    all.push((image_of_keys(&even(1_025)), 14));
     let claims: Vec<Claim> = (2..67).map(|cnt| c(0, 2_046, 0, cnt)).collect();
-    let over = image_of(&even(1_024), &claims);
-    assert_eq!(frame_refused(&over, &frame, out()), 14);
-
+    all.push((image_of(&even(1_024), &claims), 14));
     for keys in [[1, 1], [2, 1]] {
-        assert_eq!(frame_refused(&image_of_keys(&keys), &frame, out()), 1);
+        all.push((image_of_keys(&keys), 1));
     }
     for pending in [
         vec![c(1, 2, 3, 2)],                    // 2 isn't held
@@ -73,9 +78,34 @@ fn a_frame_is_refused_by_each_question_that_concerns_it() {
         vec![c(1, 16, 0, 4), c(1, 16, 0, 3)],   // falling
         vec![c(1, 16, 17, 2), c(1, 16, 17, 2)], // twice
     ] {
-        let image = image_of(&[1, 16], &pending);
-        assert_eq!(frame_refused(&image, &frame, out()), 1);
+        all.push((image_of(&[1, 16], &pending), 1));
     }
+    all
+}
+
+/// Whatever else is wrong: the image comes first.
+#[test]
+fn every_call_refuses_what_is_no_image() {
+    for (image, number) in no_images() {
+        let none = Vec::new;
+        let refused = [
+            frame_refused(&image, &frame_of(&[c(7, 7, 7, 1)]), buffers().0),
+            frame_refused(&image, &[], none()),
+            beat_refused(&image, buffers().0, buffers().1),
+            beat_refused(&image, none(), none()),
+            key_refused(&image, 7, buffers().0),
+            key_refused(&image, 7, none()),
+            keys_refused(&image),
+        ];
+        assert_eq!(refused, [number; 7], "{image:?}");
+    }
+}
+
+#[test]
+fn a_frame_is_refused_by_each_question_that_concerns_it() {
+    let image = image_of_keys(&[1, 16]);
+    let frame = frame_of(&[c(7, 7, 7, 1)]);
+    let out = || buffers().0;
 
     for cut in 0..4 {
         assert_eq!(frame_refused(&image, &frame[..cut], out()), 10);
@@ -126,11 +156,6 @@ fn six_is_asked_claim_by_claim_and_before_fifteen() {
 fn a_beat_is_refused_by_each_question_that_concerns_it() {
     let image = image_of_keys(&[1, 16]);
     let (out, frames) = buffers();
-    for cut in 0..image.len() {
-        assert_eq!(beat_refused(&image[..cut], out.clone(), frames.clone()), 14);
-    }
-    let falling = image_of_keys(&[16, 1]);
-    assert_eq!(beat_refused(&falling, out.clone(), frames.clone()), 1);
     // Whatever is pending: even the empty image needs both buffers whole.
     for image in [&image[..], &EMPTY_IMAGE] {
         let short = out[1..].to_vec();
@@ -141,11 +166,132 @@ fn a_beat_is_refused_by_each_question_that_concerns_it() {
 }
 
 #[test]
+fn a_key_is_refused_by_each_question_that_concerns_it() {
+    let full = image_of_keys(&even(1_024));
+    for key in [1, 2_047, u64::MAX] {
+        assert_eq!(key_refused(&full, key, buffers().0), 6);
+        assert_eq!(key_refused(&full, key, Vec::new()), 6);
+    }
+    // A new key, one that is held, and one that is held in a full store: the
+    // buffer is as long as for any image.
+    let short = vec![0xA5; IMAGE_MOST - 1];
+    for (image, key) in [
+        (&EMPTY_IMAGE[..], 0),
+        (&image_of_keys(&[1, 16]), 16),
+        (&image_of_keys(&even(1_023)), 1),
+        (&full, 2_046),
+    ] {
+        assert_eq!(key_refused(image, key, short.clone()), 15);
+        assert_eq!(key_refused(image, key, Vec::new()), 15);
+    }
+}
+
+#[test]
 fn empty_slices_are_answered() {
     assert_eq!(frame_refused(&[], &[], Vec::new()), 14);
     assert_eq!(frame_refused(&EMPTY_IMAGE, &[], Vec::new()), 10);
     assert_eq!(beat_refused(&[], Vec::new(), Vec::new()), 14);
     assert_eq!(beat_refused(&EMPTY_IMAGE, Vec::new(), Vec::new()), 15);
+    assert_eq!(key_refused(&[], 0, Vec::new()), 14);
+    assert_eq!(key_refused(&EMPTY_IMAGE, 0, Vec::new()), 15);
+    assert_eq!(keys_refused(&[]), 14);
+}
+
+/// Enters a key where there is room; the new image, behind which nothing is
+/// written, whether the buffer has to spare or not.
+fn entered(image: &[u8], key: u64) -> Vec<u8> {
+    let images = [0, 1, 40].map(|spare| {
+        let mut out = vec![0xA5; IMAGE_MOST + spare];
+        let length = enter(image, key, &mut out).unwrap();
+        assert!(out[length..].iter().all(|&byte| byte == 0xA5));
+        out.truncate(length);
+        out
+    });
+    let [image, ..] = &images;
+    assert!(images.iter().all(|other| other == image));
+    image.clone()
+}
+
+#[test]
+fn a_key_goes_to_its_place_and_pending_claims_stay() {
+    let pending = [c(1, 16, 17, 2), c(1, 16, 0, 5)];
+    let image = image_of(&[1, 16], &pending);
+    for (key, held) in [
+        (0, &[0, 1, 16][..]),
+        (2, &[1, 2, 16]),
+        (17, &[1, 16, 17]),
+        (u64::MAX, &[1, 16, u64::MAX]),
+        (1, &[1, 16]),
+        (16, &[1, 16]),
+    ] {
+        assert_eq!(entered(&image, key), image_of(held, &pending));
+    }
+    // Key 0 is a key like any other, and so is the largest.
+    assert_eq!(entered(&EMPTY_IMAGE, 0), image_of_keys(&[0]));
+    assert_eq!(entered(&image_of_keys(&[0]), 0), image_of_keys(&[0]));
+    let largest = image_of_keys(&[u64::MAX]);
+    assert_eq!(entered(&EMPTY_IMAGE, u64::MAX), largest);
+    assert_eq!(entered(&largest, u64::MAX), largest);
+}
+
+#[test]
+fn the_last_key_that_fits_is_taken() {
+    let image = image_of_keys(&even(1_023));
+    for (key, at) in [(1, 1), (1_023, 512), (2_046, 1_023), (u64::MAX, 1_023)] {
+        let mut keys = even(1_023);
+        keys.insert(at, key);
+        assert_eq!(entered(&image, key), image_of_keys(&keys));
+    }
+    // Full, and with a full table: what is held already still is.
+    let image = full(1_000);
+    for key in even(1_024) {
+        assert_eq!(entered(&image, key), image);
+    }
+}
+
+#[test]
+fn keys_come_in_order_from_both_ends() {
+    let held = [0, 1, 16, u64::MAX];
+    let image = image_of(&held, &[c(1, 16, 17, 2)]);
+    let mut walk = keys(&image).unwrap();
+    assert!(walk.clone().eq(held));
+    assert!(walk.clone().rev().eq(held.into_iter().rev()));
+    assert_eq!((walk.len(), walk.next()), (4, Some(0)));
+    assert_eq!((walk.len(), walk.next_back()), (3, Some(u64::MAX)));
+    assert_eq!(walk.size_hint(), (2, Some(2)));
+    assert_eq!((walk.by_ref().count(), walk.next()), (2, None));
+    assert_eq!(keys(&EMPTY_IMAGE).unwrap().next(), None);
+    assert!(keys(&full(2)).unwrap().eq(even(1_024)));
+}
+
+/// Why nobody may count on beats alone: both kiosks say the same of different
+/// keys, and go on saying it until one of them has another key.
+#[test]
+fn kiosks_that_match_falsely_learn_nothing() {
+    let holding = |keys: [u64; 4]| {
+        let none = EMPTY_IMAGE.to_vec();
+        keys.into_iter()
+            .fold(none, |image, key| entered(&image, key))
+    };
+    let hear_each_other = |mut kiosks: [Vec<u8>; 2]| {
+        for beats in 0..20 {
+            let (mut out, mut sent) = buffers();
+            let beaten = beat(&kiosks[beats % 2], &mut out, &mut sent).unwrap();
+            kiosks[beats % 2] = out[..beaten.image].to_vec();
+            let hearer = &mut kiosks[1 - beats % 2];
+            for frame in frames(&sent[..beaten.frames]) {
+                let length = take_frame(hearer, frame, &mut out).unwrap();
+                *hearer = out[..length].to_vec();
+            }
+        }
+        kiosks
+    };
+    let [one, other] = hear_each_other([holding([1, 3, 4, 16]), holding([1, 2, 5, 16])]);
+    assert!(keys(&one).unwrap().eq([1, 3, 4, 16]));
+    assert!(keys(&other).unwrap().eq([1, 2, 5, 16]));
+    let [one, other] = hear_each_other([entered(&one, 6), other]);
+    assert!(keys(&one).unwrap().eq([1, 2, 3, 4, 5, 6, 16]));
+    assert!(keys(&other).unwrap().eq([1, 2, 3, 4, 5, 6, 16]));
 }
 
 #[test]
@@ -192,22 +338,24 @@ fn the_most_that_a_beat_sends_fits() {
 /// On four threads at once, each with a stack of 128 KB.
 #[test]
 fn small_stacks_are_enough() {
-    fn both_calls() -> (Vec<u8>, Vec<u8>, Vec<u8>) {
+    fn all_calls() -> [Vec<u8>; 4] {
         let image = full(1_000);
         let frame = frame_of(&[c(0, 2_046, 1, 700); 4]);
         let (mut taken, mut sent) = buffers();
-        let mut beaten = taken.clone();
+        let (mut beaten, mut entered) = (taken.clone(), taken.clone());
         assert_eq!(take_frame(&image, &frame, &mut taken), Ok(IMAGE_MOST));
         assert!(beat(&taken, &mut beaten, &mut sent).is_ok());
-        (taken, beaten, sent)
+        assert_eq!(enter(&taken, 0, &mut entered), Ok(IMAGE_MOST));
+        assert!(keys(&entered).is_ok_and(|keys| keys.eq(even(1_024))));
+        [taken, beaten, sent, entered]
     }
     let threads: Vec<_> = (0..4)
         .map(|_| {
             let thread = std::thread::Builder::new().stack_size(128 << 10);
-            thread.spawn(both_calls).unwrap()
+            thread.spawn(all_calls).unwrap()
         })
         .collect();
-    let expected = both_calls();
+    let expected = all_calls();
     for thread in threads {
         assert!(thread.join().unwrap() == expected);
     }

@@ -1,4 +1,4 @@
-/* Both calls from C, by the header: the key 7 told to an empty kiosk. */
+/* All calls from C, by the header: the key 7 is told to an empty kiosk. */
 #include "minutefrost.h"
 
 #include <string.h>
@@ -16,6 +16,7 @@ int main(void)
     static const uint8_t after[12] = {0, 1, 0, 0, 0, 0, 0, 0, 0, 7, 0, 0};
     static uint8_t taken[MINUTEFROST_IMAGE_MOST];
     static uint8_t beaten[MINUTEFROST_IMAGE_MOST];
+    static uint8_t entered[MINUTEFROST_IMAGE_MOST];
     static uint8_t frames[MINUTEFROST_BEAT_FRAMES];
 
     if (minutefrost_take_frame(empty, 4, frame, 30, taken, sizeof taken) != 38)
@@ -30,5 +31,15 @@ int main(void)
         return 5;
     if (MINUTEFROST_FRAME_MOST != 4 + 26 * 4)
         return 6;
+    if (minutefrost_enter(empty, 4, 7, entered, sizeof entered) != 12)
+        return 7;
+    if (memcmp(entered, after, sizeof after) != 0)
+        return 8;
+    if (minutefrost_enter(empty, 4, 7, entered, MINUTEFROST_IMAGE_MOST - 1) != -15)
+        return 9;
+    if (minutefrost_count(empty, 4) != 0 || minutefrost_count(entered, 12) != 1)
+        return 10;
+    if (minutefrost_count(entered, 11) != -14)
+        return 11;
     return 0;
 }
