@@ -1,4 +1,4 @@
-//! Both host calls, as a daemon makes them, beside the second program: same
+//! The host calls, as a daemon makes them, beside the second program: same
 //! answer, and every byte of every lent buffer the same, with bytes past its
 //! end that must stay as they were. Here images are bent in every way that a
 //! node can be, and all cases run on small stacks too; the calls by hand, a
@@ -20,6 +20,8 @@ const GUARD: usize = 24;
 enum Asked {
     Take(Vec<u8>, Vec<u8>, usize),
     Beat(Vec<u8>, usize, usize),
+    Enter(Vec<u8>, u64, usize),
+    Count(Vec<u8>),
 }
 
 /// What a call leaves: its answer, and both buffers with their guards.
@@ -36,17 +38,29 @@ fn buffer(seed: u64, lent: usize) -> Vec<u8> {
     (0..lent + GUARD).map(|_| noise.next() as u8).collect()
 }
 
-type TakeFrame = fn(&[u8], &[u8], &mut [u8]) -> i64;
-type Beat = fn(&[u8], &mut [u8], &mut [u8]) -> i64;
-
-/// A daemon's call, its answer as the archive gives it.
-fn take_frame(image: &[u8], frame: &[u8], out: &mut [u8]) -> i64 {
-    number_or(minutefrost::take_frame(image, frame, out))
+/// The four calls of a program, their answers as the archive gives them.
+struct Program {
+    take_frame: fn(&[u8], &[u8], &mut [u8]) -> i64,
+    beat: fn(&[u8], &mut [u8], &mut [u8]) -> i64,
+    enter: fn(&[u8], u64, &mut [u8]) -> i64,
+    count: fn(&[u8]) -> i64,
 }
 
-fn beat(image: &[u8], out: &mut [u8], frames: &mut [u8]) -> i64 {
-    number_or(minutefrost::beat(image, out, frames).map(|beaten| beaten.frames))
-}
+const SECOND: Program = Program {
+    take_frame: host::take_frame,
+    beat: host::beat,
+    enter: host::enter,
+    count: host::count,
+};
+
+const ARCHIVE: Program = Program {
+    take_frame: |image, frame, out| number_or(minutefrost::take_frame(image, frame, out)),
+    beat: |image, out, frames| {
+        number_or(minutefrost::beat(image, out, frames).map(|beaten| beaten.frames))
+    },
+    enter: |image, key, out| number_or(minutefrost::enter(image, key, out)),
+    count: |image| number_or(minutefrost::keys(image).map(|keys| keys.len())),
+};
 
 fn number_or(length: Result<usize, minutefrost::Refusal>) -> i64 {
     match length {
@@ -56,37 +70,29 @@ fn number_or(length: Result<usize, minutefrost::Refusal>) -> i64 {
 }
 
 impl Asked {
-    fn by(&self, seed: u64, take_frame: TakeFrame, beat: Beat) -> Left {
-        match self {
+    fn by(&self, seed: u64, program: &Program) -> Left {
+        let (mut out, mut frames) = (Vec::new(), Vec::new());
+        let answer = match self {
             Asked::Take(image, frame, lent) => {
-                let mut out = buffer(seed, *lent);
-                let answer = take_frame(image, frame, &mut out[..*lent]);
-                let frames = Vec::new();
-                Left {
-                    answer,
-                    out,
-                    frames,
-                }
+                out = buffer(seed, *lent);
+                (program.take_frame)(image, frame, &mut out[..*lent])
             }
             Asked::Beat(image, lent, lent_frames) => {
-                let mut out = buffer(seed, *lent);
-                let mut frames = buffer(!seed, *lent_frames);
-                let answer = beat(image, &mut out[..*lent], &mut frames[..*lent_frames]);
-                Left {
-                    answer,
-                    out,
-                    frames,
-                }
+                out = buffer(seed, *lent);
+                frames = buffer(!seed, *lent_frames);
+                (program.beat)(image, &mut out[..*lent], &mut frames[..*lent_frames])
             }
+            Asked::Enter(image, key, lent) => {
+                out = buffer(seed, *lent);
+                (program.enter)(image, *key, &mut out[..*lent])
+            }
+            Asked::Count(image) => (program.count)(image),
+        };
+        Left {
+            answer,
+            out,
+            frames,
         }
-    }
-
-    fn by_archive(&self, seed: u64) -> Left {
-        self.by(seed, take_frame, beat)
-    }
-
-    fn by_second(&self, seed: u64) -> Left {
-        self.by(seed, host::take_frame, host::beat)
     }
 }
 
@@ -96,8 +102,8 @@ fn number(answer: i64) -> u8 {
 }
 
 fn compare(asked: &Asked, seed: u64) -> i64 {
-    let found = asked.by_archive(seed);
-    let wanted = asked.by_second(seed);
+    let found = asked.by(seed, &ARCHIVE);
+    let wanted = asked.by(seed, &SECOND);
     assert_eq!(found.answer, wanted.answer, "the answer");
     assert!(found.out == wanted.out, "the image's buffer");
     assert!(found.frames == wanted.frames, "the frames' buffer");
@@ -159,6 +165,25 @@ fn beat_asked(rng: &mut Rng) -> Asked {
     Asked::Beat(image, room(rng, 9_860), room(rng, 3_486))
 }
 
+/// A key that is held, beside one that is, at an end of all keys, or any.
+fn enter_asked(rng: &mut Rng) -> Asked {
+    let (image, claims) = image(rng);
+    let held = read_image(&image).node.store;
+    let key = match rng.below(8) {
+        0..=2 if held.count > 0 => rng.pick(held.held()),
+        3 if held.count > 0 => rng.pick(held.held()).wrapping_add(1),
+        4 => rng.pick(&[0, u64::MAX]),
+        // What a claim's ends are is close to the image's keys.
+        5 if !claims.is_empty() => rng.pick(&claims).lo,
+        _ => rng.next(),
+    };
+    Asked::Enter(image, key, room(rng, 9_860))
+}
+
+fn count_asked(rng: &mut Rng) -> Asked {
+    Asked::Count(image(rng).0)
+}
+
 /// Which claim of a frame has no room, counted from 0.
 fn first_without_room(image: &[u8], frame: &[u8]) -> usize {
     let mut node = read_image(image).node;
@@ -218,6 +243,88 @@ fn beats() {
     }
 }
 
+/// What entering a key does where it isn't refused.
+fn entering(store: &RawStore, key: u64) -> &'static str {
+    match store.held().binary_search(&key) {
+        Ok(_) if store.count == RawStore::LIMIT => "held by a full store",
+        Ok(_) => "held",
+        Err(_) if store.count == RawStore::LIMIT - 1 => "the last that fits",
+        Err(0) if store.count == 0 => "the first of all",
+        Err(0) => "below all",
+        Err(at) if at == store.count => "above all",
+        Err(_) => "between",
+    }
+}
+
+#[test]
+fn enters_keys() {
+    let mut seen = Seen::default();
+    for_seeds(10_000, |seed, rng| {
+        let asked = enter_asked(rng);
+        let number = number(compare(&asked, seed));
+        seen.number(number);
+        let Asked::Enter(image, key, lent) = &asked else {
+            panic!("a key is entered");
+        };
+        let node = read_image(image).node;
+        match number {
+            0 => {
+                seen.way(entering(&node.store, *key));
+                match *key {
+                    0 => seen.way("key 0"),
+                    u64::MAX => seen.way("the largest key"),
+                    _ => {}
+                }
+                match *lent {
+                    9_860 => seen.way("room for any image"),
+                    _ => seen.way("more than that"),
+                }
+                if node.pending_count > 0 {
+                    seen.way("claims are pending");
+                }
+            }
+            15 if *lent == 9_859 => seen.way("a byte too short"),
+            _ => {}
+        }
+    });
+    let ways = [
+        "held",
+        "held by a full store",
+        "the first of all",
+        "below all",
+        "between",
+        "above all",
+        "the last that fits",
+        "key 0",
+        "the largest key",
+        "claims are pending",
+        "room for any image",
+        "more than that",
+        "a byte too short",
+    ];
+    if !one_seed() {
+        seen.expect(&[0, 1, 6, 14, 15], &ways, OFTEN);
+    }
+}
+
+#[test]
+fn counts_keys() {
+    let mut seen = Seen::default();
+    for_seeds(8_000, |seed, rng| {
+        let answer = compare(&count_asked(rng), seed);
+        seen.number(number(answer));
+        match answer {
+            0 => seen.way("none"),
+            1..1_024 => seen.way("some"),
+            1_024 => seen.way("all that fit"),
+            _ => {}
+        }
+    });
+    if !one_seed() {
+        seen.expect(&[0, 1, 14], &["none", "some", "all that fit"], OFTEN);
+    }
+}
+
 /// Nothing is proved of the stack: any case must do with 128 KB, on several
 /// threads at a time.
 #[test]
@@ -225,24 +332,21 @@ fn runs_on_small_stacks() {
     const STACK: usize = 128 << 10;
     let drawn = |seed| {
         let mut rng = Rng(seed);
-        let asked = if seed % 2 == 0 {
-            take_asked(&mut rng)
-        } else {
-            beat_asked(&mut rng)
-        };
-        let wanted = asked.by_second(seed);
+        let draw = [take_asked, beat_asked, enter_asked, count_asked][seed as usize % 4];
+        let asked = draw(&mut rng);
+        let wanted = asked.by(seed, &SECOND);
         (seed, asked, wanted)
     };
-    let cases: Vec<(u64, Asked, Left)> = seeds(2_000).map(drawn).collect();
+    let cases: Vec<(u64, Asked, Left)> = seeds(4_000).map(drawn).collect();
     let differs = |part: &[(u64, Asked, Left)]| {
         let case = |(seed, asked, wanted): &(u64, Asked, Left)| {
-            (asked.by_archive(*seed) != *wanted).then_some(*seed)
+            (asked.by(*seed, &ARCHIVE) != *wanted).then_some(*seed)
         };
         part.iter().find_map(case)
     };
     thread::scope(|scope| {
         let mut threads = Vec::new();
-        for part in cases.chunks(500) {
+        for part in cases.chunks(1_000) {
             let small = thread::Builder::new().stack_size(STACK);
             let thread = small.spawn_scoped(scope, move || differs(part));
             threads.push(thread.expect("a thread starts"));
