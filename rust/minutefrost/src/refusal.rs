@@ -78,23 +78,58 @@ impl Error for Refusal {}
 mod tests {
     use super::*;
 
-    /// Every number has words of its own, and the README's table has them.
+    /// What is said of a number that stands for no question.
+    const UNKNOWN: &str = Refusal { number: 0 }.meaning();
+
+    /// Each number with its words: what every other table has to say.
+    fn all() -> Vec<(u8, &'static str)> {
+        let words = (1..).map(|number| (number, Refusal { number }.meaning()));
+        words.take_while(|&(_, words)| words != UNKNOWN).collect()
+    }
+
+    /// The cells of a table's rows that begin with a number.
+    fn rows(text: &str) -> impl Iterator<Item = (u8, Vec<&str>)> {
+        text.lines().filter_map(|line| {
+            let row = line.strip_prefix("| ")?.strip_suffix(" |")?;
+            let mut cells = row.split(" | ");
+            let number = cells.next()?.parse().ok()?;
+            Some((number, cells.collect()))
+        })
+    }
+
     #[test]
-    fn every_number_has_its_words_in_the_readme() {
-        let readme = include_str!("../README.md");
-        for number in 1..=15 {
-            let refusal = Refusal::of_answer(-i64::from(number));
-            assert_eq!(refusal.number(), number);
-            let row = format!("\n| {number} | {} |", refusal.meaning());
-            assert!(readme.contains(&row), "the README lacks the row {row:?}");
+    fn both_readmes_have_these_words() {
+        let own = include_str!("../README.md");
+        let root = include_str!("../../../README.md");
+        for readme in [own, root] {
+            let told: Vec<_> = rows(readme).map(|(no, cells)| (no, cells[0])).collect();
+            assert_eq!(told, all());
         }
+    }
+
+    /// The header has those numbers that the archive's calls ask about.
+    #[test]
+    fn the_header_has_these_words() {
+        let asked: Vec<u8> = rows(include_str!("../README.md"))
+            .filter(|(_, cells)| cells[1] != "–")
+            .map(|(number, _)| number)
+            .collect();
+        let header = include_str!("../include/minutefrost.h").lines();
+        let told: Vec<(u8, &str)> = header
+            .filter_map(|line| {
+                let (number, words) = line.strip_prefix(" * ")?.trim_start().split_once("  ")?;
+                Some((number.parse().ok()?, words))
+            })
+            .collect();
+        let mut expected = all();
+        expected.retain(|(number, _)| asked.contains(number));
+        assert_eq!(told, expected);
     }
 
     /// No answer makes the words panic.
     #[test]
     fn unknown_numbers_have_words() {
-        let unknown = Refusal { number: 16 }.meaning();
-        assert_eq!(Refusal::of_answer(i64::MIN).meaning(), unknown);
-        assert_eq!(Refusal::of_answer(0).meaning(), unknown);
+        assert_eq!(Refusal::of_answer(i64::MIN).meaning(), UNKNOWN);
+        assert_eq!(Refusal::of_answer(0).meaning(), UNKNOWN);
     }
 }
