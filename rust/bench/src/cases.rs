@@ -116,10 +116,11 @@ pub fn frame(claims: &[Claim]) -> Vec<u8> {
     frame
 }
 
-/// An image and a frame for it.
+/// An image, and a frame and a key for it.
 pub struct Case {
     pub image: Vec<u8>,
     pub frame: Vec<u8>,
+    pub key: u64,
     pub pending: usize,
 }
 
@@ -128,7 +129,8 @@ pub fn all(case: impl Fn(u64) -> Case) -> Vec<Case> {
     (0..VARIANTS).map(case).collect()
 }
 
-/// A hearer with so many claims pending, and a frame of four more.
+/// A hearer with so many claims pending, a frame of four more, and one of the
+/// hearer's keys.
 pub fn heard(union: usize, differing: usize, pending: usize) -> Vec<Case> {
     all(|variant| {
         let mut pair = Pair::new(union, differing, variant);
@@ -136,6 +138,7 @@ pub fn heard(union: usize, differing: usize, pending: usize) -> Vec<Case> {
         Case {
             image: image(&node),
             frame: pair.frame(&node),
+            key: pair.hearer[pair.draws.below(pair.hearer.len())],
             pending: node.pending_count,
         }
     })

@@ -59,8 +59,8 @@ pub fn print_head() {
     println!();
     println!(
         "Reading an image and writing one are no calls of the archive. They are measured in the calls that contain \
-         them: a frame that is refused by 10 has the image read and judged and nothing else done, and a frame of one \
-         claim that is pending already has it read and written again."
+         them: `count` has the image read and judged and nothing else done, as has a frame that is refused by 10; \
+         `enter` of a key that is held, and a frame of one claim that is pending already, have it read and written again."
     );
     println!();
 }

@@ -27,6 +27,16 @@ const TABLE: usize = 64;
 const CELLS: &str = "Rattle, ns | second, ns | ratio | spread";
 const RULE: &str = "---:|---:|---:|---:";
 
+/// A call by its name, and how it is timed.
+type Timed = (&'static str, fn(&[Case]) -> Compared);
+
+const CALLS: [Timed; 4] = [
+    ("take_frame", take_frame),
+    ("beat", beat),
+    ("enter", enter),
+    ("count", count),
+];
+
 fn main() {
     machine::print_head();
     print_full();
@@ -35,55 +45,66 @@ fn main() {
     round::print_round();
 }
 
-/// Takes the frames by both programs, in turns.
-fn take_frame(cases: &[Case]) -> Compared {
+/// One call by both programs, in turns. Each gives its answer, and what it
+/// writes stands in the buffers.
+fn in_turns(
+    cases: &[Case],
+    rattle: impl Fn(&Case, &mut Buffers) -> i64,
+    second: impl Fn(&Case, &mut Buffers) -> i64,
+) -> Compared {
     let mut one = Buffers::new();
     let mut other = one.clone();
     for case in cases {
-        let answer = minutefrost::take_frame(&case.image, &case.frame, &mut one.image);
-        let expected = second::host::take_frame(&case.image, &case.frame, &mut other.image);
-        assert!(
-            as_number(answer) == expected && one == other,
-            "the programs differ"
-        );
+        let same = rattle(case, &mut one) == second(case, &mut other) && one == other;
+        assert!(same, "the programs differ");
     }
     let (mut next, mut other_next) = (cases.iter().cycle(), cases.iter().cycle());
     compare(
         || {
             let case = next.next().expect("a cycle");
-            let answer = minutefrost::take_frame(&case.image, &case.frame, &mut one.image);
-            black_box((answer.is_ok(), &one));
+            black_box((rattle(case, &mut one), &one));
         },
         || {
             let case = other_next.next().expect("a cycle");
-            let answer = second::host::take_frame(&case.image, &case.frame, &mut other.image);
-            black_box((answer, &other));
+            black_box((second(case, &mut other), &other));
         },
     )
 }
 
-/// Beats by both programs, in turns.
+fn take_frame(cases: &[Case]) -> Compared {
+    in_turns(
+        cases,
+        |Case { image, frame, .. }, out| {
+            as_number(minutefrost::take_frame(image, frame, &mut out.image))
+        },
+        |Case { image, frame, .. }, out| second::host::take_frame(image, frame, &mut out.image),
+    )
+}
+
 fn beat(cases: &[Case]) -> Compared {
-    let mut one = Buffers::new();
-    let mut other = one.clone();
-    for Case { image, .. } in cases {
-        let answer = minutefrost::beat(image, &mut one.image, &mut one.frames);
-        let expected = second::host::beat(image, &mut other.image, &mut other.frames);
-        let answer = as_number(answer.map(|beaten| beaten.frames));
-        assert!(answer == expected && one == other, "the programs differ");
-    }
-    let (mut next, mut other_next) = (cases.iter().cycle(), cases.iter().cycle());
-    compare(
-        || {
-            let case = next.next().expect("a cycle");
-            let answer = minutefrost::beat(&case.image, &mut one.image, &mut one.frames);
-            black_box((answer.is_ok(), &one));
+    in_turns(
+        cases,
+        |Case { image, .. }, out| {
+            let beaten = minutefrost::beat(image, &mut out.image, &mut out.frames);
+            as_number(beaten.map(|beaten| beaten.frames))
         },
-        || {
-            let case = other_next.next().expect("a cycle");
-            let answer = second::host::beat(&case.image, &mut other.image, &mut other.frames);
-            black_box((answer, &other));
-        },
+        |Case { image, .. }, out| second::host::beat(image, &mut out.image, &mut out.frames),
+    )
+}
+
+fn enter(cases: &[Case]) -> Compared {
+    in_turns(
+        cases,
+        |Case { image, key, .. }, out| as_number(minutefrost::enter(image, *key, &mut out.image)),
+        |Case { image, key, .. }, out| second::host::enter(image, *key, &mut out.image),
+    )
+}
+
+fn count(cases: &[Case]) -> Compared {
+    in_turns(
+        cases,
+        |case, _| as_number(minutefrost::keys(&case.image).map(|keys| keys.len())),
+        |case, _| second::host::count(&case.image),
     )
 }
 
@@ -119,6 +140,21 @@ fn print_full() {
         "1,016 keys, none pending: 4 claims with 8 new keys",
         take_frame(&cases::all(eight_new)),
     );
+    row(
+        "enter",
+        "a key that is held: image read and written",
+        enter(&heard),
+    );
+    row(
+        "enter",
+        "1,023 keys: a new key",
+        enter(&cases::all(one_new)),
+    );
+    row(
+        "count",
+        "image read and judged, nothing written",
+        count(&heard),
+    );
     row("beat", "64 matched, 1 claim sent", beat(&heard));
     let full = |cnt| cases::all(|variant| beaten(cases::full(cnt, variant)));
     row("beat", "64 helped, 129 claims sent", beat(&full(2)));
@@ -138,6 +174,17 @@ fn known(variant: u64) -> Case {
 /// A full image, and a frame of no bytes.
 fn refused(variant: u64) -> Case {
     beaten(Pair::new(1_024, 0, variant).node(TABLE))
+}
+
+/// A store with room for one, a full table, and a key that it lacks.
+fn one_new(variant: u64) -> Case {
+    let node = Pair::new(1_023, 0, variant).node(TABLE);
+    // Beside one that is held, in another place for each variant.
+    let key = node.store.held()[31 * variant as usize] + 1;
+    Case {
+        key,
+        ..beaten(node)
+    }
 }
 
 /// A store with room for eight, and the claims of four pairs that it lacks.
@@ -161,6 +208,7 @@ fn beaten(node: RawNode) -> Case {
     Case {
         image: cases::image(&node),
         frame: Vec::new(),
+        key: 0,
         pending: node.pending_count,
     }
 }
@@ -175,7 +223,7 @@ fn differences() -> impl Iterator<Item = (usize, usize)> {
     })
 }
 
-/// Both calls at each size and difference.
+/// The calls that hear and answer, at each size and difference.
 fn print_calls() {
     println!("## By size and difference\n");
     println!("| Union | Differing | Pending | Call | {CELLS} |");
@@ -197,13 +245,9 @@ fn print_growth() {
     println!("| n | Pending | Call | {CELLS} | Rattle, ns a key | second, ns a key |");
     println!("|---:|---:|---|{RULE}|---:|---:|");
     for pending in [0, TABLE] {
-        for call in ["take_frame", "beat"] {
+        for (call, timed) in CALLS {
             for n in [16, 32, 64, 128, 256, 512, 1_024] {
-                let cases = cases::heard(n, 0, pending);
-                let times = match call {
-                    "beat" => beat(&cases),
-                    _ => take_frame(&cases),
-                };
+                let times = timed(&cases::heard(n, 0, pending));
                 let [rattle, second] = [times.rattle, times.second].map(|time| time / n as f64);
                 println!("| {n} | {pending} | {call} | {times} | {rattle:.2} | {second:.2} |");
             }
