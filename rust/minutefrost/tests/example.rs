@@ -10,7 +10,10 @@ fn the_readme_tells_what_the_example_prints() {
     let built = here.ancestors().nth(2).expect("deps lies in a folder");
     let program = built.join("examples/two_kiosks");
     let ran = Command::new(&program).output();
-    let ran = ran.unwrap_or_else(|why| panic!("{}: {why}", program.display()));
+    let ran = ran.unwrap_or_else(|why| {
+        let program = program.display();
+        panic!("{program}: {why}; `cargo build --examples` makes it")
+    });
     assert!(ran.status.success());
     let printed = String::from_utf8(ran.stdout).expect("text");
     let told = format!("\n```text\n{printed}```\n");
