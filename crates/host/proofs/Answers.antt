@@ -30,9 +30,9 @@ use Rattle.wire.specs.declared.answer.Imaged.{Imaged}
 use Rattle.wire.specs.Run.{claim}
 use Rattle.wire.specs.Frame.{frameLimit, headSize, frameCount, frameClaims, allPass, readFrameQuestions, readFrame}
 use Rattle.wire.specs.Image.{imageLimit, nodeBytes, readImageQuestions, readImage}
-use Rattle.wire.proofs.Frames.{head-yes, sized-yes, take-fourOf, readFrame-number, readFrame-yes, readFrame-0}
-use Rattle.wire.proofs.Images.{readImage-number, readImage-yes, readImage-0}
-use Rattle.wire.proofs.Runs.{length-readRun}
+use Rattle.wire.proofs.FrameLaws.{head-yes, sized-yes, take-fourOf, readFrame-number, readFrame-yes, readFrame-0}
+use Rattle.wire.proofs.ImageLaws.{readImage-number, readImage-yes, readImage-0}
+use Rattle.wire.proofs.RunLaws.{length-readRun}
 use Rattle.host.specs.Taking.{questions6, takenUntil}
 use Rattle.host.specs.Frames.{framesLimit}
 use Rattle.host.specs.Call.{minus, nodeIn, imageCounted, takingQuestions, nodeAfter, enteringQuestions, nodeEntered}

@@ -31,9 +31,9 @@ use Rattle.wire.specs.Number.{byte, Below}
 use Rattle.wire.specs.Claim.{keyWidth, countWidth, ClaimFits}
 use Rattle.wire.specs.Run.{Each}
 use Rattle.wire.specs.Image.{keySection, sectionLength, countOf, behind, parse, nodeFrom, readImage, Shaped, NodeFits}
-use Rattle.wire.proofs.Numbers.{below-drop}
-use Rattle.wire.proofs.Runs.{each-mem, mem-each, each-append, each-replicate, each-take, key-faithful, claim-faithful, readRun-fits}
-use Rattle.wire.proofs.Images.{readImage-yes, readImage-0, ordered-counts}
+use Rattle.wire.proofs.NumberLaws.{below-drop}
+use Rattle.wire.proofs.RunLaws.{each-mem, mem-each, each-append, each-replicate, each-take, key-faithful, claim-faithful, readRun-fits}
+use Rattle.wire.proofs.ImageLaws.{readImage-yes, readImage-0, ordered-counts}
 use Rattle.host.specs.Taking.{takenInTurn}
 use Rattle.host.specs.Call.{nodeIn, nodeServed, nodeEntered}
 use Rattle.host.proofs.Entering.{grown, nodeEntered-is}

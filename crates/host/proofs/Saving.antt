@@ -21,10 +21,11 @@ use Rattle.rule.specs.declared.answer.Rest.{Rest}
 use Rattle.rule.specs.Node.{nodeInOrder}
 use Rattle.rule.specs.Question.{question15}
 use Rattle.rule.specs.Call.{writtenOver}
+use Rattle.rule.proofs.PlaceLaws.{putAt-zero}
 use Rattle.wire.specs.declared.answer.Length.{Length}
 use Rattle.wire.specs.Image.{imageLimit, nodeBytes, Shaped}
 use Rattle.wire.specs.Lent.{writeImageIn, imageInLent}
-use Rattle.wire.proofs.Images.{ordered-withinLimits, writeImageIn-0}
+use Rattle.wire.proofs.LentLaws.{ordered-withinLimits, writeImageIn-0}
 use Rattle.wire.proofs.ImageTrips.{image-at-most}
 use Rattle.host.specs.Call.{minus, savingQuestions, saved, savedOut}
 use Rattle.host.specs.Known.{nodeHeld, Known, asOne, Saved}
@@ -42,7 +43,8 @@ pub writeImageIn-room : (n : Node) → Shaped n → nodeInOrder n ≡ true → (
     → (record { number = 0; length = length (nodeBytes n) } ≡ writeImageIn n (length out)) × (writtenOver (nodeBytes n) out ≡ imageInLent n out)
 writeImageIn-room n shaped ordered out h =
     let l = image-at-most n shaped ordered in
-    writeImageIn-0 n out (ordered-withinLimits n out (shaped .keys) ordered) (omega arith)
+    let (r, after) = writeImageIn-0 n out (ordered-withinLimits n out (shaped .keys) ordered) (omega arith) in
+    (r, sym (putAt-zero out (nodeBytes n)) ∙ after)
 
 -- .. and then its length is at most that
 pub written-length : (n : Node) → Shaped n → nodeInOrder n ≡ true → (out : List ℕ) → imageLimit ≤ length out

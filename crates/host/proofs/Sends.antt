@@ -18,15 +18,15 @@ use Rattle.claims.specs.Question.{firstNo}
 use Rattle.claims.proofs.QuestionLaws.{passes, judged-firstNo}
 use Rattle.rule.specs.Node.{blanks}
 use Rattle.rule.specs.Call.{writtenOver}
+use Rattle.rule.specs.Place.{putAt}
 use Rattle.rule.proofs.NodeLaws.{length-blanks}
+use Rattle.rule.proofs.PlaceLaws.{length-putAt, putAt-nil, putAt-zero, putAt-append}
 use Rattle.wire.specs.declared.answer.Length.{Length}
 use Rattle.wire.specs.Frame.{frameLimit, frameLength, frameBytes, countable, allPass, writeFrameQuestions, writeFrame, frameLent}
 use Rattle.wire.specs.Run.{readRun}
-use Rattle.wire.specs.Place.{putAt}
-use Rattle.wire.proofs.Frames.{countable-of, writable-0, writeFrame-0, frameLent-yes}
+use Rattle.wire.proofs.FrameLaws.{countable-of, writable-0, writeFrame-0, frameLent-yes}
 use Rattle.wire.proofs.FrameTrips.{length-frameBytes}
-use Rattle.wire.proofs.Places.{length-putAt, putAt-nil, putAt-zero, putAt-append}
-use Rattle.wire.proofs.Runs.{length-readRun, set-readRun}
+use Rattle.wire.proofs.RunLaws.{length-readRun, set-readRun}
 use Rattle.host.specs.Frames.{framesBytes, inWords}
 use Rattle.host.specs.Known.{FramesWritten}
 use Rattle.host.proofs.Words.{getD-readRun}
@@ -82,8 +82,8 @@ module _ (ws : List ℕ) (at i : ℕ) where
       let f = ap (λ (c : Claim). c .cnt) e in
       omega arith
 
-  pub four-turn : {out : List Claim} {x : Claim} → i < frameLimit → out ≡ writtenOver (readRun inWords i (drop (4 * at) ws)) (blanks frameLimit)
-      → x ≡ inWords .read (drop (4 * (at + i)) ws) → set out i x ≡ writtenOver (readRun inWords (i + 1) (drop (4 * at) ws)) (blanks frameLimit)
+  pub four-turn : {out : List Claim} {x : Claim} → i < frameLimit → out ≡ putAt (blanks frameLimit) 0 (readRun inWords i (drop (4 * at) ws))
+      → x ≡ inWords .read (drop (4 * (at + i)) ws) → set out i x ≡ putAt (blanks frameLimit) 0 (readRun inWords (i + 1) (drop (4 * at) ws))
   four-turn h e f =
       let g : 4 * (at + i) ≡ 4 * at + 4 * i = omega arith in
       set-readRun inWords (blanks frameLimit) ws (4 * at) i (rw (length-blanks frameLimit) h) e (f ∙ ap (λ (k : ℕ). inWords .read (drop k ws)) g)
@@ -109,7 +109,7 @@ module _ (frames : List ℕ) (at n : ℕ) (cs : List Claim) (many : countable n 
   unfolding putAt
   frame-put {new} e =
       let bs = frameBytes (take n cs) in
-      let g : new ≡ bs ++ drop (at + length bs) frames = e ∙ (frameLent-yes cs n part part-yes ∙ rw (part-is, drop-drop)) in
+      let g : new ≡ bs ++ drop (at + length bs) frames = e ∙ (frameLent-yes cs n part part-yes ∙ rw (putAt-zero, part-is, drop-drop)) in
       let all : length frames ≤ length frames = omega arith in
       let past : drop (length frames) frames ≡ [] = drop-of-length-le frames all in
       rw (post-is at (length frames) frames (omega arith), past, append-nil) (ap (λ (z : List ℕ). take at frames ++ z) g)

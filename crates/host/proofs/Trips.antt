@@ -25,11 +25,11 @@ use Rattle.wire.specs.Number.{byte, Below}
 use Rattle.wire.specs.Claim.{keyWidth, ClaimFits}
 use Rattle.wire.specs.Frame.{headSize, frameCount, frameClaims, frameBytes, fourOf, readFrameQuestions, readFrame}
 use Rattle.wire.specs.Image.{imageLimit, nodeBytes, readImageQuestions, readImage, imageLength}
-use Rattle.wire.proofs.Numbers.{below-drop}
-use Rattle.wire.proofs.Runs.{each-mem, mem-each, claim-faithful, readRun-fits}
-use Rattle.wire.proofs.Frames.{readFrame-yes}
+use Rattle.wire.proofs.NumberLaws.{below-drop}
+use Rattle.wire.proofs.RunLaws.{each-mem, mem-each, claim-faithful, readRun-fits}
+use Rattle.wire.proofs.FrameLaws.{readFrame-yes}
 use Rattle.wire.proofs.FrameTrips.{frame-accepted}
-use Rattle.wire.proofs.Images.{readImage-number}
+use Rattle.wire.proofs.ImageLaws.{readImage-number}
 use Rattle.wire.proofs.ImageTrips.{image-accepted, image-length-is-told}
 use Rattle.host.specs.Frames.{fours, inFrames, framesBytes, framesLimit}
 use Rattle.host.specs.Call.{minus, nodeIn, savingQuestions, saved, savedOut, takingQuestions, nodeAfter, frameTaken, frameTakenOut}

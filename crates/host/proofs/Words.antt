@@ -10,7 +10,7 @@ use lib.Seq.{drop-drop}
 use Rattle.claims.specs.declared.claim.Claim.{Claim}
 use Rattle.rule.specs.Call.{claimWords}
 use Rattle.wire.specs.Run.{Layout, readRun, writeRun, Each}
-use Rattle.wire.proofs.Runs.{Faithful, readRun-writeRun}
+use Rattle.wire.proofs.RunLaws.{Faithful, readRun-writeRun}
 use Rattle.host.specs.Frames.{inWords}
 
 -- ---- what is written is read

@@ -10,10 +10,10 @@ ghost use mathlib.Core.Path.{_≡_};
 ghost use mathlib.Core.Bool.{true};
 ghost use Prim.Native.Nat.{_+_, _*_, _≤_, _<_};
 ghost use lib.ListN.{length, take, drop};
+ghost use Rattle.rule.specs.Place.{putAt};
 ghost use Rattle.nodes.specs.Lent.{nodeWith};
 ghost use Rattle.wire.specs.Frame.{frameLimit, frameLength, frameBytes, countable, allPass, fourOf};
 ghost use Rattle.wire.specs.Run.{readRun};
-ghost use Rattle.wire.specs.Place.{putAt};
 ghost use Rattle.host.specs.Frames.{inWords};
 ghost use Rattle.host.specs.Known.{FramesGiven, FramesWritten, SendGiven, Sent};
 

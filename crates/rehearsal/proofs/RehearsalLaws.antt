@@ -11,7 +11,7 @@ use Rattle.claims.proofs.QuestionLaws.{Numbered, firstNo-zero, firstNo-append-z
 use Rattle.rule.specs.Call.{roundQuestions, roundBy}
 use Rattle.rule.proofs.CallLaws.{roundQuestions-yes, roundYes-rounded}
 use Rattle.wire.specs.Image.{frontQuestion14, readImageQuestions}
-use Rattle.wire.proofs.Questions.{settle-number, firstNo-front}
+use Rattle.wire.proofs.QuestionLaws.{settle-number, firstNo-front}
 use Rattle.rehearsal.specs.declared.answer.Rehearsed.{Rehearsed}
 use Rattle.rehearsal.specs.Rehearsal.{firstBytes, secondBytes, storeIn, questionsAfter, noRehearsal, roundTold, roundWords}
 use Rattle.rehearsal.specs.Rehearsal.{toldBy, wordsBy, rehearseNumber, rehearsed, rehearsedWords}

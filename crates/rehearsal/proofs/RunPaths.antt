@@ -21,8 +21,8 @@ use Rattle.wire.specs.declared.answer.Imaged.{Imaged}
 use Rattle.wire.specs.declared.answer.Length.{Length}
 use Rattle.wire.specs.Length.{noLength}
 use Rattle.wire.specs.Image.{sections, countsFit, toldLength, frontQuestion14, readImageQuestions, readImage, imageLength}
-use Rattle.wire.proofs.Images.{readImage-number}
-use Rattle.wire.proofs.Questions.{settle-number}
+use Rattle.wire.proofs.ImageLaws.{readImage-number}
+use Rattle.wire.proofs.QuestionLaws.{settle-number}
 use Rattle.rehearsal.specs.declared.answer.Rehearsed.{Rehearsed}
 use Rattle.rehearsal.specs.Rehearsal.{firstBytes, secondBytes, storeIn, questionsAfter, noRehearsal, roundTold}
 use Rattle.rehearsal.specs.Rehearsal.{rehearseNumber, rehearsed, rehearsedWords, Rehearsal, numberAfter, AfterFirst}

@@ -1,5 +1,6 @@
 -- Laws of the definitions of the upper layer. The worked examples stand first: a definition that is wrong fails there.
 --   Cases      the worked examples
+--   PlaceLaws  what a lent run holds once something is written to it
 --   TableLaws  the pending table
 --   NodeLaws   a node in order
 --   Union      the union of two stores
@@ -10,6 +11,7 @@
 --   CallLaws   what the calls return, one law a return path
 --   Words      claims and records as words
 pub mod Cases
+pub mod PlaceLaws
 pub mod TableLaws
 pub mod NodeLaws
 pub mod Union

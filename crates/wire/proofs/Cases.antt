@@ -4,6 +4,7 @@ use mathlib.Core.Path.{_≡_, refl}
 use Rattle.keys.specs.Store.{zeros, storeOf, emptyStore, inOrder}
 use Rattle.claims.specs.Call.{judged}
 use Rattle.rule.specs.Node.{blanks, nodeOf, emptyNode, nodeInOrder}
+use Rattle.rule.specs.Place.{putAt}
 use Rattle.wire.specs.Number.{number, bytes}
 use Rattle.wire.specs.Claim.{claimBytes, claimFrom}
 use Rattle.wire.specs.Frame.{headBytes, frameBytes, marked, countable, sized, readFrame, writeFrame, frameLent}
@@ -11,5 +12,7 @@ use Rattle.wire.specs.Image.{imageBytes, countFits, countsFit, toldLengt
 use Rattle.wire.specs.Cases.{Row, table}
 
 pub cases-hold : map (λ (r : Row). r .gives) table ≡ map (λ (r : Row). r .wanted) table
-unfolding zeros storeOf emptyStore inOrder judged blanks nodeOf emptyNode nodeInOrder number bytes claimBytes claimFrom headBytes frameBytes marked countable sized readFrame writeFrame frameLent imageBytes countFits countsFit toldLength parse readImage imageLength writeImage imageLent
+unfolding zeros storeOf emptyStore inOrder judged blanks nodeOf emptyNode nodeInOrder number bytes claimBytes claimFrom
+    headBytes frameBytes marked countable sized readFrame writeFrame frameLent putAt
+    imageBytes countFits countsFit toldLength parse readImage imageLength writeImage imageLent
 cases-hold = refl

@@ -9,18 +9,21 @@ use mathlib.Core.Path.{_≡_, ap, sym, _∙_}
 use borrow.Author.Tests.{le-leb, eqb-true, eq-eqb}
 use lib.Dec.{leb, eqb}
 use lib.ListN.{length, take, drop, getD}
-use lib.Seq.{take-all, take-at, length-take-le}
+use lib.Seq.{take-all, length-take-le}
 use Rattle.keys.proofs.Tests.{and-left, and-right}
 use Rattle.claims.specs.declared.claim.Claim.{Claim}
 use Rattle.claims.specs.Question.{firstNo}
-use Rattle.rule.specs.Call.{writtenOver}
+use Rattle.rule.specs.Place.{putAt}
+use Rattle.rule.proofs.PlaceLaws.{take-front}
 use Rattle.wire.specs.Number.{byte, Below}
 use Rattle.wire.specs.Claim.{claimSize, ClaimFits}
 use Rattle.wire.specs.Run.{claim, readRun, writeRun, Each}
 use Rattle.wire.specs.Frame
-use Rattle.wire.specs.Frame.{version, versionPlace, frameLimit, headSize, frameLength, frameMost, headBytes, frameBytes, frameCount, frameClaims, marked, sized, headQuestions, allPass, fourOf, readFrame, writeFrameQuestions, writeFrame, frameLent}
-use Rattle.wire.proofs.Runs.{each-take, claim-faithful, length-readRun, length-writeRun, readRun-writeRun, writeRun-readRun}
-use Rattle.wire.proofs.Frames.{head-yes, sized-yes, readFrame-0, writable-0, writable-yes, writeFrame-0, countable-of, countable-yes, take-fourOf, readFrame-number, readFrame-yes, writeFrame-number, frameLent-yes}
+use Rattle.wire.specs.Frame.{version, versionPlace, frameLimit, headSize, frameLength, frameMost, headBytes, frameBytes, frameCount}
+use Rattle.wire.specs.Frame.{frameClaims, marked, sized, headQuestions, allPass, fourOf, readFrame, writeFrameQuestions, writeFrame, frameLent}
+use Rattle.wire.proofs.RunLaws.{each-take, claim-faithful, length-readRun, length-writeRun, readRun-writeRun, writeRun-readRun}
+use Rattle.wire.proofs.FrameLaws.{head-yes, sized-yes, readFrame-0, writable-0, writable-yes, writeFrame-0, countable-of, countable-yes}
+use Rattle.wire.proofs.FrameLaws.{take-fourOf, readFrame-number, readFrame-yes, writeFrame-number, frameLent-yes}
 
 -- ---- a frame's bytes are read as its claims
 
@@ -84,15 +87,15 @@ frame-written-is-read cs n out long fit done =
     let z = countable-yes n (y .0) in
     let count : length (take n cs) ≡ n = length-take-le n cs (rw long (z .1)) in
     let written : writeFrame cs n (length out) .length ≡ frameLength n = λ i. sym (writeFrame-0 cs n (length out) e) i .length in
-    let front : take (frameLength n) (writtenOver (frameBytes (take n cs)) out) ≡ frameBytes (take n cs) =
-    take-at (frameBytes (take n cs)) _ (frameLength n) (length-frameBytes (take n cs) ∙ ap frameLength count) in
+    let front : take (frameLength n) (putAt out 0 (frameBytes (take n cs))) ≡ frameBytes (take n cs) =
+    take-front out (frameBytes (take n cs)) (frameLength n) (length-frameBytes (take n cs) ∙ ap frameLength count) in
     let read = frame-accepted (take n cs) (each-take ClaimFits n cs fit) (rw count (z .0)) (rw count (z .1)) (y .1) in
     rw (written, frameLent-yes cs n out e, front) (read ∙ (λ i. record { number = 0; claims = fourOf (take n cs); count = count i }))
 
 -- A frame that is accepted is written again as the same bytes, past which the buffer keeps its contents.
 pub frame-read-is-written : (bs out : List ℕ) → Below byte bs → readFrame bs .number ≡ 0 → length bs ≤ length out
     → (writeFrame (readFrame bs .claims) (readFrame bs .count) (length out) ≡ record { number = 0; length = length bs })
-    × (frameLent (readFrame bs .claims) (readFrame bs .count) out ≡ writtenOver bs out)
+    × (frameLent (readFrame bs .claims) (readFrame bs .count) out ≡ putAt out 0 bs)
 frame-read-is-written bs out below done room =
     let e = sym (readFrame-number bs) ∙ done in
     let (h, pass) = readFrame-yes bs e in
@@ -105,4 +108,5 @@ frame-read-is-written bs out below done room =
     sym (writable-0 cs n (length out) (countable-of n (z .0) (z .1)) (rw front pass) (rw (← z .2) room)) in
     let same : frameBytes (take n cs) ≡ bs = rw front (frameBytes-frameClaims bs below (y .0) (y .1) (z .2)) in
     let read : record { number = 0; claims = cs; count = n } ≡ readFrame bs = readFrame-0 bs h pass in
-    rw (← read) (sym (writeFrame-0 cs n (length out) w) ∙ (λ i. record { number = 0; length = sym (z .2) i }), frameLent-yes cs n out w ∙ ap (λ (l : List ℕ). writtenOver l out) same)
+    let told = sym (writeFrame-0 cs n (length out) w) ∙ (λ i. record { number = 0; length = sym (z .2) i }) in
+    rw (← read) (told, frameLent-yes cs n out w ∙ ap (putAt out 0) same)

@@ -5,27 +5,30 @@ use Prim.Native.Nat.{ℕ, _+_, _^_, _≤_, _<_}
 use native.Mathlib.Omega.{arith}
 use mathlib.Core.Bool.{true}
 use mathlib.Core.List.{List, [], _++_, append-nil, append-assoc}
-use mathlib.Core.Path.{_≡_, ap, sym, _∙_, subst}
+use mathlib.Core.Path.{_≡_, refl, ap, sym, _∙_, subst}
 use borrow.Author.Tests.{le-leb}
 use lib.ListN.{length, take, drop, length-append, length-drop, drop-of-length-le}
-use lib.Seq.{take-append-seam}
 use Rattle.keys.specs.Store.{limit}
 use Rattle.claims.specs.declared.claim.Claim.{Claim}
 use Rattle.claims.specs.Reply.{same}
 use Rattle.rule.specs.declared.node.Node.{Node}
 use Rattle.rule.specs.Table.{tableLimit}
 use Rattle.rule.specs.Node.{nodeKeys, pendingOf, nodeInOrder}
-use Rattle.rule.specs.Call.{writtenOver}
+use Rattle.rule.specs.Place.{putAt}
 use Rattle.rule.proofs.NodeLaws.{nodeInOrder-ordered, nodeOf-same, nodeKeys-nodeOf, pendingOf-nodeOf}
+use Rattle.rule.proofs.PlaceLaws.{take-front}
 use Rattle.wire.specs.Number.{byte, Below}
 use Rattle.wire.specs.Claim.{keyWidth, countWidth, ClaimFits}
 use Rattle.wire.specs.Run.{key, claim, Each}
-use Rattle.wire.specs.Image.{keySection, claimSection, sections, sectionLength, imageLimit, sectionBytes, imageBytes, nodeBytes, Shaped, NodeFits, countOf, behind, countFits, countsFit, toldLength, thingsIn, parse, nodeFrom, readImage, imageLength, writeImage, imageLent}
+use Rattle.wire.specs.Image.{keySection, claimSection, sections, sectionLength, imageLimit, sectionBytes, imageBytes, nodeBytes, Shaped}
+use Rattle.wire.specs.Image.{NodeFits, countOf, behind, countFits, countsFit, toldLength, thingsIn, parse, nodeFrom, readImage, writeImage}
+use Rattle.wire.specs.Image.{imageLent, imageLength}
 use Rattle.wire.specs.Told.{AsTold}
-use Rattle.wire.proofs.Numbers.{below-drop}
-use Rattle.wire.proofs.Runs.{each-take, key-faithful, claim-faithful}
-use Rattle.wire.proofs.Images.{ordered-counts, length-nodeBytes, length-nodeKeys, length-pending, readImage-0, readImage-yes, writeImage-0, writeImage-yes}
-use Rattle.wire.proofs.Sections.{length-sectionBytes, countOf-section, thingsIn-section, behind-section, countFits-section, sectionBytes-thingsIn}
+use Rattle.wire.proofs.NumberLaws.{below-drop}
+use Rattle.wire.proofs.RunLaws.{each-take, key-faithful, claim-faithful}
+use Rattle.wire.proofs.ImageLaws.{ordered-counts, length-nodeBytes, length-nodeKeys, length-pending, readImage-0, readImage-yes, writeImage-0}
+use Rattle.wire.proofs.ImageLaws.{writeImage-yes}
+use Rattle.wire.proofs.SectionLaws.{length-sectionBytes, countOf-section, thingsIn-section, behind-section, countFits-section, sectionBytes-thingsIn}
 
 -- ---- an image's bytes are read as its keys and claims, whatever follows them
 
@@ -118,7 +121,8 @@ image-accepted n fit e =
     let c : length cs ≤ tableLimit = rw (length-pending n (fit .shaped) few several) several in
     let parsed =
     parse-imageBytes ks cs k c (each-take _ (n .store .count) (n .store .keys) (fit .keys)) (each-take ClaimFits (n .count) (n .pending) (fit .pending)) in
-    let node : nodeFrom (parse (nodeBytes n)) ≡ n = ap nodeFrom parsed ∙ sym (nodeOf-same n (fit .shaped .keys) (fit .shaped .pending) (nodeInOrder-ordered n e)) in
+    let node : nodeFrom (parse (nodeBytes n)) ≡ n =
+    ap nodeFrom parsed ∙ sym (nodeOf-same n (fit .shaped .keys) (fit .shaped .pending) (nodeInOrder-ordered n e)) in
     sym (readImage-0 (imageBytes-told ks cs k c) (ap nodeInOrder node ∙ e)) ∙ (λ i. record { number = 0; node = node i })
 
 -- Bytes that begin with the image of a node in order tell its length.
@@ -145,15 +149,15 @@ image-written-is-read n out fit done =
     let (o, room) = writeImage-yes n out done in
     let (w, lent) = writeImage-0 n out o room in
     let long : writeImage n (length out) .length ≡ length (nodeBytes n) = λ i. sym w i .length in
-    let front : take (length (nodeBytes n)) (writtenOver (nodeBytes n) out) ≡ nodeBytes n = take-append-seam (nodeBytes n) (drop (length (nodeBytes n)) out) in
+    let front : take (length (nodeBytes n)) (putAt out 0 (nodeBytes n)) ≡ nodeBytes n = take-front out (nodeBytes n) _ refl in
     rw (long, ← lent, front) (image-accepted n fit o)
 
 -- An image that is accepted is written again as the same bytes, past which the buffer keeps its contents.
 pub image-read-is-written : (bs out : List ℕ) → Below byte bs → readImage bs .number ≡ 0 → length bs ≤ length out
-    → (writeImage (readImage bs .node) (length out) ≡ record { number = 0; length = length bs }) × (imageLent (readImage bs .node) out ≡ writtenOver bs out)
+    → (writeImage (readImage bs .node) (length out) ≡ record { number = 0; length = length bs }) × (imageLent (readImage bs .node) out ≡ putAt out 0 bs)
 image-read-is-written bs out below done room =
     let (told, o) = readImage-yes bs done in
     let n = nodeFrom (parse bs) in
     let same : nodeBytes n ≡ bs = rw (nodeKeys-nodeOf, pendingOf-nodeOf) (imageBytes-parse bs below (told .whole)) in
     let (w, lent) = writeImage-0 n out o (rw same room) in
-    rw (← readImage-0 told o) (sym w ∙ (λ i. record { number = 0; length = length (same i) }), sym lent ∙ ap (λ (l : List ℕ). writtenOver l out) same)
+    rw (← readImage-0 told o) (sym w ∙ (λ i. record { number = 0; length = length (same i) }), sym lent ∙ ap (putAt out 0) same)

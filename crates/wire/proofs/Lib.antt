@@ -1,23 +1,30 @@
--- The laws of the definitions of specs/. A file uses only those named before it.
---   Places      what a lent run holds once something is written to it
---   Numbers     numbers in bytes, over the width
---   Claims      a claim in bytes
---   Runs        keys or claims, one after the other
---   Questions   what a call returns by its questions
---   Frames      questions 10 to 13, and the two calls, path by path
---   FrameTrips  the round trips of frames
---   Images      question 14, and the calls, path by path
---   Sections    a section at the front of some bytes, both ways
---   ImageTrips  the round trips of images
---   Cases       the worked examples
-pub mod Places
-pub mod Numbers
-pub mod Claims
-pub mod Runs
-pub mod Questions
-pub mod Frames
+-- The laws of the definitions of specs/ (`XLaws` of specs/X), one law for each way of the code (`XPaths` of src/x.rt), and the round trips. A file uses
+-- only those named before it.
+--   NumberLaws    numbers in bytes, over the width
+--   ClaimLaws     a claim in bytes
+--   RunLaws       keys or claims, one after the other
+--   QuestionLaws  what a call returns by its questions, beyond those of `claims`
+--   FrameLaws     questions 10 to 13, and what the two calls return
+--   FramePaths    the ways of src/frame.rt
+--   FrameTrips    the round trips of frames
+--   ImageLaws     question 14, and what the calls return
+--   ToldLaws      what an image's counts tell
+--   LentLaws      the calls on lent keys, by the definitions of images
+--   ImagePaths    the ways of src/image.rt
+--   SectionLaws   a section at the front of some bytes, both ways
+--   ImageTrips    the round trips of images
+--   Cases         the worked examples
+pub mod NumberLaws
+pub mod ClaimLaws
+pub mod RunLaws
+pub mod QuestionLaws
+pub mod FrameLaws
+pub mod FramePaths
 pub mod FrameTrips
-pub mod Images
-pub mod Sections
+pub mod ImageLaws
+pub mod ToldLaws
+pub mod LentLaws
+pub mod ImagePaths
+pub mod SectionLaws
 pub mod ImageTrips
 pub mod Cases

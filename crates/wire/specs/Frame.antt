@@ -10,7 +10,7 @@ use Rattle.claims.specs.Question.{Question, question, firstNo, settle}
 use Rattle.claims.specs.Call.{judged}
 use Rattle.rule.specs.Node.{blanks}
 use Rattle.rule.specs.Question.{question15}
-use Rattle.rule.specs.Call.{writtenOver}
+use Rattle.rule.specs.Place.{putAt}
 use Rattle.wire.specs.declared.answer.Framed.{Framed}
 use Rattle.wire.specs.declared.answer.Length.{Length}
 use Rattle.wire.specs.Length.{noLength}
@@ -133,5 +133,5 @@ writeFrame cs n room =
 unfoldable pub frameLent : List Claim → ℕ → List ℕ → List ℕ
 frameLent cs n out =
     settle (firstNo (writeFrameQuestions cs n (length out)))
-    (writtenOver (frameBytes (take n cs)) out)
+    (putAt out 0 (frameBytes (take n cs)))
     (λ k. out)

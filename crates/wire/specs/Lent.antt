@@ -1,6 +1,6 @@
 -- Calls between our own crates: an image read and written where a node's keys are lent, so that none is copied, and where question 1 is put by `ordered_lent`
 -- of `nodes`, so that a host call pays it once. They are total, and no rule of document 01. What they are by the definitions of Image is said by
--- laws (proofs/Images): `readIn-node`, `writeImageIn-writeImage`, `imageInLent-imageLent`. Assumes nothing.
+-- laws (proofs/LentLaws): `readIn-node`, `writeImageIn-writeImage`, `imageInLent-imageLent`. Assumes nothing.
 use Prim.Native.Nat.{ℕ}
 use mathlib.Core.Bool.{Bool, _&&_}
 use mathlib.Core.List.{List, [], _∷_}
@@ -13,7 +13,7 @@ use Rattle.rule.specs.declared.answer.Rest.{Rest}
 use Rattle.rule.specs.Table.{tableLimit}
 use Rattle.rule.specs.Node.{blanks}
 use Rattle.rule.specs.Question.{question15}
-use Rattle.rule.specs.Call.{writtenOver}
+use Rattle.rule.specs.Place.{putAt}
 use Rattle.wire.specs.declared.answer.Length.{Length}
 use Rattle.wire.specs.Length.{noLength}
 use Rattle.wire.specs.Image.{parse, nodeFrom, question14, nodeBytes}
@@ -30,7 +30,7 @@ unfoldable pub readIn : List ℕ → Rest
 readIn bs = settle (firstNo (question14 bs ∷ [])) (restOf (nodeFrom (parse bs))) noRest
 
 unfoldable pub readInLent : List ℕ → List ℕ → List ℕ
-readInLent bs keys = settle (firstNo (question14 bs ∷ [])) (writtenOver (parse bs .keys) keys) (λ k. keys)
+readInLent bs keys = settle (firstNo (question14 bs ∷ [])) (putAt keys 0 (parse bs .keys)) (λ k. keys)
 
 -- are all places of the keys there, and both counts not too high?
 abbrev pub withinLimits : List ℕ → ℕ → ℕ → Bool
@@ -48,4 +48,4 @@ writeImageIn n room =
     noLength
 
 unfoldable pub imageInLent : Node → List ℕ → List ℕ
-imageInLent n out = settle (firstNo (writeImageInQuestions n (length out))) (writtenOver (nodeBytes n) out) (λ k. out)
+imageInLent n out = settle (firstNo (writeImageInQuestions n (length out))) (putAt out 0 (nodeBytes n)) (λ k. out)

@@ -2,7 +2,6 @@
 --   Number  numbers in bytes, high byte first
 --   Claim   a claim in 26 bytes
 --   Run     keys or claims, one after the other
---   Place   what a lent buffer holds once something is written at a place of it
 --   Length  a length as a call returns it
 --   Frame   frames, read and written
 --   Image   images, read and written
@@ -12,7 +11,6 @@
 pub mod Number
 pub mod Claim
 pub mod Run
-pub mod Place
 pub mod Length
 pub mod Frame
 pub mod Image

@@ -15,6 +15,11 @@ use Rattle.wire.specs.Image.{keySection, claimSection, sections, section
 unfoldable pub partOf : ℕ → List ℕ → Part
 partOf most bs = cond (countFits most bs) (record { fits = true; count = countOf bs }) (record { fits = false; count = 0 })
 
+-- what `part_at` returns of it: the count is never too high
+pub record IsPart (most : ℕ) (bs : List ℕ) (r : Part) : Type 0 where
+  pub part : r ≡ partOf most bs
+  pub few : r .count ≤ most
+
 -- the whole image
 unfoldable pub toldOf : List ℕ → Told
 toldOf bs =
@@ -28,6 +33,13 @@ pub record AsTold (bs : List ℕ) (n m : ℕ) : Type 0 where
   pub whole : length bs ≡ toldLength sections bs
   pub keys : n ≡ countOf bs
   pub pending : m ≡ countOf (behind keySection bs)
+
+-- .. with room for so many keys and claims
+pub record Readable (bs : List ℕ) (n m : ℕ) : Type 0 where
+  pub told : AsTold bs n m
+  pub keys : n ≤ limit
+  pub pending : m ≤ tableLimit
+  pub enough : sectionLength keySection n + sectionLength claimSection m ≤ length bs
 
 -- room for the image of a node whose places are all there and whose counts are not too high
 pub record HasRoom (n : Node) (room : ℕ) : Type 0 where

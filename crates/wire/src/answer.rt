@@ -1,6 +1,5 @@
 // What the calls answer. A number is that of the first question of document 01 answered no, or 0.
 use crate::claim;
-use crate::frame;
 use crate::number;
 use claims::Claim;
 use keys::Store;
@@ -17,8 +16,8 @@ impl Framed {
     // A frame has from one claim to so many.
     pub const CLAIMS: usize = 4;
 
-    // The bytes before the claims, and those of each claim.
-    pub const HEAD: usize = frame::HEAD;
+    // The bytes before the claims (mark, version and count), and those of each claim.
+    pub const HEAD: usize = 4;
 
     pub const CLAIM: usize = claim::SIZE;
 

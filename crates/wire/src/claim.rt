@@ -4,8 +4,8 @@ use claims::Claim;
 ghost use mathlib.Core.Path.{_≡_};
 ghost use Prim.Native.Nat.{_+_, _≤_};
 ghost use lib.ListN.{length, drop};
+ghost use Rattle.rule.specs.Place.{putAt};
 ghost use Rattle.wire.specs.Claim.{claimSize, claimFrom, claimBytes};
-ghost use Rattle.wire.specs.Place.{putAt};
 
 pub(crate) const SIZE: usize = 3 * number::KEY + number::COUNT;
 

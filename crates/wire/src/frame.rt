@@ -8,10 +8,13 @@ ghost use mathlib.Core.Path.{_≡_};
 ghost use Prim.Native.Nat.{_+_, _*_, _≤_};
 ghost use lib.ListN.{length, take, drop};
 ghost use Rattle.claims.specs.Question.{firstNo};
+ghost use Rattle.rule.specs.Place.{putAt};
 ghost use Rattle.wire.specs.Claim.{claimSize};
 ghost use Rattle.wire.specs.Run.{claim as claim-layout, readRun, writeRun};
-ghost use Rattle.wire.specs.Place.{putAt};
-ghost use Rattle.wire.specs.Frame.{frameLimit, headSize, headBytes, frameLength, fourOf, marked, countable, sized, headQuestions, allPass, noFrame, readFrame, writeFrameQuestions, writeFrame, frameLent};
+ghost use Rattle.wire.specs.Frame.{frameLimit, headSize, headBytes, frameLength, fourOf, marked, countable, sized, allPass};
+ghost use Rattle.wire.specs.Frame.{headQuestions, noFrame, readFrame, writeFrameQuestions, writeFrame, frameLent};
+
+const HEAD: usize = Framed::HEAD;
 
 // Every frame begins with these two bytes.
 const MARK: [u8; VERSION_PLACE] = [0x4C, 0x43];
@@ -19,11 +22,9 @@ const MARK: [u8; VERSION_PLACE] = [0x4C, 0x43];
 // The version byte stands after them, then the count byte, then the claims.
 const VERSION: u8 = 1;
 
-const VERSION_PLACE: usize = 2;
+const VERSION_PLACE: usize = COUNT_PLACE - 1;
 
-const COUNT_PLACE: usize = VERSION_PLACE + 1;
-
-pub(crate) const HEAD: usize = COUNT_PLACE + 1;
+const COUNT_PLACE: usize = HEAD - 1;
 
 // Question 10: are there at least 4 bytes, the first two the mark?
 fn has_mark(bytes: &[u8]) -> bool
@@ -192,7 +193,8 @@ fn put_claims(out: &mut [u8], claims: [Claim; Framed::CLAIMS], n: usize)
 
 // Writes the frame of the first n of four claims to the front of a buffer. Questions 12 of n, 13 and 15.
 pub fn write_frame(claims: [Claim; Framed::CLAIMS], n: usize, out: &mut [u8]) -> Length
-    ensures { λ r. ⌜ (r ≡ writeFrame claims n (length (now (out .entry)))) × (now (out .exit) ≡ frameLent claims n (now (out .entry))) ⌝ }
+    ensures { λ r. ⌜ (r ≡ writeFrame claims n (length (now (out .entry))))
+        × (now (out .exit) ≡ frameLent claims n (now (out .entry))) ⌝ }
 {
     let number = writable(claims, n, out.len());
     if number != 0 {

@@ -14,13 +14,12 @@ ghost use Prim.Native.Nat.{_+_, _*_, _≤_};
 ghost use lib.ListN.{length, take, drop};
 ghost use Rattle.rule.specs.Table.{tableLimit};
 ghost use Rattle.rule.specs.Node.{blanks, emptyNode};
-ghost use Rattle.rule.specs.Call.{writtenOver};
+ghost use Rattle.rule.specs.Place.{putAt};
 ghost use Rattle.nodes.specs.Lent.{nodeWith};
 ghost use Rattle.wire.specs.Claim.{keyWidth, claimSize};
 ghost use Rattle.wire.specs.Run.{key as key-layout, claim as claim-layout, readRun, writeRun};
-ghost use Rattle.wire.specs.Place.{putAt};
 ghost use Rattle.wire.specs.Image.{imageLimit, nodeBytes, noImage, readImage, imageLength, writeImage, imageLent};
-ghost use Rattle.wire.specs.Told.{partOf, toldOf, AsTold, HasRoom};
+ghost use Rattle.wire.specs.Told.{IsPart, toldOf, Readable, HasRoom};
 ghost use Rattle.wire.specs.Lent.{noRest, readIn, readInLent, withinLimits, writeImageIn, imageInLent};
 
 // A section as its count tells it: whether the count is there and not too high, and the count.
@@ -40,7 +39,7 @@ struct Told {
 // The section at a place, of which there may be `most` things.
 fn part_at(bytes: &[u8], at: usize, most: usize) -> Part
     requires { ⌜ at ≤ imageLimit ⌝ }
-    ensures { λ r. ⌜ r ≡ partOf most (drop at (now (bytes .entry))) ⌝ }
+    ensures { λ r. ⌜ IsPart most (drop at (now (bytes .entry))) r ⌝ }
 {
     if bytes.len() < at + number::COUNT {
         return Part {
@@ -115,7 +114,7 @@ pub fn image_length(bytes: &[u8]) -> Length
 // n keys at a place, into the first places of a run of keys.
 fn read_keys(bytes: &[u8], at: usize, n: usize, keys: &mut [u64])
     requires { ⌜ (at + keyWidth * n ≤ length (now bytes)) × (n ≤ length (now keys)) ⌝ }
-    ensures { λ _. ⌜ now (keys .exit) ≡ writtenOver (readRun key-layout n (drop at (now (bytes .entry)))) (now (keys .entry)) ⌝ }
+    ensures { λ _. ⌜ now (keys .exit) ≡ putAt (now (keys .entry)) 0 (readRun key-layout n (drop at (now (bytes .entry)))) ⌝ }
 {
     let mut i: usize = 0;
     while i < n {
@@ -127,7 +126,7 @@ fn read_keys(bytes: &[u8], at: usize, n: usize, keys: &mut [u64])
 // n claims at a place, zeros past them.
 fn read_claims(bytes: &[u8], at: usize, n: usize) -> [Claim; Node::TABLE]
     requires { ⌜ (n ≤ tableLimit) × (at + claimSize * n ≤ length (now bytes)) ⌝ }
-    ensures { λ r. ⌜ r ≡ writtenOver (readRun claim-layout n (drop at (now (bytes .entry)))) (blanks tableLimit) ⌝ }
+    ensures { λ r. ⌜ r ≡ putAt (blanks tableLimit) 0 (readRun claim-layout n (drop at (now (bytes .entry)))) ⌝ }
 {
     let mut claims = no_claims();
     let mut i: usize = 0;
@@ -189,8 +188,9 @@ fn unread(number: u8) -> Rest
 
 // The contents of an image whose counts and length are right: its keys into a lent run, and the rest.
 fn contents(bytes: &[u8], n: usize, m: usize, keys: &mut [u64; Store::LIMIT]) -> Rest
-    requires { ⌜ AsTold (now bytes) n m ⌝ }
-    ensures { λ r. ⌜ (r ≡ readIn (now (bytes .entry))) × (now (keys .exit) ≡ readInLent (now (bytes .entry)) (now (keys .entry))) ⌝ }
+    requires { ⌜ Readable (now bytes) n m ⌝ }
+    ensures { λ r. ⌜ (r ≡ readIn (now (bytes .entry)))
+        × (now (keys .exit) ≡ readInLent (now (bytes .entry)) (now (keys .entry))) ⌝ }
 {
     read_keys(bytes, number::COUNT, n, &mut keys[..]);
     let table = read_claims(bytes, number::COUNT + number::KEY * n + number::COUNT, m);
@@ -204,7 +204,8 @@ fn contents(bytes: &[u8], n: usize, m: usize, keys: &mut [u64; Store::LIMIT]) ->
 
 // Reads an image: its keys into the first places of a lent run, and the rest. Asks 14; question 1 is left to `ordered_lent`.
 pub fn read_image_in(bytes: &[u8], keys: &mut [u64; Store::LIMIT]) -> Rest
-    ensures { λ r. ⌜ (r ≡ readIn (now (bytes .entry))) × (now (keys .exit) ≡ readInLent (now (bytes .entry)) (now (keys .entry))) ⌝ }
+    ensures { λ r. ⌜ (r ≡ readIn (now (bytes .entry)))
+        × (now (keys .exit) ≡ readInLent (now (bytes .entry)) (now (keys .entry))) ⌝ }
 {
     let told = told_by(bytes);
     if !told.fits {
@@ -265,7 +266,7 @@ pub fn read_image(bytes: &[u8]) -> Imaged
 // The image of a node, put to the front of a buffer that has room for it.
 fn put_image(out: &mut [u8], keys: &[u64], n: usize, table: [Claim; Node::TABLE], m: usize)
     requires { ⌜ HasRoom (nodeWith (now keys) n table m) (length (now out)) ⌝ }
-    ensures { λ _. ⌜ now (out .exit) ≡ writtenOver (nodeBytes (nodeWith (now (keys .entry)) n table m)) (now (out .entry)) ⌝ }
+    ensures { λ _. ⌜ now (out .exit) ≡ putAt (now (out .entry)) 0 (nodeBytes (nodeWith (now (keys .entry)) n table m)) ⌝ }
 {
     let at = number::COUNT + number::KEY * n;
     number::write(out, 0, number::COUNT, n as u64);
@@ -296,7 +297,8 @@ pub fn write_image_in(
     count: usize,
     out: &mut [u8],
 ) -> Length
-    ensures { λ r. ⌜ (r ≡ writeImageIn (nodeWith (now (keys .entry)) held table count) (length (now (out .entry)))) × (now (out .exit) ≡ imageInLent (nodeWith (now (keys .entry)) held table count) (now (out .entry))) ⌝ }
+    ensures { λ r. ⌜ (r ≡ writeImageIn (nodeWith (now (keys .entry)) held table count) (length (now (out .entry))))
+        × (now (out .exit) ≡ imageInLent (nodeWith (now (keys .entry)) held table count) (now (out .entry))) ⌝ }
 {
     if !within_limits(keys, held, count) {
         return Length {
@@ -317,7 +319,8 @@ pub fn write_image_in(
 
 // Writes the image of a node to the front of a buffer. Questions 1, and 15 for the image's own length.
 pub fn write_image(node: Node, out: &mut [u8]) -> Length
-    ensures { λ r. ⌜ (r ≡ writeImage node (length (now (out .entry)))) × (now (out .exit) ≡ imageLent node (now (out .entry))) ⌝ }
+    ensures { λ r. ⌜ (r ≡ writeImage node (length (now (out .entry))))
+        × (now (out .exit) ≡ imageLent node (now (out .entry))) ⌝ }
 {
     if !ordered(node) {
         return Length {

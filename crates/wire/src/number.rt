@@ -2,9 +2,9 @@
 ghost use mathlib.Core.Path.{_≡_};
 ghost use Prim.Native.Nat.{_+_, _≤_};
 ghost use lib.ListN.{length};
+ghost use Rattle.rule.specs.Place.{putAt};
 ghost use Rattle.wire.specs.Number.{bytes, numberAt};
 ghost use Rattle.wire.specs.Claim.{keyWidth};
-ghost use Rattle.wire.specs.Place.{putAt};
 
 // The width of a key or a sum, and that of a count, in bytes.
 pub(crate) const KEY: usize = 8;

@@ -8,7 +8,8 @@ use Rattle.keys.specs.Store.{limit, zeros, emptyStore}
 use Rattle.keys.proofs.Order.{length-zeros}
 use Rattle.wire.specs.declared.answer.Imaged.{Imaged}
 use Rattle.wire.specs.Lent.{readInLent}
-use Rattle.wire.proofs.Images.{readIn-refused, readInLent-refused, readImage-1, readImage-lent, readImage-number}
+use Rattle.wire.proofs.ImageLaws.{readImage-number}
+use Rattle.wire.proofs.LentLaws.{readIn-refused, readInLent-refused, readImage-1, readImage-lent}
 use Rattle.host.proofs.Saving.{known-refused}
 use Rattle.host.proofs.Answers.{loaded-lent}
 use Rattle.host.proofs.load.load.Statement.{statement}

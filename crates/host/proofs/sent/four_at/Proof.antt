@@ -1,27 +1,28 @@
 -- `sent::four_at` meets its contract. The invariant: the claims passed, with zeros past them. Assumes nothing.
 use Prim.Native.Nat.{_-_, _*_, _≤_}
 use native.Mathlib.Omega.{arith}
-use mathlib.Core.Path.{_≡_, _∙_}
+use mathlib.Core.Path.{_≡_, sym, _∙_}
 use borrow.Author.Needs.{needs}
 use lib.ListN.{drop}
 use Rattle.rule.specs.Node.{blanks}
-use Rattle.rule.specs.Call.{writtenOver}
+use Rattle.rule.specs.Place.{putAt}
+use Rattle.rule.proofs.PlaceLaws.{putAt-nil}
 use Rattle.wire.specs.Frame.{frameLimit}
 use Rattle.wire.specs.Run.{readRun}
-use Rattle.wire.proofs.Frames.{blanks-four, writtenOver-four}
+use Rattle.wire.proofs.FrameLaws.{blanks-four, putAt-four}
 use Rattle.host.specs.Frames.{inWords}
 use Rattle.host.proofs.Sends.{four-small, four-turn}
 use Rattle.host.proofs.sent.four_at.Statement.{statement}
 use Rattle.host.proofs.sent.four_at.Tie as tie
 
 abbrev Inv-loop : tie.InvT-loop
-Inv-loop words at n claims₀ i₀ claims i = (i ≤ n) × (claims ≡ writtenOver (readRun inWords i (drop (4 * at) words)) (blanks frameLimit))
+Inv-loop words at n claims₀ i₀ claims i = (i ≤ n) × (claims ≡ putAt (blanks frameLimit) 0 (readRun inWords i (drop (4 * at) words)))
 
 abbrev μ-loop : tie.MeasureT-loop
 μ-loop words at n claims₀ i₀ claims i = n - i
 
 loop-holds : tie.Need-loop-holds Inv-loop μ-loop
-loop-holds c = (search needs, blanks-four)
+loop-holds c = (search needs, blanks-four ∙ sym (putAt-nil (blanks frameLimit) 0))
 
 add-claim-at : tie.Need-add-claim-at Inv-loop μ-loop
 add-claim-at c = search needs
@@ -50,7 +51,7 @@ returns c =
     let l = c .before in
     let a = l .before .before .args in
     let e : l .loop .i ≡ a .n = omega arith in
-    rw (← e) (l .loop .inv .1 ∙ writtenOver-four (readRun inWords (l .loop .i) (drop (4 * a .at) (a .words .now))))
+    rw (← e) (l .loop .inv .1 ∙ putAt-four (readRun inWords (l .loop .i) (drop (4 * a .at) (a .words .now))))
 
 pub four-at-spec : {M : Type 1} → statement M
 four-at-spec =

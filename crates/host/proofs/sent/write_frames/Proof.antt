@@ -7,8 +7,8 @@ use borrow.Author.Needs.{needs}
 use lib.ListN.{length, take, drop}
 use Rattle.claims.specs.declared.claim.Claim.{Claim}
 use Rattle.wire.specs.Run.{readRun}
-use Rattle.wire.proofs.Frames.{take-fourOf}
-use Rattle.wire.proofs.Runs.{length-readRun}
+use Rattle.wire.proofs.FrameLaws.{take-fourOf}
+use Rattle.wire.proofs.RunLaws.{length-readRun}
 use Rattle.host.specs.Frames.{inWords}
 use Rattle.host.proofs.Words.{readRun-part}
 use Rattle.host.proofs.Sends.{Written, written-none, written-all, Turn}

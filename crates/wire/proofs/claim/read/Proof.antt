@@ -1,14 +1,21 @@
 -- `claim::read` meets its contract: four numbers, each read at its place. Assumes nothing.
-use Prim.Native.Nat.{ℕ, _+_, _*_, _^_, _<_}
+use Prim.Native.Nat.{_+_, _*_}
 use native.Mathlib.Omega.{arith}
 use borrow.Author.Needs.{needs}
 use lib.Dec.{lit≤}
-use Rattle.wire.specs.Number.{byte, numberAt}
+use Rattle.wire.specs.Number.{byte, Below}
 use Rattle.wire.specs.Claim.{keyWidth, countWidth}
-use Rattle.wire.proofs.Numbers.{numberAt-below}
-use Rattle.wire.proofs.Claims.{claimFrom-at}
+use Rattle.wire.proofs.NumberLaws.{numberAt-below}
+use Rattle.wire.proofs.ClaimLaws.{claimFrom-at}
 use Rattle.wire.proofs.claim.read.Statement.{statement}
 use Rattle.wire.proofs.claim.read.Tie as tie
+
+-- what is known of the bytes that are read
+abbrev lent : tie.After-read4 → tie.After-shared-slice-known
+lent c = c .before .before .before .before
+
+are-bytes : (c : tie.After-read4) → Below byte (lent c .before .args .s .now)
+are-bytes c k = lent c .shared-slice-known .given k .fits
 
 read-requires : tie.Need-read-requires
 read-requires c κs = search needs
@@ -39,16 +46,12 @@ read-requires-4 c κs = search needs
 
 cast-t12 : tie.Need-cast-t12
 cast-t12 c =
-    let start = c .before .before .before .before .before in
-    let s = start .args .s .now in
-    let h : numberAt s (start .args .at + 3 * keyWidth) countWidth < byte ^ countWidth =
-    numberAt-below s (start .args .at + 3 * keyWidth) countWidth countWidth (lit≤ tt) (λ (k : ℕ). c .before .before .before .before .shared-slice-known .given k .fits) in
+    let a = lent c .before .args in
+    let small = numberAt-below (a .s .now) (a .at + 3 * keyWidth) countWidth countWidth (lit≤ tt) (are-bytes c) in
     omega (arith, c .read4 .ensures)
 
 returns : tie.Need-returns
-returns c =
-    let start = c .before .before .before .before .before in
-    claimFrom-at (start .args .s .now) (start .args .at) (c .before .before .before .read .ensures) (c .before .before .read2 .ensures) (c .before .read3 .ensures) (c .read4 .ensures)
+returns c = search (needs, claimFrom-at)
 
 pub read-spec : {M : Type 1} → statement M
 read-spec =

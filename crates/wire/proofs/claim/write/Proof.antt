@@ -1,6 +1,6 @@
 -- `claim::write` meets its contract: four numbers, each right after the one before, are the claim's bytes. Assumes nothing.
 use borrow.Author.Needs.{needs}
-use Rattle.wire.proofs.Claims.{putAt-claimBytes}
+use Rattle.wire.proofs.ClaimLaws.{putAt-claimBytes}
 use Rattle.wire.proofs.claim.write.Statement.{statement}
 use Rattle.wire.proofs.claim.write.Tie as tie
 
@@ -38,17 +38,7 @@ same-length : tie.Need-same-length
 same-length c = search needs
 
 returns : tie.Need-returns
-returns c =
-    let fourth = c .before .before in
-    let third = fourth .before .before .before .before .before in
-    let second = third .before .before .before .before in
-    let first = second .before .before .before .before in
-    let start = first .before .before .before in
-    putAt-claimBytes (start .args .out .now) (start .args .at) (start .args .c) (start .pre)
-    (first .write .ensures)
-    (second .write2 .ensures)
-    (third .write3 .ensures)
-    (fourth .write4 .ensures)
+returns c = search (needs, putAt-claimBytes)
 
 pub write-spec : {M : Type 1} → statement M
 write-spec =

@@ -1,28 +1,28 @@
 -- `frame::four` meets its contract. The invariant: the claims passed, with zeros past them. Assumes nothing.
 use Prim.Native.Nat.{_≤_, _-_}
-use native.Mathlib.Omega.{arith}
-use mathlib.Core.Path.{_≡_}
-use mathlib.Core.Path.{_∙_}
+use mathlib.Core.Path.{_≡_, sym, _∙_}
 use borrow.Author.Needs.{needs}
 use lib.ListN.{drop}
 use Rattle.rule.specs.Node.{blanks}
-use Rattle.rule.specs.Call.{writtenOver}
+use Rattle.rule.specs.Place.{putAt}
 use Rattle.rule.proofs.NodeLaws.{length-blanks}
+use Rattle.rule.proofs.PlaceLaws.{putAt-nil}
 use Rattle.wire.specs.Frame.{headSize, frameLimit}
 use Rattle.wire.specs.Run.{claim, readRun}
-use Rattle.wire.proofs.Runs.{set-readRun}
-use Rattle.wire.proofs.Frames.{blanks-four, writtenOver-four}
+use Rattle.wire.proofs.RunLaws.{set-readRun}
+use Rattle.wire.proofs.FrameLaws.{blanks-four}
+use Rattle.wire.proofs.FramePaths.{four-end}
 use Rattle.wire.proofs.frame.four.Statement.{statement}
 use Rattle.wire.proofs.frame.four.Tie as tie
 
 abbrev Inv-loop : tie.InvT-loop
-Inv-loop bytes n claims₀ i₀ claims i = (i ≤ n) × (claims ≡ writtenOver (readRun claim i (drop headSize bytes)) (blanks frameLimit))
+Inv-loop bytes n claims₀ i₀ claims i = (i ≤ n) × (claims ≡ putAt (blanks frameLimit) 0 (readRun claim i (drop headSize bytes)))
 
 abbrev μ-loop : tie.MeasureT-loop
 μ-loop bytes n claims₀ i₀ claims i = n - i
 
 loop-holds : tie.Need-loop-holds Inv-loop μ-loop
-loop-holds c = (search needs, blanks-four)
+loop-holds c = (search needs, blanks-four ∙ sym (putAt-nil (blanks frameLimit) 0))
 
 mul-read : tie.Need-mul-read Inv-loop μ-loop
 mul-read c = search needs
@@ -46,16 +46,11 @@ loop-less : tie.Need-loop-less Inv-loop μ-loop
 loop-less c = search needs
 
 loop-again : tie.Need-loop-again Inv-loop μ-loop
-loop-again c = let t = c .before in
-    let l = t .before .loop in
-    let s = t .before .before .before .args .bytes .now in
-    (search needs, set-readRun claim (blanks frameLimit) s headSize (l .i) (rw (length-blanks frameLimit) (omega arith)) (l .inv .1) (c .read .ensures))
+loop-again c =
+    (search needs, set-readRun claim _ _ headSize _ (rw (length-blanks frameLimit) (search needs)) (c .before .before .loop .inv .1) (c .read .ensures))
 
 returns : tie.Need-returns Inv-loop μ-loop
-returns c =
-    let s = c .before .before .before .args .bytes .now in
-    let e : c .before .loop .i ≡ c .before .before .before .args .n = omega arith in
-    rw (← e) (c .before .loop .inv .1 ∙ writtenOver-four (readRun claim (c .before .loop .i) (drop headSize s)))
+returns c = search (needs, four-end)
 
 pub four-spec : {M : Type 1} → statement M
 four-spec =

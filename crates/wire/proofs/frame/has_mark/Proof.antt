@@ -1,11 +1,11 @@
--- `frame::has_mark` meets its contract. Assumes nothing.
+-- `frame::has_mark` meets its contract: one law for each way. Assumes nothing.
 use borrow.Author.Needs.{needs}
-use Rattle.wire.proofs.Frames.{marked-short, marked-first, marked-second}
+use Rattle.wire.proofs.FramePaths.{marked-short, marked-first, marked-second}
 use Rattle.wire.proofs.frame.has_mark.Statement.{statement}
 use Rattle.wire.proofs.frame.has_mark.Tie as tie
 
 returns : tie.Need-returns
-returns c = marked-short (c .before .args .bytes .now) (c .if1 .taken)
+returns c = search (needs, marked-short)
 
 shared-slice-read-if2 : tie.Need-shared-slice-read-if2
 shared-slice-read-if2 c = search needs
@@ -14,7 +14,7 @@ array-read-if2 : tie.Need-array-read-if2
 array-read-if2 c = search needs
 
 returns-2 : tie.Need-returns-2
-returns-2 c = marked-first (c .before .before .before .args .bytes .now) (c .before .before .if1 .left) (c .if2 .taken)
+returns-2 c = search (needs, marked-first)
 
 shared-slice-read-result : tie.Need-shared-slice-read-result
 shared-slice-read-result c = search needs
@@ -23,7 +23,7 @@ array-read-result : tie.Need-array-read-result
 array-read-result c = search needs
 
 returns-3 : tie.Need-returns-3
-returns-3 c = marked-second (c .before .before .before .before .args .bytes .now) (c .before .before .before .if1 .left) (c .before .if2 .left)
+returns-3 c = search (needs, marked-second)
 
 pub has-mark-spec : {M : Type 1} → statement M
 has-mark-spec =

@@ -1,9 +1,7 @@
--- `frame::has_size` meets its contract. Assumes nothing.
+-- `frame::has_size` meets its contract: one law for each way. Assumes nothing.
 use native.Mathlib.Omega.{arith}
-use mathlib.Core.Path.{sym, _∙_}
 use borrow.Author.Needs.{needs}
-use borrow.Author.Tests.{not-true, not-false}
-use Rattle.wire.proofs.Frames.{sized-count, sized-length}
+use Rattle.wire.proofs.FramePaths.{sized-count, sized-length}
 use Rattle.wire.proofs.frame.has_size.Statement.{statement}
 use Rattle.wire.proofs.frame.has_size.Tie as tie
 
@@ -17,7 +15,7 @@ is-countable-requires : tie.Need-is-countable-requires
 is-countable-requires c κs = search needs
 
 returns : tie.Need-returns
-returns c = sized-count (c .before .before .before .before .args .bytes .now) (sym (c .before .is-countable .ensures) ∙ not-true _ (c .if1 .taken))
+returns c = search (needs, sized-count)
 
 mul-result : tie.Need-mul-result
 mul-result c = omega (arith, c .before .before .shared-slice-known2 .given 3)
@@ -26,7 +24,7 @@ add-result : tie.Need-add-result
 add-result c = omega (arith, c .before .before .shared-slice-known2 .given 3)
 
 returns-2 : tie.Need-returns-2
-returns-2 c = sized-length (c .before .before .before .before .args .bytes .now) (sym (c .before .is-countable .ensures) ∙ not-false _ (c .if1 .left))
+returns-2 c = search (needs, sized-length)
 
 pub has-size-spec : {M : Type 1} → statement M
 has-size-spec =

@@ -1,13 +1,14 @@
--- `frame::is_countable` meets its contract. Assumes nothing.
-use Rattle.wire.proofs.Frames.{countable-none, countable-some}
+-- `frame::is_countable` meets its contract: one law for each way. Assumes nothing.
+use borrow.Author.Needs.{needs}
+use Rattle.wire.proofs.FramePaths.{countable-none, countable-some}
 use Rattle.wire.proofs.frame.is_countable.Statement.{statement}
 use Rattle.wire.proofs.frame.is_countable.Tie as tie
 
 returns : tie.Need-returns
-returns c = countable-none (c .before .args .n) (c .if1 .taken)
+returns c = search (needs, countable-none)
 
 returns-2 : tie.Need-returns-2
-returns-2 c = countable-some (c .before .args .n) (c .if1 .left)
+returns-2 c = search (needs, countable-some)
 
 pub is-countable-spec : {M : Type 1} → statement M
 is-countable-spec = tie.close (tie.spec returns returns-2)

@@ -2,7 +2,7 @@
 use native.Mathlib.Omega.{arith}
 use borrow.Author.Needs.{needs}
 use lib.ListN.{length-set}
-use Rattle.wire.proofs.Frames.{putAt-headBytes}
+use Rattle.wire.proofs.FramePaths.{putAt-headBytes}
 use Rattle.wire.proofs.frame.put_head.Statement.{statement}
 use Rattle.wire.proofs.frame.put_head.Tie as tie
 

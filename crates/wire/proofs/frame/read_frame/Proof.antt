@@ -1,7 +1,6 @@
 -- `frame::read_frame` meets its contract. Assumes nothing.
-use mathlib.Core.Path.{_∙_}
 use borrow.Author.Needs.{needs}
-use Rattle.wire.proofs.Frames.{readFrame-head}
+use Rattle.wire.proofs.FramePaths.{readFrame-head}
 use Rattle.wire.proofs.frame.read_frame.Statement.{statement}
 use Rattle.wire.proofs.frame.read_frame.Tie as tie
 
@@ -12,8 +11,7 @@ refused-requires : tie.Need-refused-requires
 refused-requires c κs = search needs
 
 returns : tie.Need-returns
-returns c = let h = c .before .before in
-    c .refused .ensures ∙ readFrame-head (h .before .before .args .bytes .now) (h .heading .ensures) (c .before .if1 .taken)
+returns c = search (needs, readFrame-head)
 
 contents-requires : tie.Need-contents-requires
 contents-requires c κs = search needs

@@ -1,5 +1,5 @@
 -- `frame::refused` meets its contract. Assumes nothing.
-use Rattle.wire.proofs.Frames.{blanks-four}
+use Rattle.wire.proofs.FrameLaws.{blanks-four}
 use Rattle.wire.proofs.frame.refused.Statement.{statement}
 use Rattle.wire.proofs.frame.refused.Tie as tie
 

@@ -1,60 +1,68 @@
--- `frame::write_frame` meets its contract. Assumes nothing.
+-- `frame::write_frame` meets its contract: one law for each way. Assumes nothing.
 use Prim.Native.Nat.{_≤_}
-use native.Mathlib.Omega.{arith}
-use mathlib.Core.Path.{_≡_, sym, _∙_}
+use mathlib.Core.Path.{_≡_}
 use borrow.Author.Needs.{needs}
 use lib.ListN.{length}
-use Rattle.claims.specs.Question.{firstNo}
 use Rattle.rule.proofs.NodeLaws.{length-mapped}
-use Rattle.wire.specs.Frame.{frameLimit, frameLength, writeFrameQuestions}
-use Rattle.wire.proofs.Frames.{countable-yes, writable-yes, writeFrame-no, writeFrame-0, frameLent-no, frameLent-0}
+use Rattle.wire.specs.Frame.{frameLimit, frameLength}
+use Rattle.wire.proofs.FramePaths.{write-refused, write-few, write-room, write-done}
 use Rattle.wire.proofs.frame.write_frame.Statement.{statement}
 use Rattle.wire.proofs.frame.write_frame.Tie as tie
 
-abbrev start : tie.Else1 → tie.Start
-start c = c .before .before .before
+-- what was given, where the head was put, and where nothing can be refused any more
+abbrev given : tie.Else1 → tie.Start
+given e = e .before .before .before
 
-told : (c : tie.Else1) → firstNo (writeFrameQuestions (start c .args .claims) (start c .args .n) (length (start c .args .out .now))) ≡ 0
-told c = sym (c .before .writable .ensures) ∙ c .if1 .left
+abbrev put-head : tie.After-put-claims → tie.After-put-head
+put-head c = c .before .before .before .before
 
-asked : (c : tie.Else1) → (start c .args .n ≤ frameLimit) × (frameLength (start c .args .n) ≤ length (start c .args .out .now))
-asked c =
-    let y = writable-yes (start c .args .claims) (start c .args .n) (length (start c .args .out .now)) (told c) in
-    (countable-yes (start c .args .n) (y .0) .1, y .2)
+abbrev passed : tie.After-put-head → tie.Else1
+passed c = c .before .before
+
+-- what was asked
+few : (e : tie.Else1) → given e .args .n ≤ frameLimit
+few e = write-few _ _ _ (e .before .writable .ensures) (e .if1 .left)
+
+room : (e : tie.Else1) → frameLength (given e .args .n) ≤ length (given e .args .out .now)
+room e = write-room _ _ _ (e .before .writable .ensures) (e .if1 .left)
+
+all : (s : tie.Start) → length (s .args .claims) ≡ frameLimit
+all s = search (needs, length-mapped)
 
 writable-requires : tie.Need-writable-requires
 writable-requires c κs = search needs
 
 returns : tie.Need-returns
-returns c = let w = c .before in
-    let a = w .before .before .args in
-    (writeFrame-no (a .claims) (a .n) (length (a .out .now)) (w .writable .ensures) (c .if1 .taken), frameLent-no (a .claims) (a .n) (a .out .now) (λ z. c .if1 .taken (w .writable .ensures ∙ z)))
+returns c = write-refused _ _ _ (c .before .writable .ensures) (c .if1 .taken)
 
 put-head-requires : tie.Need-put-head-requires
-put-head-requires c κs = let y = asked (c .before) in (y .0, omega arith)
+put-head-requires c κs =
+    let n = few (c .before) in
+    let r = room (c .before) in
+    search needs
 
 put-claims-requires : tie.Need-put-claims-requires
-put-claims-requires c κs = let y = asked (c .before .before .before .before .before) in
-    let kept : length (c .before .before .before .put-head .last .0) ≡ length (start (c .before .before .before .before .before) .args .out .now) =
-    c .before .before .before .put-head .kept .0 in
-    (y .0, omega arith)
+put-claims-requires c κs =
+    let e = passed (c .before .before .before) in
+    let n = few e in
+    let r = room e in
+    search needs
 
 mul-t5 : tie.Need-mul-t5
-mul-t5 c = let y = asked (c .before .before .before .before .before .before .before .before) in omega arith
+mul-t5 c = let n = few (passed (put-head (c .before .before))) in search needs
 
 add-t12 : tie.Need-add-t12
-add-t12 c = let y = asked (c .before .before .before .before .before .before .before .before) in omega arith
+add-t12 c = let n = few (passed (put-head (c .before .before))) in search needs
 
 same-length : tie.Need-same-length
 same-length c = search needs
 
 returns-2 : tie.Need-returns-2
-returns-2 c = let e = c .before .before .before .before .before .before .before .before in
-    let a = start e .args in
-    let h = c .before .before .before .before .before .before .put-head .ensures in
-    let p = c .before .before .put-claims .ensures in
-    let long : length (a .claims) ≡ frameLimit = search (needs, length-mapped) in
-    (writeFrame-0 (a .claims) (a .n) (length (a .out .now)) (told e), rw (p, h) (frameLent-0 (a .claims) (a .n) (a .out .now) long (told e)))
+returns-2 c =
+    let claims = c .before .before in
+    let head = put-head claims in
+    let e = passed head in
+    write-done _ _ _ (e .before .writable .ensures) (e .if1 .left) (all (given e)) (head .put-head .ensures) (claims .put-claims .ensures)
 
 pub write-frame-spec : {M : Type 1} → statement M
 write-frame-spec =

@@ -1,20 +1,20 @@
 -- `image::read_claims` meets its contract. The invariant: the claims passed, with zeros past them. Assumes nothing.
 use Prim.Native.Nat.{_≤_, _-_}
-use native.Mathlib.Omega.{arith}
-use mathlib.Core.Path.{_≡_}
+use mathlib.Core.Path.{_≡_, sym, _∙_}
 use borrow.Author.Needs.{needs}
 use lib.ListN.{drop}
-use Rattle.rule.proofs.NodeLaws.{length-blanks}
-use Rattle.rule.specs.Call.{writtenOver}
 use Rattle.rule.specs.Node.{blanks}
 use Rattle.rule.specs.Table.{tableLimit}
+use Rattle.rule.specs.Place.{putAt}
+use Rattle.rule.proofs.NodeLaws.{length-blanks}
+use Rattle.rule.proofs.PlaceLaws.{putAt-nil}
 use Rattle.wire.specs.Run.{claim, readRun}
-use Rattle.wire.proofs.Runs.{set-readRun}
+use Rattle.wire.proofs.RunLaws.{set-readRun, end-readRun}
 use Rattle.wire.proofs.image.read_claims.Statement.{statement}
 use Rattle.wire.proofs.image.read_claims.Tie as tie
 
 abbrev Inv-loop : tie.InvT-loop
-Inv-loop bytes at n claims₀ i₀ claims i = (i ≤ n) × (claims ≡ writtenOver (readRun claim i (drop at bytes)) (blanks tableLimit))
+Inv-loop bytes at n claims₀ i₀ claims i = (i ≤ n) × (claims ≡ putAt (blanks tableLimit) 0 (readRun claim i (drop at bytes)))
 
 abbrev μ-loop : tie.MeasureT-loop
 μ-loop bytes at n claims₀ i₀ claims i = n - i
@@ -23,7 +23,7 @@ no-claims-requires : tie.Need-no-claims-requires Inv-loop μ-loop
 no-claims-requires c κs = search needs
 
 loop-holds : tie.Need-loop-holds Inv-loop μ-loop
-loop-holds c = (search needs, c .no-claims .ensures)
+loop-holds c = (search needs, c .no-claims .ensures ∙ sym (putAt-nil (blanks tableLimit) 0))
 
 mul-read : tie.Need-mul-read Inv-loop μ-loop
 mul-read c = search needs
@@ -47,14 +47,11 @@ loop-less : tie.Need-loop-less Inv-loop μ-loop
 loop-less c = search needs
 
 loop-again : tie.Need-loop-again Inv-loop μ-loop
-loop-again c = let t = c .before in
-    let l = t .before .loop in
-    let a = t .before .before .before .before .args in
-    (search needs, set-readRun claim (blanks tableLimit) (a .bytes .now) (a .at) (l .i) (rw (length-blanks tableLimit) (omega arith)) (l .inv .1) (c .read .ensures))
+loop-again c =
+    (search needs, set-readRun claim _ _ _ _ (rw (length-blanks tableLimit) (search needs)) (c .before .before .loop .inv .1) (c .read .ensures))
 
 returns : tie.Need-returns Inv-loop μ-loop
-returns c = let e : c .before .loop .i ≡ c .before .before .before .before .args .n = omega arith in
-    rw (← e) (c .before .loop .inv .1)
+returns c = search (needs, end-readRun)
 
 pub read-claims-spec : {M : Type 1} → statement M
 read-claims-spec =

@@ -1,8 +1,6 @@
 -- `image::read_image_in` meets its contract: one law for each way. Assumes nothing.
-use mathlib.Core.Path.{_∙_}
 use borrow.Author.Needs.{needs}
-use borrow.Author.Tests.{not-true, not-false}
-use Rattle.wire.proofs.Images.{readIn-counts, readIn-length, told-as}
+use Rattle.wire.proofs.ImagePaths.{readIn-counts, readInLent-counts, readIn-length, readInLent-length, told-readable}
 use Rattle.wire.proofs.image.read_image_in.Statement.{statement}
 use Rattle.wire.proofs.image.read_image_in.Tie as tie
 
@@ -13,27 +11,16 @@ unread-requires : tie.Need-unread-requires
 unread-requires c κs = search needs
 
 returns : tie.Need-returns
-returns c =
-    let t = c .before .before .before in
-    let a = t .before .before .args in
-    let (r, k) = readIn-counts (a .bytes .now) (t .told-by .ensures) (not-true _ (c .before .if1 .taken)) (a .keys .now) in
-    (c .unread .ensures ∙ r, k)
+returns c = search (needs, readIn-counts, readInLent-counts)
 
 unread-requires-2 : tie.Need-unread-requires-2
 unread-requires-2 c κs = search needs
 
 returns-2 : tie.Need-returns-2
-returns-2 c =
-    let e = c .before .before .before in
-    let t = e .before .before in
-    let a = t .before .before .args in
-    let (r, k) = readIn-length (a .bytes .now) (t .told-by .ensures) (not-false _ (e .if1 .left)) (c .before .if2 .taken) (a .keys .now) in
-    (c .unread2 .ensures ∙ r, k)
+returns-2 c = search (needs, readIn-length, readInLent-length)
 
 contents-requires : tie.Need-contents-requires
-contents-requires c κs =
-    let e = c .before .before .before in
-    told-as _ (e .before .before .told-by .ensures) (not-false _ (e .if1 .left)) (c .before .if2 .left)
+contents-requires c κs = search (needs, told-readable)
 
 returns-3 : tie.Need-returns-3
 returns-3 c = search needs

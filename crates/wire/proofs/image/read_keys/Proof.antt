@@ -1,23 +1,23 @@
 -- `image::read_keys` meets its contract. The invariant: the keys passed stand before what stood there. Assumes nothing.
 use Prim.Native.Nat.{_≤_, _-_}
-use native.Mathlib.Omega.{arith}
-use mathlib.Core.Path.{_≡_, refl}
+use mathlib.Core.Path.{_≡_, sym}
 use borrow.Author.Needs.{needs}
 use lib.ListN.{length, drop, length-set}
-use Rattle.rule.specs.Call.{writtenOver}
+use Rattle.rule.specs.Place.{putAt}
+use Rattle.rule.proofs.PlaceLaws.{putAt-nil}
 use Rattle.wire.specs.Run.{key, readRun}
-use Rattle.wire.proofs.Runs.{set-readRun}
+use Rattle.wire.proofs.RunLaws.{set-readRun, end-readRun}
 use Rattle.wire.proofs.image.read_keys.Statement.{statement}
 use Rattle.wire.proofs.image.read_keys.Tie as tie
 
 abbrev Inv-loop : tie.InvT-loop
-Inv-loop bytes at n keys₀ i₀ keys i = (i ≤ n) × (length keys ≡ length keys₀) × (keys ≡ writtenOver (readRun key i (drop at bytes)) keys₀)
+Inv-loop bytes at n keys₀ i₀ keys i = (i ≤ n) × (length keys ≡ length keys₀) × (keys ≡ putAt keys₀ 0 (readRun key i (drop at bytes)))
 
 abbrev μ-loop : tie.MeasureT-loop
 μ-loop bytes at n keys₀ i₀ keys i = n - i
 
 loop-holds : tie.Need-loop-holds Inv-loop μ-loop
-loop-holds c = (search needs, refl, refl)
+loop-holds c = (search needs, search needs, sym (putAt-nil _ 0))
 
 mul-read : tie.Need-mul-read Inv-loop μ-loop
 mul-read c = search needs
@@ -41,17 +41,14 @@ loop-less : tie.Need-loop-less Inv-loop μ-loop
 loop-less c = search needs
 
 loop-again : tie.Need-loop-again Inv-loop μ-loop
-loop-again c = let t = c .before in
-    let l = t .before .loop in
-    let a = t .before .before .before .before .args in
-    (search needs, rw length-set (l .inv .1), set-readRun key (a .keys .now) (a .bytes .now) (a .at) (l .i) (omega arith) (l .inv .2) (c .read .ensures))
+loop-again c =
+    (search needs, search needs, set-readRun key _ _ _ _ (search needs) (c .before .before .loop .inv .2) (c .read .ensures))
 
 same-length : tie.Need-same-length Inv-loop μ-loop
 same-length c = search needs
 
 returns : tie.Need-returns Inv-loop μ-loop
-returns c = let e : c .before .loop .i ≡ c .before .before .before .before .args .n = omega arith in
-    rw (← e) (c .before .loop .inv .2)
+returns c = search (needs, end-readRun)
 
 pub read-keys-spec : {M : Type 1} → statement M
 read-keys-spec =

@@ -1,16 +1,16 @@
 -- `image::write_claims` meets its contract. The invariant: the claims passed stand at the place. Assumes nothing.
-use Prim.Native.Nat.{_≤_, _-_}
+use Prim.Native.Nat.{_≤_, _<_, _-_}
 use native.Mathlib.Omega.{arith}
-use mathlib.Core.Path.{_≡_, refl, sym, _∙_}
+use mathlib.Core.Path.{_≡_, sym, _∙_}
 use borrow.Author.Needs.{needs}
 use lib.ListN.{length, take}
 use Rattle.claims.specs.Claim.{noClaim}
 use Rattle.rule.specs.Table.{tableLimit}
+use Rattle.rule.specs.Place.{putAt}
 use Rattle.rule.proofs.NodeLaws.{length-mapped}
-use Rattle.wire.specs.Place.{putAt}
+use Rattle.rule.proofs.PlaceLaws.{putAt-nil}
 use Rattle.wire.specs.Run.{claim, writeRun}
-use Rattle.wire.proofs.Places.{putAt-nil}
-use Rattle.wire.proofs.Runs.{putAt-writeRun, claim-faithful}
+use Rattle.wire.proofs.RunLaws.{putAt-writeRun, end-writeRun, claim-faithful}
 use Rattle.wire.proofs.image.write_claims.Statement.{statement}
 use Rattle.wire.proofs.image.write_claims.Tie as tie
 
@@ -20,8 +20,15 @@ Inv-loop out₀ at n claims i₀ out i = (i ≤ n) × (length out ≡ length out
 abbrev μ-loop : tie.MeasureT-loop
 μ-loop out₀ at n claims i₀ out i = n - i
 
+-- where the turn began, and that the place is one of the table
+abbrev turn : tie.After-write Inv-loop μ-loop → tie.At-loop Inv-loop μ-loop
+turn w = let entered = w .before .before .before in entered .before
+
+more : (w : tie.After-write Inv-loop μ-loop) → turn w .loop .i < length (turn w .before .before .args .t3)
+more w = let long : length (turn w .before .before .args .t3) ≡ tableLimit = search (needs, length-mapped) in omega arith
+
 loop-holds : tie.Need-loop-holds Inv-loop μ-loop
-loop-holds c = (search needs, refl, sym (putAt-nil (c .before .args .out .now) (c .before .args .at)))
+loop-holds c = (search needs, search needs, sym (putAt-nil _ _))
 
 mul-write : tie.Need-mul-write Inv-loop μ-loop
 mul-write c = search needs
@@ -45,21 +52,16 @@ loop-less : tie.Need-loop-less Inv-loop μ-loop
 loop-less c = search needs
 
 loop-again : tie.Need-loop-again Inv-loop μ-loop
-loop-again c = let w = c .before .before in
-    let t = w .before .before .before in
-    let a = t .before .before .before .args in
-    let l = t .before .loop in
-    let long : length (a .t3) ≡ tableLimit = search (needs, length-mapped) in
-    let put = putAt-writeRun claim-faithful (a .out .now) (a .at) (l .i) (a .t3) noClaim (omega arith) (omega arith) (l .inv .2) in
-    let kept : length (w .write .last .0) ≡ length (l .out) = w .write .kept .0 in
-    (search needs, kept ∙ l .inv .1, w .write .ensures ∙ put)
+loop-again c =
+    let w = c .before .before in
+    let l = turn w .loop in
+    (search needs, search needs, putAt-writeRun claim-faithful _ _ _ _ noClaim (more w) (search needs) (l .inv .2) (w .write .ensures))
 
 same-length : tie.Need-same-length Inv-loop μ-loop
 same-length c = search needs
 
 returns : tie.Need-returns Inv-loop μ-loop
-returns c = let e : c .before .loop .i ≡ c .before .before .before .args .n = omega arith in
-    rw (← e) (c .before .loop .inv .2)
+returns c = search (needs, end-writeRun claim-faithful)
 
 pub write-claims-spec : {M : Type 1} → statement M
 write-claims-spec =

@@ -1,11 +1,11 @@
 -- `number::read` meets its contract. The invariant: what is read so far is the number of the bytes passed.
 -- Assumes nothing.
-use Prim.Native.Nat.{_≤_, _<_, _+_, _*_, _-_, _^_}
-use native.Mathlib.Omega.{arith}
+use Prim.Native.Nat.{_≤_, _-_}
 use mathlib.Core.Path.{_≡_}
 use borrow.Author.Needs.{needs}
 use Rattle.wire.specs.Number.{byte, numberAt, Below}
-use Rattle.wire.proofs.Numbers.{numberAt-zero, numberAt-below, numberAt-turn}
+use Rattle.wire.specs.Claim.{keyWidth}
+use Rattle.wire.proofs.NumberLaws.{number-none, numberAt-turn, numberAt-shift, numberAt-more, numberAt-end}
 use Rattle.wire.proofs.number.read.Statement.{statement}
 use Rattle.wire.proofs.number.read.Tie as tie
 
@@ -15,30 +15,21 @@ Inv-loop s at width n₀ i₀ n i = (i ≤ width) × (n ≡ numberAt s at i)
 abbrev μ-loop : tie.MeasureT-loop
 μ-loop s at width n₀ i₀ n i = width - i
 
--- the start, and that the slice's elements are bytes
-abbrev start : tie.In-loop Inv-loop μ-loop → tie.Start Inv-loop μ-loop
-start c = c .before .before .before
+-- what is given, and that the slice's elements are bytes
+abbrev given : tie.At-loop Inv-loop μ-loop → tie.Start Inv-loop μ-loop
+given l = l .before .before
 
-are-bytes : (c : tie.In-loop Inv-loop μ-loop) → Below byte (start c .args .s .now)
-are-bytes c k = c .before .before .shared-slice-known .given k .fits
-
--- what a turn makes of the number so far: the number of one byte more, which fits
-turn : (c : tie.After-wide Inv-loop μ-loop)
-    → let t = c .before .before in t .before .loop .n * 256 + c .wide .result ≡ numberAt (start t .args .s .now) (start t .args .at) (t .before .loop .i + 1)
-turn c =
-    let t = c .before .before in
-    let a = start t .args in
-    let i = t .before .loop .i in
-    numberAt-turn (a .s .now) (a .at) i _ _ (omega arith) (t .before .loop .inv .1) (c .wide .ensures)
+are-bytes : (l : tie.At-loop Inv-loop μ-loop) → Below byte (given l .args .s .now)
+are-bytes l k = l .before .shared-slice-known .given k .fits
 
 loop-holds : tie.Need-loop-holds Inv-loop μ-loop
-loop-holds c = (search needs, numberAt-zero (c .before .args .s .now) (c .before .args .at))
+loop-holds c = (search needs, number-none)
 
 mul-n : tie.Need-mul-n Inv-loop μ-loop
 mul-n c =
-    let a = start c .args in
-    let h : numberAt (a .s .now) (a .at) (c .before .loop .i) < byte ^ 7 = numberAt-below (a .s .now) (a .at) (c .before .loop .i) 7 (omega arith) (are-bytes c) in
-    omega arith
+    let a = given (c .before) .args in
+    let l = c .before .loop in
+    record { fits = numberAt-shift (a .s .now) (a .at) (l .i) (l .inv .1) 7 (search needs) (are-bytes (c .before)) }
 
 add-wide : tie.Need-add-wide Inv-loop μ-loop
 add-wide c = search needs
@@ -51,9 +42,10 @@ wide-requires c κs = search needs
 
 add-n : tie.Need-add-n Inv-loop μ-loop
 add-n c =
-    let t = c .before .before in
-    let a = start t .args in
-    record { fits = rw (turn c) (numberAt-below (a .s .now) (a .at) (t .before .loop .i + 1) 8 (omega arith) (are-bytes t)) }
+    let turn = c .before .before .before in
+    let a = given turn .args in
+    let l = turn .loop in
+    record { fits = numberAt-more (a .s .now) (a .at) (l .i) (l .inv .1) keyWidth (search needs) (are-bytes turn) (search needs) (c .wide .ensures) }
 
 add-i : tie.Need-add-i Inv-loop μ-loop
 add-i c = search needs
@@ -62,12 +54,14 @@ loop-less : tie.Need-loop-less Inv-loop μ-loop
 loop-less c = search needs
 
 loop-again : tie.Need-loop-again Inv-loop μ-loop
-loop-again c = (search needs, turn c)
+loop-again c =
+    let turn = c .before .before .before in
+    let a = given turn .args in
+    let l = turn .loop in
+    (search needs, numberAt-turn (a .s .now) (a .at) (l .i) (l .inv .1) (search needs) (c .wide .ensures))
 
 returns : tie.Need-returns Inv-loop μ-loop
-returns c =
-    let e : c .before .loop .i ≡ c .before .before .before .args .width = omega arith in
-    rw (← e) (c .before .loop .inv .1)
+returns c = search (needs, numberAt-end)
 
 pub read-spec : {M : Type 1} → statement M
 read-spec =

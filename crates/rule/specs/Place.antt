@@ -1,5 +1,5 @@
--- What a lent buffer holds once some bytes are written at a place of it: "output past what was written keeps its contents", and so does what stands before.
--- Assumes nothing.
+-- What a lent run holds once something is written at a place of it: "output past what was written keeps its contents" (document 01), and so does what
+-- stands before. Assumes nothing.
 use Prim.Native.Nat.{ℕ, _+_}
 use mathlib.Core.List.{List, _++_}
 use lib.ListN.{length, take, drop}

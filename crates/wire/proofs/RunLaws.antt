@@ -4,19 +4,18 @@ use Prim.Native.Nat.{ℕ, zero, suc, _+_, _*_, _^_, _≤_, _<_}
 use native.Mathlib.Nat.{mul-suc, mul-zero}
 use native.Mathlib.Numerals.{add-one}
 use native.Mathlib.Omega.{arith}
-use mathlib.Core.Path.{_≡_, refl, ap, sym, subst}
+use mathlib.Core.Path.{_≡_, refl, ap, sym, subst, _∙_}
 use mathlib.Core.List.{List, [], _∷_, _++_, append-assoc, append-nil, List·Memᴰ, List·Memᴰ·head, List·Memᴰ·tail, List·Memᴰ·not-nil}
 use lib.Dec.{lit≤}
 use lib.ListN.{length, take, drop, getD, set, replicate, length-append, length-drop}
 use lib.Seq.{drop-drop, take-add, take-suc, length-take-le, drop-at}
-use Rattle.rule.specs.Call.{writtenOver}
+use Rattle.rule.specs.Place.{putAt}
+use Rattle.rule.proofs.PlaceLaws.{putAt-append, set-front}
 use Rattle.wire.specs.Number.{byte, Below}
 use Rattle.wire.specs.Claim.{keyWidth, ClaimFits}
 use Rattle.wire.specs.Run.{Layout, key, claim, readRun, writeRun, Each}
-use Rattle.wire.specs.Place.{putAt}
-use Rattle.wire.proofs.Places.{putAt-append, set-writtenOver}
-use Rattle.wire.proofs.Numbers.{below-drop, length-bytes, numberAt-bytes, bytes-numberAt, numberAt-below}
-use Rattle.wire.proofs.Claims.{length-claimBytes, claimFrom-claimBytes, claimBytes-claimFrom, claimFrom-fits}
+use Rattle.wire.proofs.NumberLaws.{below-drop, length-bytes, numberAt-bytes, bytes-numberAt, numberAt-below}
+use Rattle.wire.proofs.ClaimLaws.{length-claimBytes, claimFrom-claimBytes, claimBytes-claimFrom, claimFrom-fits}
 
 -- What makes a layout faithful for the things that fit: as many bytes as it says, read again as written, written again as read.
 pub record Faithful {A : Type 0} (l : Layout A) (Fit : A → Type 0) : Type 0 where
@@ -84,12 +83,17 @@ module _ {A : Type 0} (l : Layout A) where
 
   -- the turn of reading into a run of places: x is what stands at the next place of the bytes
   pub set-readRun : (lent : List A) (bs : List ℕ) (at i : ℕ) {out : List A} {x : A} → i < length lent
-      → out ≡ writtenOver (readRun l i (drop at bs)) lent → x ≡ l .read (drop (at + l .size * i) bs)
-      → set out i x ≡ writtenOver (readRun l (i + 1) (drop at bs)) lent
+      → out ≡ putAt lent 0 (readRun l i (drop at bs)) → x ≡ l .read (drop (at + l .size * i) bs)
+      → set out i x ≡ putAt lent 0 (readRun l (i + 1) (drop at bs))
   set-readRun lent bs at i {out} {x} h e f =
       let g : x ≡ l .read (drop (l .size * i) (drop at bs)) = rw drop-drop f in
       let more = readRun-snoc i (drop at bs) in
-      rw (more, e, g) (set-writtenOver (readRun l i (drop at bs)) lent _ i (length-readRun i (drop at bs)) h)
+      rw (more, e, g) (set-front (readRun l i (drop at bs)) lent _ i (length-readRun i (drop at bs)) h)
+
+  -- .. and its end
+  pub end-readRun : (lent : List A) (bs : List ℕ) (at i n : ℕ) {out : List A} → i ≤ n → n ≤ i
+      → out ≡ putAt lent 0 (readRun l i (drop at bs)) → out ≡ putAt lent 0 (readRun l n (drop at bs))
+  end-readRun lent bs at i n p q e = let same : i ≡ n = omega arith in rw (← same) e
 
   -- the turn of writing: one thing more at the end
   pub writeRun-snoc : (xs : List A) (x : A) → writeRun l (xs ++ (x ∷ [])) ≡ writeRun l xs ++ l .write x
@@ -122,10 +126,15 @@ module _ {A : Type 0} {l : Layout A} {Fit : A → Type 0} (faith : Faithful l Fi
   readRun-fits (suc n) bs h = (faith .fits bs h, readRun-fits n (drop (l .size) bs) (below-drop (l .size) bs h))
 
   -- the turn of writing at a place: one thing more, right after those before it
-  pub putAt-writeRun : (s : List ℕ) (at i : ℕ) (xs : List A) (d : A) {out : List ℕ} → i < length xs → at + l .size * i ≤ length s
-      → out ≡ putAt s at (writeRun l (take i xs))
-      → putAt out (at + l .size * i) (l .write (getD xs i d)) ≡ putAt s at (writeRun l (take (i + 1) xs))
-  putAt-writeRun s at i xs d {out} h p e =
+  pub putAt-writeRun : (s : List ℕ) (at i : ℕ) (xs : List A) (d : A) {out new : List ℕ} → i < length xs → at + l .size * i ≤ length s
+      → out ≡ putAt s at (writeRun l (take i xs)) → new ≡ putAt out (at + l .size * i) (l .write (getD xs i d))
+      → new ≡ putAt s at (writeRun l (take (i + 1) xs))
+  putAt-writeRun s at i xs d {out} h p e f =
       let long : length (writeRun l (take i xs)) ≡ l .size * i = rw (length-writeRun, length-take-le i xs (omega arith)) in
       let more : writeRun l (take (i + 1) xs) ≡ writeRun l (take i xs) ++ l .write (getD xs i d) = rw (add-one, take-suc xs i d h, writeRun-snoc) in
-      rw (more, e) (putAt-append s at (writeRun l (take i xs)) (l .write (getD xs i d)) (l .size * i) long p)
+      f ∙ rw (more, e) (putAt-append s at (writeRun l (take i xs)) (l .write (getD xs i d)) (l .size * i) long p)
+
+  -- .. and its end
+  pub end-writeRun : (s : List ℕ) (at i n : ℕ) (xs : List A) {out : List ℕ} → i ≤ n → n ≤ i
+      → out ≡ putAt s at (writeRun l (take i xs)) → out ≡ putAt s at (writeRun l (take n xs))
+  end-writeRun s at i n xs p q e = let same : i ≡ n = omega arith in rw (← same) e

@@ -1,14 +1,13 @@
--- Laws of what a lent buffer holds once something is written at a place of it: nothing written, one element more, a block right after a block.
+-- Laws of specs/Place, what a lent run holds once something is written at a place of it: nothing written, one element more, a block right after a block.
 -- Assumes nothing.
 use Prim.Native.Nat.{ℕ, zero, suc, _+_, _-_, _≤_, _<_}
 use native.Mathlib.Nat.{zero-add, add-zero, add-assoc, sub-zero, zero-sub, suc-sub-suc}
 use native.Mathlib.Omega.{arith}
-use mathlib.Core.Path.{_≡_, ap}
+use mathlib.Core.Path.{_≡_}
 use mathlib.Core.List.{List, [], _∷_, _++_, append-assoc}
 use lib.ListN.{length, take, drop, getD, set, replicate, length-append, length-take, length-drop, length-set, take-append-drop}
 use lib.Seq.{take-set-le, drop-set-lt, getD-set-same, drop-drop, drop-cons, set-at, take-at, drop-append-add}
-use Rattle.rule.specs.Call.{writtenOver}
-use Rattle.wire.specs.Place.{putAt}
+use Rattle.rule.specs.Place.{putAt}
 
 module _ {A : Type 0} where
   pub length-putAt : (s : List A) (at : ℕ) (bs : List A) → at + length bs ≤ length s → length (putAt s at bs) ≡ length s
@@ -19,7 +18,7 @@ module _ {A : Type 0} where
   unfolding putAt
   putAt-nil s at = rw add-zero (take-append-drop at s)
 
-  pub putAt-zero : (s bs : List A) → putAt s 0 bs ≡ writtenOver bs s
+  pub putAt-zero : (s bs : List A) → putAt s 0 bs ≡ bs ++ drop (length bs) s
   unfolding putAt
   putAt-zero s bs = rw zero-add
 
@@ -31,11 +30,13 @@ module _ {A : Type 0} where
       let front : take at (set s (at + n) b) ≡ take at s = take-set-le at s (at + n) b (omega arith) in
       let past : at + length (bs ++ (b ∷ [])) ≡ suc (at + n) = rw (length-append, e) (omega arith) in
       let rest : drop (at + length bs) (set s (at + n) b) ≡ b ∷ drop (suc (at + n)) s =
-      rw (e, drop-cons (set s (at + n) b) (at + n) b (rw length-set h), getD-set-same s (at + n) b b h, drop-set-lt (suc (at + n)) s (at + n) b (omega arith)) in
+      let there : at + n < length (set s (at + n) b) = rw length-set h in
+      rw (e, drop-cons (set s (at + n) b) (at + n) b, getD-set-same s (at + n) b b h, drop-set-lt (suc (at + n)) s (at + n) b (omega arith)) in
       rw (front, rest, past, append-assoc bs)
 
   -- a block right after a block is one block
-  pub putAt-append : (s : List A) (at : ℕ) (xs ys : List A) (n : ℕ) → length xs ≡ n → at + n ≤ length s → putAt (putAt s at xs) (at + n) ys ≡ putAt s at (xs ++ ys)
+  pub putAt-append : (s : List A) (at : ℕ) (xs ys : List A) (n : ℕ) → length xs ≡ n → at + n ≤ length s
+      → putAt (putAt s at xs) (at + n) ys ≡ putAt s at (xs ++ ys)
   unfolding putAt
   putAt-append s at xs ys n e h =
       let long : length (take at s ++ xs) ≡ at + n = rw (length-append, length-take, e) (omega arith) in
@@ -49,17 +50,18 @@ module _ {A : Type 0} where
   -- ---- written to the beginning
 
   -- one element more
-  pub set-writtenOver : (new lent : List A) (x : A) (n : ℕ) → length new ≡ n → n < length lent → set (writtenOver new lent) n x ≡ writtenOver (new ++ (x ∷ [])) lent
-  set-writtenOver new lent x n e h =
+  pub set-front : (new lent : List A) (x : A) (n : ℕ) → length new ≡ n → n < length lent → set (putAt lent 0 new) n x ≡ putAt lent 0 (new ++ (x ∷ []))
+  set-front new lent x n e h =
       let long : length (new ++ (x ∷ [])) ≡ suc n = rw (length-append, e) (omega arith) in
-      rw (e, drop-cons lent n x h, set-at new (getD lent n x) (drop (suc n) lent) x n e, long, append-assoc)
+      rw (putAt-zero, putAt-zero, e, drop-cons lent n x h, set-at new (getD lent n x) (drop (suc n) lent) x n e, long, append-assoc)
 
-  -- a block written right after what was written to the beginning
-  pub putAt-writtenOver : (lent xs ys : List A) (n : ℕ) → length xs ≡ n → n ≤ length lent → putAt (writtenOver xs lent) n ys ≡ writtenOver (xs ++ ys) lent
-  putAt-writtenOver lent xs ys n e h =
-      let z : 0 + n ≡ n = zero-add n in
-      let p : putAt (putAt lent 0 xs) (0 + n) ys ≡ putAt lent 0 (xs ++ ys) = putAt-append lent 0 xs ys n e (rw z h) in
-      rw (← putAt-zero lent xs, ← putAt-zero lent (xs ++ ys)) (rw z at p)
+  -- a block right after the first one
+  pub putAt-front : (lent xs ys : List A) (n : ℕ) → length xs ≡ n → n ≤ length lent → putAt (putAt lent 0 xs) n ys ≡ putAt lent 0 (xs ++ ys)
+  putAt-front lent xs ys n e h = let z : 0 + n ≡ n = zero-add n in rw z at (putAt-append lent 0 xs ys n e (rw z h))
+
+  -- what was written stands in front
+  pub take-front : (lent xs : List A) (n : ℕ) → length xs ≡ n → take n (putAt lent 0 xs) ≡ xs
+  take-front lent xs n e = rw putAt-zero (take-at xs (drop (length xs) lent) n e)
 
   -- ---- over a run of one value
 
@@ -69,5 +71,5 @@ module _ {A : Type 0} where
   drop-replicate (suc k) (suc n) a = rw suc-sub-suc (drop-replicate k n a)
 
   -- what is written over a run of one value is followed by those that are left
-  pub writtenOver-replicate : (xs : List A) (n : ℕ) (a : A) → writtenOver xs (replicate n a) ≡ xs ++ replicate (n - length xs) a
-  writtenOver-replicate xs n a = ap (λ (l : List A). xs ++ l) (drop-replicate (length xs) n a)
+  pub putAt-replicate : (xs : List A) (n : ℕ) (a : A) → putAt (replicate n a) 0 xs ≡ xs ++ replicate (n - length xs) a
+  putAt-replicate xs n a = rw (putAt-zero, drop-replicate (length xs) n a)

@@ -1,7 +1,8 @@
 -- Laws of numbers in bytes, over the width: one law each for reading and for writing, and that they undo each other.
 -- Order: what a list below a bound keeps; the length; a number is below its width's power; there and back; one byte more. Assumes nothing.
 use Prim.Native.Nat.{ℕ, zero, suc, _+_, _-_, _*_, _/_, _%_, _^_, _≤_, _<_}
-use native.Mathlib.Nat.{pow-succ', mul-assoc, mul-left-comm, mod-eq-of-lt, div-div-eq-div-mul, add-mul-div-right, add-mul-mod-self-right, add-comm, lt-of-lt-of-le, pow-le-pow-right}
+use native.Mathlib.Nat.{pow-succ', mul-assoc, mul-left-comm, mod-eq-of-lt, div-div-eq-div-mul, add-mul-div-right, add-mul-mod-self-right, add-comm}
+use native.Mathlib.Nat.{lt-of-lt-of-le, pow-le-pow-right}
 use native.Mathlib.Numerals.{add-one}
 use native.Mathlib.Omega.{arith}
 use mathlib.Core.Path.{_≡_, refl, ap, _∙_}
@@ -10,9 +11,9 @@ use lib.Arith.{digits-lt, digits-div, mod-mul}
 use lib.Dec.{lit<}
 use lib.ListN.{length, take, drop, getD, set, length-append, length-take, length-drop}
 use lib.Seq.{take-suc, drop-drop, getD-drop, take-at, drop-append-add}
+use Rattle.rule.specs.Place.{putAt}
+use Rattle.rule.proofs.PlaceLaws.{putAt-nil, putAt-snoc}
 use Rattle.wire.specs.Number.{byte, number, bytes, numberAt, Below}
-use Rattle.wire.specs.Place.{putAt}
-use Rattle.wire.proofs.Places.{putAt-nil, putAt-snoc}
 
 -- ---- lists below a bound
 
@@ -106,15 +107,27 @@ numberAt-below s at w v p h =
     let q : length (take w (drop at s)) ≤ v = rw length-take (omega arith) in
     lt-of-lt-of-le (number-below (take w (drop at s)) (below-take w (drop at s) (lit< tt) (below-drop at s h))) (pow-le-pow-right (lit< tt) q)
 
-pub numberAt-zero : (s : List ℕ) (at : ℕ) → _≡_ {A = ℕ} 0 (numberAt s at 0)
+pub number-none : _≡_ {A = ℕ} 0 (number [])
 unfolding number
-numberAt-zero s at = refl
+number-none = refl
 
 -- the turn of reading: n is the number so far, and b the next byte
-pub numberAt-turn : (s : List ℕ) (at w n b : ℕ) → at + w < length s → n ≡ numberAt s at w → b ≡ getD s (at + w) 0 → n * byte + b ≡ numberAt s at (w + 1)
-numberAt-turn s at w n b p e f =
-    let q : w < length (drop at s) = rw length-drop (omega arith) in
-    rw (add-one, take-suc (drop at s) w 0 q, number-snoc, getD-drop, e, f)
+module _ (s : List ℕ) (at w : ℕ) {n : ℕ} (so-far : n ≡ numberAt s at w) where
+  pub numberAt-turn : {b : ℕ} → at + w < length s → b ≡ getD s (at + w) 0 → n * byte + b ≡ numberAt s at (w + 1)
+  numberAt-turn {b} p f =
+      let q : w < length (drop at s) = rw length-drop (omega arith) in
+      rw (add-one, take-suc (drop at s) w 0 q, number-snoc, getD-drop, so-far, f)
+
+  -- it fits a width that has room for the byte, before and after
+  pub numberAt-shift : (v : ℕ) → w ≤ v → Below byte s → n * byte < byte ^ suc v
+  numberAt-shift v p h = let q : n < byte ^ v = rw so-far (numberAt-below s at w v p h) in rw pow-succ' (omega arith)
+
+  pub numberAt-more : (v : ℕ) {b : ℕ} → w < v → Below byte s → at + w < length s → b ≡ getD s (at + w) 0 → n * byte + b < byte ^ v
+  numberAt-more v p h q f = rw (numberAt-turn q f) (numberAt-below s at (w + 1) v (omega arith) h)
+
+  -- .. and the end
+  pub numberAt-end : (v : ℕ) → w ≤ v → v ≤ w → n ≡ numberAt s at v
+  numberAt-end v p q = let same : w ≡ v = omega arith in rw (← same) so-far
 
 -- a place counted from another place
 pub numberAt-drop : (s : List ℕ) (at k w : ℕ) → numberAt (drop at s) k w ≡ numberAt s (at + k) w

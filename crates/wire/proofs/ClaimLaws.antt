@@ -7,11 +7,11 @@ use lib.Dec.{lit≤}
 use lib.ListN.{length, take, drop, length-append}
 use lib.Seq.{drop-drop, take-add}
 use Rattle.claims.specs.declared.claim.Claim.{Claim}
+use Rattle.rule.specs.Place.{putAt}
+use Rattle.rule.proofs.PlaceLaws.{putAt-append}
 use Rattle.wire.specs.Number.{byte, bytes, numberAt, Below}
 use Rattle.wire.specs.Claim.{keyWidth, countWidth, claimSize, claimBytes, claimFrom, ClaimFits}
-use Rattle.wire.specs.Place.{putAt}
-use Rattle.wire.proofs.Numbers.{length-bytes, numberAt-drop, numberAt-skip, numberAt-bytes, bytes-numberAt, numberAt-below}
-use Rattle.wire.proofs.Places.{putAt-append}
+use Rattle.wire.proofs.NumberLaws.{length-bytes, numberAt-drop, numberAt-skip, numberAt-bytes, bytes-numberAt, numberAt-below}
 
 pub length-claimBytes : (c : Claim) → length (claimBytes c) ≡ claimSize
 unfolding claimBytes

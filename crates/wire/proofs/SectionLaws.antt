@@ -11,9 +11,9 @@ use Rattle.wire.specs.Number.{byte, bytes, Below}
 use Rattle.wire.specs.Claim.{countWidth}
 use Rattle.wire.specs.Run.{Layout, writeRun, Each}
 use Rattle.wire.specs.Image.{sectionBytes, countOf, countFits, thingsIn}
-use Rattle.wire.proofs.Numbers.{below-drop, length-bytes, numberAt-bytes, bytes-numberAt}
-use Rattle.wire.proofs.Runs.{Faithful, length-readRun, length-writeRun, readRun-writeRun, writeRun-readRun}
-use Rattle.wire.proofs.Images.{countFits-of}
+use Rattle.wire.proofs.NumberLaws.{below-drop, length-bytes, numberAt-bytes, bytes-numberAt}
+use Rattle.wire.proofs.RunLaws.{Faithful, length-readRun, length-writeRun, readRun-writeRun, writeRun-readRun}
+use Rattle.wire.proofs.ImageLaws.{countFits-of}
 
 module _ {A : Type 0} {l : Layout A} {Fit : A → Type 0} (faith : Faithful l Fit) where
   pub length-sectionBytes : (xs : List A) → length (sectionBytes l xs) ≡ countWidth + l .size * length xs

@@ -1,0 +1,113 @@
+-- Laws of specs/Lent: what the calls on lent keys are by the definitions of Image. `readIn-refused`, `readImage-1` and `readImage-lent` say it of reading,
+-- `writeImageIn-writeImage` and `imageInLent-imageLent` of writing. Assumes nothing.
+use Prim.Native.Nat.{ℕ, _-_, _≤_}
+use mathlib.Core.Bool.{Bool, true, false, _&&_}
+use mathlib.Core.List.{List, [], _∷_, _++_}
+use mathlib.Core.Path.{_≡_, refl, ap, sym, _∙_}
+use borrow.Author.Tests.{le-leb, leb-true, eqb-true, eq-eqb}
+use lib.Dec.{leb, eqb, lit<}
+use lib.ListN.{length, replicate}
+use Rattle.keys.specs.declared.store.Store.{Store}
+use Rattle.keys.specs.Store.{limit, zeros, storeOf, emptyStore}
+use Rattle.keys.proofs.Tests.{and-left, and-right}
+use Rattle.claims.specs.Question.{firstNo}
+use Rattle.claims.proofs.QuestionLaws.{firstNo-zero, settle-refused}
+use Rattle.rule.specs.declared.node.Node.{Node}
+use Rattle.rule.specs.declared.answer.Rest.{Rest}
+use Rattle.rule.specs.Table.{tableLimit}
+use Rattle.rule.specs.Node.{nodeOf, nodeInOrder}
+use Rattle.rule.specs.Place.{putAt}
+use Rattle.rule.proofs.PlaceLaws.{putAt-replicate}
+use Rattle.nodes.specs.Lent.{nodeWith, lentInOrder}
+use Rattle.wire.specs.Image.{nodeBytes, parse, nodeFrom, question14, noImage, readImage, writeImage, imageLent}
+use Rattle.wire.specs.Lent.{restOf, noRest, readIn, readInLent, withinLimits, writeImageIn, imageInLent}
+use Rattle.wire.proofs.QuestionLaws.{settle-number}
+use Rattle.wire.proofs.ImageLaws.{ordered-counts}
+
+-- ---- reading
+
+-- read into the places of an empty store
+pub readIn-fresh : (bs : List ℕ) {s : Store} → s ≡ emptyStore → {ks : List ℕ} → ks ≡ readInLent bs (s .keys) → ks ≡ readInLent bs (emptyStore .keys)
+readIn-fresh bs p k = k ∙ ap (λ (x : Store). readInLent bs (x .keys)) p
+
+module _ (bs : List ℕ) {r : Rest} (e : r ≡ readIn bs) where
+  readIn-number : r .number ≡ firstNo (question14 bs ∷ [])
+  unfolding readIn
+  readIn-number =
+      ap (λ (x : Rest). x .number) e ∙ settle-number (λ (x : Rest). x .number) (firstNo (question14 bs ∷ [])) _ noRest refl (λ (k : ℕ). refl)
+
+  -- refused with 14
+  pub readIn-refused : (r .number ≡ 0 → ⊥) → noImage (r .number) ≡ readImage bs
+  unfolding readImage
+  readIn-refused f = go (question14 bs .yes) refl
+    where
+      go : (t : Bool) → question14 bs .yes ≡ t → noImage (r .number) ≡ readImage bs
+      go true y = absurd (f (readIn-number ∙ rw y))
+      go false y = rw (readIn-number, y)
+
+  -- .. and then the lent run is as it was
+  pub readInLent-refused : (keys : List ℕ) → (r .number ≡ 0 → ⊥) → readInLent bs keys ≡ keys
+  unfolding readInLent
+  readInLent-refused keys f = settle-refused (firstNo (question14 bs ∷ [])) _ (λ (k : ℕ). keys) (λ z. f (readIn-number ∙ z))
+
+  module _ (done : r .number ≡ 0) {ks : List ℕ} (k : ks ≡ readInLent bs (emptyStore .keys)) where
+    passed : question14 bs .yes ≡ true
+    passed = firstNo-zero (question14 bs) [] (lit< tt) (sym readIn-number ∙ done) .0
+
+    -- the node of both
+    abbrev pub readNode : Node
+    readNode = nodeWith ks (r .held) (r .table) (r .count)
+
+    pub readIn-node : readNode ≡ nodeFrom (parse bs)
+    unfolding readIn readInLent nodeOf storeOf emptyStore zeros
+    readIn-node =
+        let l = parse bs .keys in
+        let rest : r ≡ restOf (nodeFrom (parse bs)) = e ∙ rw passed in
+        let p : ks ≡ l ++ replicate (limit - length l) 0 = k ∙ rw passed (putAt-replicate l limit 0) in
+        λ i. record { store = record { keys = p i; count = rest i .held }; pending = rest i .table; count = rest i .count }
+
+    -- what question 1 then decides
+    module _ (long : length ks ≡ limit) where
+      tested : nodeInOrder (nodeFrom (parse bs)) ≡ lentInOrder ks (r .held) (r .table) (r .count)
+      tested = rw (eq-eqb (length ks) limit long) (ap nodeInOrder (sym readIn-node))
+
+      pub readImage-1 : lentInOrder ks (r .held) (r .table) (r .count) ≡ false → noImage 1 ≡ readImage bs
+      unfolding readImage
+      readImage-1 t = rw (passed, tested ∙ t)
+
+      pub readImage-lent : lentInOrder ks (r .held) (r .table) (r .count) ≡ true → record { number = 0; node = readNode } ≡ readImage bs
+      unfolding readImage
+      readImage-lent t = (λ i. record { number = 0; node = readIn-node i }) ∙ rw (passed, tested ∙ t)
+
+-- ---- writing
+
+pub withinLimits-yes : (keys : List ℕ) (held count : ℕ) → withinLimits keys held count ≡ true → (length keys ≡ limit) × (held ≤ limit) × (count ≤ tableLimit)
+withinLimits-yes keys held count e =
+    let f = and-right (eqb (length keys) limit) (leb held limit && leb count tableLimit) e in (
+      eqb-true (length keys) limit (and-left (eqb (length keys) limit) (leb held limit && leb count tableLimit) e),
+      leb-true held limit (and-left (leb held limit) (leb count tableLimit) f),
+      leb-true count tableLimit (and-right (leb held limit) (leb count tableLimit) f),
+    )
+
+module _ (n : Node) (out : List ℕ) where
+  pub writeImageIn-0 : withinLimits (n .store .keys) (n .store .count) (n .count) ≡ true → length (nodeBytes n) ≤ length out
+      → (record { number = 0; length = length (nodeBytes n) } ≡ writeImageIn n (length out)) × (putAt out 0 (nodeBytes n) ≡ imageInLent n out)
+  unfolding writeImageIn imageInLent
+  writeImageIn-0 fits h =
+      let k = le-leb (length (nodeBytes n)) (length out) h in
+      (rw (fits, k), rw (fits, k))
+
+  -- where the node is in order, this is the call that asks 1
+  module _ (long : length (n .store .keys) ≡ limit) (ordered : nodeInOrder n ≡ true) where
+    pub ordered-withinLimits : withinLimits (n .store .keys) (n .store .count) (n .count) ≡ true
+    ordered-withinLimits =
+        let (few, several) = ordered-counts n ordered in
+        rw (eq-eqb (length (n .store .keys)) limit long, le-leb (n .store .count) limit few, le-leb (n .count) tableLimit several)
+
+    pub writeImageIn-writeImage : writeImageIn n (length out) ≡ writeImage n (length out)
+    unfolding writeImageIn writeImage
+    writeImageIn-writeImage = rw (ordered, ordered-withinLimits)
+
+    pub imageInLent-imageLent : imageInLent n out ≡ imageLent n out
+    unfolding imageInLent imageLent
+    imageInLent-imageLent = rw (ordered, ordered-withinLimits)
