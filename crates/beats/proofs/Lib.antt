@@ -1,8 +1,5 @@
--- The laws of the code of `beats`, each way that it goes.
---   Writing               claims written to places of a run
---   Serve, ServeLaws      the table served, and what that is of a node in order
---   Beating               the beat
-mod Writing
-mod Serve
-pub mod ServeLaws
-mod Beating
+-- The laws of the definitions of specs/ and of the code of src/. Only LentLaws is cited from outside.
+--   LentLaws    what the beat of a node whose keys are lent means
+--   BeatsPaths  each way that the code of src/beats.rt goes
+pub mod LentLaws
+mod BeatsPaths

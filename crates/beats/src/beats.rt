@@ -3,7 +3,6 @@ use claims::Answer;
 use claims::Claim;
 use claims::answer_in;
 use claims::make_in;
-use keys::place_in;
 use nodes::ordered;
 use rule::Beaten;
 use rule::Node;
@@ -11,27 +10,19 @@ ghost use mathlib.Core.Path.{_≡_};
 ghost use mathlib.Core.List.{[], _∷_};
 ghost use Prim.Native.Nat.{_+_, _*_, _≤_};
 ghost use lib.ListN.{length, take};
+ghost use Rattle.keys.specs.Lent.{storeWith};
 ghost use Rattle.claims.specs.Reply.{claimsOf};
 ghost use Rattle.rule.specs.Table.{tableLimit, remains};
 ghost use Rattle.rule.specs.Call.{beaten, beatenLent};
 ghost use Rattle.nodes.specs.Lent.{nodeWith};
-ghost use Rattle.beats.specs.Serving.{answerTo, serveIn, wholeIn, wroteAt, keptWith, beatenWith, beatenIn, beatenInLent};
+ghost use Rattle.beats.specs.Lent.{serveIn, wholeIn, claimSize, wroteAt, Wrote, ServedAt, beatenWith, BeatsIn};
 
-// The words of a claim in a lent run: lo, hi, sum, cnt.
+// The words of a claim in a lent run: lo, hi, sum, cnt. `claimSize` in specs/Lent.
 const WORDS: usize = 4;
-
-// The answer to a claim whose lo and hi are held.
-fn answer_to(keys: &[u64], count: usize, claim: Claim) -> Answer
-    ensures { λ r. ⌜ r ≡ answerTo (now (keys .entry)) count claim ⌝ }
-{
-    let first = place_in(keys, count, claim.lo);
-    let last = place_in(keys, count, claim.hi);
-    answer_in(keys, count, first.at, last.at, claim)
-}
 
 // Writes a claim to a place.
 fn write_claim(lent: &mut [u64], at: usize, claim: Claim)
-    requires { ⌜ 4 * at + 4 ≤ length (now lent) ⌝ }
+    requires { ⌜ claimSize * (at + 1) ≤ length (now lent) ⌝ }
     ensures { λ r. ⌜ now (lent .exit) ≡ wroteAt at (claim ∷ []) (now (lent .entry)) ⌝ }
 {
     let i = WORDS * at;
@@ -43,8 +34,8 @@ fn write_claim(lent: &mut [u64], at: usize, claim: Claim)
 
 // Writes the claims that an answer carries, and returns the place after them.
 fn write_answer(lent: &mut [u64], at: usize, answer: Answer) -> usize
-    requires { ⌜ 4 * at + 8 ≤ length (now lent) ⌝ }
-    ensures { λ r. ⌜ (r ≡ at + length (claimsOf answer)) × (now (lent .exit) ≡ wroteAt at (claimsOf answer) (now (lent .entry))) ⌝ }
+    requires { ⌜ claimSize * (at + 2) ≤ length (now lent) ⌝ }
+    ensures { λ r. ⌜ Wrote at (claimsOf answer) (now (lent .entry)) r (now (lent .exit)) ⌝ }
 {
     match answer {
         Answer::Refused(_) => at,
@@ -96,27 +87,22 @@ fn serve_table(
     lent: &mut [u64],
     at: usize,
 ) -> Kept
-    requires { ⌜ (pending ≤ tableLimit) × (4 * (at + 2 * pending) ≤ length (now lent)) ⌝ }
-    ensures { λ r. ⌜ (r ≡ keptWith at (serveIn (now (keys .entry)) count (take pending table))) × (now (lent .exit) ≡ wroteAt at (serveIn (now (keys .entry)) count (take pending table) .sent) (now (lent .entry))) ⌝ }
+    requires { ⌜ (pending ≤ tableLimit) × (claimSize * (at + 2 * pending) ≤ length (now lent)) ⌝ }
+    ensures { λ r. ⌜ ServedAt at (serveIn (storeWith (now (keys .entry)) count) (take pending table)) (now (lent .entry)) r (now (lent .exit)) ⌝ }
 {
-    let mut kept = [Claim {
-        lo: 0,
-        hi: 0,
-        sum: 0,
-        cnt: 0,
-    }; Node::TABLE];
+    let mut kept = [Claim::NONE; Node::TABLE];
     let mut n = 0;
     let mut written = at;
     let mut i = 0;
     while i < pending {
         let claim = table[i];
-        let answer = answer_to(keys, count, claim);
+        i += 1;
+        let answer = answer_in(keys, count, claim);
         written = write_answer(lent, written, answer);
         if stays(answer) {
             kept[n] = claim;
             n += 1;
         }
-        i += 1;
     }
     Kept {
         number: 0,
@@ -128,8 +114,8 @@ fn serve_table(
 
 // Writes the whole claim to the first place, if there is one, and returns the place after it.
 fn write_whole(keys: &[u64], count: usize, lent: &mut [u64]) -> usize
-    requires { ⌜ 4 ≤ length (now lent) ⌝ }
-    ensures { λ r. ⌜ (r ≡ length (wholeIn (now (keys .entry)) count)) × (now (lent .exit) ≡ wroteAt 0 (wholeIn (now (keys .entry)) count) (now (lent .entry))) ⌝ }
+    requires { ⌜ claimSize ≤ length (now lent) ⌝ }
+    ensures { λ r. ⌜ Wrote 0 (wholeIn (storeWith (now (keys .entry)) count)) (now (lent .entry)) r (now (lent .exit)) ⌝ }
 {
     if count == 0 {
         return 0;
@@ -147,7 +133,7 @@ pub fn beat_in(
     count: usize,
     lent: &mut [u64],
 ) -> Kept
-    ensures { λ r. ⌜ (beatenWith (now (keys .entry)) held r ≡ beatenIn (nodeWith (now (keys .entry)) held table count) (now (lent .entry))) × (now (lent .exit) ≡ beatenInLent (nodeWith (now (keys .entry)) held table count) (now (lent .entry))) ⌝ }
+    ensures { λ r. ⌜ BeatsIn (nodeWith (now (keys .entry)) held table count) (now (lent .entry)) (beatenWith (now (keys .entry)) held r) (now (lent .exit)) ⌝ }
 {
     if Node::TABLE < count {
         return Kept {

@@ -1,4 +1,5 @@
--- The twelve lettered cases hold, as one table (`cases-hold`; the table is `table` of specs/Cases), by computing both columns. Then two facts beside it:
+-- The twelve lettered cases hold, as one table (`cases-hold`; the table is `table` of specs/Cases), by computing both columns. Then the table of refusals on a lent run
+-- (`lent-cases-hold`), and two facts beside these:
 -- case k for every lo < hi and sum (`judged-count`), and case a seen from its sender (`seven-matches`): a claim of one key matches, and not falsely.
 -- Assumes nothing.
 use Prim.Native.Nat.{ℕ, _<_}
@@ -8,15 +9,22 @@ use mathlib.Core.Path.{_≡_, refl}
 use native.Mathlib.Omega.{arith}
 use borrow.Author.Tests.{le-leb}
 use Rattle.keys.specs.Store.{zeros, storeOf, emptyStore, inOrder}
+use Rattle.keys.specs.Lent.{placeIn, addBothIn}
 use Rattle.claims.specs.declared.answer.Answer.the-variants.{Match}
 use Rattle.claims.specs.Claim.{between}
 use Rattle.claims.specs.Reply.{answer, reply, falseMatch}
 use Rattle.claims.specs.Call.{made, replied, judged}
-use Rattle.claims.specs.Cases.{Row, table, claim}
+use Rattle.claims.specs.Lent.{hearIn, replyIn}
+use Rattle.claims.specs.Cases.{Row, table, lentTable, claim}
 
 pub cases-hold : map (λ (r : Row). r .gives) table ≡ map (λ (r : Row). r .wanted) table
 unfolding zeros storeOf emptyStore inOrder answer made replied judged
 cases-hold = refl
+
+-- "A refusal returns .. the given store", on a lent run too
+pub lent-cases-hold : map (λ (r : Row). r .gives) lentTable ≡ map (λ (r : Row). r .wanted) lentTable
+unfolding zeros storeOf placeIn addBothIn hearIn replyIn
+lent-cases-hold = refl
 
 -- "k. cnt 0 or 1,025 with lo < hi: 3."
 pub judged-count : (lo hi sum : ℕ) → lo < hi → (judged (claim lo hi sum 0) ≡ 3) × (judged (claim lo hi sum 1025) ≡ 3)

@@ -11,7 +11,7 @@ use lib.Bits.{bitXor, xor-comm, xor-self, xor-zero-r}
 use lib.ListN.{length, take, drop, getD, length-drop}
 use lib.Seq.{take-add, drop-drop, take-suc, drop-cons, getD-drop}
 use Rattle.claims.specs.declared.answer.Answer.{Answer}
-use Rattle.claims.specs.declared.answer.Answer.the-variants.{Refused, Match, Ask, One, Two}
+use Rattle.claims.specs.declared.answer.Answer.the-variants.{Match, Ask, One, Two}
 use Rattle.claims.specs.declared.claim.Claim.{Claim}
 use Rattle.claims.specs.Claim.{xorAll, span, claimOf}
 use Rattle.claims.specs.Reply.{same, half, decide}
@@ -106,7 +106,7 @@ module _ (keys : List ℕ) (first last left right : ℕ) (halves : Halves keys f
 
 -- the help, from the claims that it carries
 module _ (keys : List ℕ) (first last : ℕ) where
-  pub help-none : last ≤ first + 1 → Refused 7 ≡ helpIn keys first last
+  pub help-none : last ≤ first + 1 → Match ≡ helpIn keys first last
   help-none h = rw (le-ltb (first + 1) last h)
 
   pub help-one : first + 1 < last → last - 1 - (first + 1) < 3 → (c : Claim) → c ≡ claimOf (first + 1) (last - 1) keys → One c ≡ helpIn keys first last
@@ -129,5 +129,5 @@ module _ (own mine c : Claim) (helped : Answer) (e : own ≡ mine) (alike : Bool
   pub decide-ask : alike ≡ false → own .cnt < c .cnt → Ask own ≡ decide mine c helped
   decide-ask t h = rw (← e, ← compared, t, lt-ltb (own .cnt) (c .cnt) h)
 
-  pub decide-help : alike ≡ false → c .cnt ≤ own .cnt → helped ≡ decide mine c helped
-  decide-help t h = rw (← e, ← compared, t, le-ltb (own .cnt) (c .cnt) h)
+  pub decide-help : alike ≡ false → c .cnt ≤ own .cnt → (a : Answer) → a ≡ helped → a ≡ decide mine c helped
+  decide-help t h a f = f ∙ rw (← e, ← compared, t, le-ltb (own .cnt) (c .cnt) h)

@@ -1,9 +1,9 @@
 -- The questions of a single claim as the code puts them (src/claim.rt): one law for each way that the code goes. Assumes nothing.
 use mathlib.Core.Path.{_≡_, refl}
-use mathlib.Core.Bool.{Bool, true, false}
+use mathlib.Core.Bool.{Bool, true, false, not}
 use Prim.Native.Nat.{ℕ, _+_, _-_, _≤_, _<_}
 use native.Mathlib.Omega.{arith}
-use borrow.Author.Tests.{le-leb, lt-leb, leb-true, leb-false, eq-eqb, ne-eqb}
+use borrow.Author.Tests.{le-leb, lt-leb, leb-true, leb-false, eq-eqb, ne-eqb, not-true, not-false}
 use lib.Bits.{bitXor}
 use lib.Dec.{leb, eqb}
 use Rattle.keys.specs.Store.{limit}
@@ -53,21 +53,25 @@ module _ (c : Claim) where
   unfolding judged
   judged-2 h = rw (lt-leb (c .lo) (c .hi) h)
 
-  pub judged-3 : c .lo ≤ c .hi → question3 c .yes ≡ false → 3 ≡ judged c
-  unfolding judged
-  judged-3 h e = rw (le-leb (c .lo) (c .hi) h, e)
+  -- by what the code was told of 3, 4 and 5
+  module _ (ordered : c .lo ≤ c .hi) (counted : Bool) (three : counted ≡ question3 c .yes) where
+    pub judged-3 : not counted ≡ true → 3 ≡ judged c
+    unfolding judged
+    judged-3 e = rw (le-leb (c .lo) (c .hi) ordered, ← three, not-true counted e)
 
-  pub judged-4 : c .lo ≤ c .hi → question3 c .yes ≡ true → question4 c .yes ≡ false → 4 ≡ judged c
-  unfolding judged
-  judged-4 h e f = rw (le-leb (c .lo) (c .hi) h, e, f)
+    module _ (counts : not counted ≡ false) (spanned : Bool) (four : spanned ≡ question4 c .yes) where
+      pub judged-4 : not spanned ≡ true → 4 ≡ judged c
+      unfolding judged
+      judged-4 e = rw (le-leb (c .lo) (c .hi) ordered, ← three, not-false counted counts, ← four, not-true spanned e)
 
-  pub judged-5 : c .lo ≤ c .hi → question3 c .yes ≡ true → question4 c .yes ≡ true → question5 c .yes ≡ false → 5 ≡ judged c
-  unfolding judged
-  judged-5 h e f g = rw (le-leb (c .lo) (c .hi) h, e, f, g)
+      module _ (spans : not spanned ≡ false) (summed : Bool) (five : summed ≡ question5 c .yes) where
+        pub judged-5 : not summed ≡ true → 5 ≡ judged c
+        unfolding judged
+        judged-5 e = rw (le-leb (c .lo) (c .hi) ordered, ← three, not-false counted counts, ← four, not-false spanned spans, ← five, not-true summed e)
 
-  pub judged-0 : c .lo ≤ c .hi → question3 c .yes ≡ true → question4 c .yes ≡ true → question5 c .yes ≡ true → 0 ≡ judged c
-  unfolding judged
-  judged-0 h e f g = rw (le-leb (c .lo) (c .hi) h, e, f, g)
+        pub judged-0 : not summed ≡ false → 0 ≡ judged c
+        unfolding judged
+        judged-0 e = rw (le-leb (c .lo) (c .hi) ordered, ← three, not-false counted counts, ← four, not-false spanned spans, ← five, not-false summed e)
 
 -- equal in all four fields
 module _ (c d : Claim) where

@@ -1,57 +1,96 @@
--- What the calls on a lent run mean where the run is a store in order (specs/Lent against specs/Claim and Reply): the run of `storeOf l` for rising
--- keys l, and their number as the count. The crates above prove their loops from these. In order: a claim heard; a claim made; the answer; the reply.
+-- What the calls on a lent run mean (specs/Lent against specs/Claim and Reply): of any store, what a refusal leaves; and of a store in order, `storeOf l`
+-- for rising keys l, the rule. The crates above prove their loops from these. In order: a claim heard; a claim made; the answer; the reply.
 -- Assumes nothing.
-use mathlib.Core.Path.{_≡_, refl, _∙_, ap, ap₂}
+use mathlib.Core.Path.{_≡_, refl, sym, _∙_, ap, ap₂}
+use mathlib.Core.Logic.{⊎-elim}
 use mathlib.Core.Bool.{Bool, true, false, cond, _&&_, and-true}
-use mathlib.Core.List.{List, List·Memᴰ}
+use mathlib.Core.List.{List, [], _∷_, List·Memᴰ}
 use Prim.Native.Nat.{ℕ, _+_, _-_, _≤_, _<_}
 use native.Mathlib.Omega.{arith}
-use borrow.Author.Tests.{lt-ltb, le-leb, leb-true, ltb-true, ltb-false}
+use borrow.Author.Tests.{lt-ltb, le-leb, leb-true, ltb-true, ltb-false, ne-eqb}
 use lib.Dec.{ltb, leb}
 use lib.ListN.{length, drop, getD, length-drop, List·getD-append}
 use lib.Seq.{take-append-le, drop-append-le}
+use Rattle.keys.specs.declared.lent.Place.{Place}
+use Rattle.keys.specs.declared.store.Store.{Store}
 use Rattle.keys.specs.Store.{limit, zeros, storeOf, position}
-use Rattle.keys.specs.Lent.{addedAt, noRoom}
-use Rattle.keys.proofs.Tests.{and-left, and-right, and-both}
+use Rattle.keys.specs.Lent.{placeIn, Grown, grown, addBothIn}
+use Rattle.keys.proofs.Tests.{and-left, and-right, and-both, eq-or-ne}
 use Rattle.keys.proofs.Rising.{Rising}
 use Rattle.keys.proofs.Position.{position-mono, getD-position}
-use Rattle.keys.proofs.Order.{keys-storeOf, length-keys-storeOf}
-use Rattle.keys.proofs.LentLaws.{addBoth-fits, addBoth-full, keysBoth-fits, keysBoth-full, keysBoth-refused}
+use Rattle.keys.proofs.Order.{keys-storeOf, count-storeOf, length-keys-storeOf}
+use Rattle.keys.proofs.LentLaws.{placeIn-store, addBothIn-fits, addBothIn-full, Laid, addBothIn-laid}
 use Rattle.claims.specs.declared.answer.Answer.{Answer}
 use Rattle.claims.specs.declared.answer.Answer.the-variants.{Refused, Match, Ask, One, Two}
 use Rattle.claims.specs.declared.answer.Made.{Made}
+use Rattle.claims.specs.declared.answer.Replied.{Replied}
 use Rattle.claims.specs.declared.claim.Claim.{Claim}
 use Rattle.claims.specs.Claim.{span, xorAll, claimOf, noClaim}
-use Rattle.claims.specs.Reply.{hear, own, same, decide, half, help, answer, reply}
-use Rattle.claims.specs.Lent.{hearIn, keysHearing, within, makeIn, helpIn, answerIn, replyIn}
-use Rattle.claims.proofs.QuestionLaws.{Passes}
+use Rattle.claims.specs.Question.{question, firstNo, claimQuestions}
+use Rattle.claims.specs.Reply.{hear, own, same, decide, half, help, answer, reply, numberOf}
+use Rattle.claims.specs.Call.{judged}
+use Rattle.claims.specs.Lent.{hearQuestions, Hearing, heard, unheard, hearIn, within, makeIn, helpIn, answerAt, answerIn, replyIn}
+use Rattle.claims.proofs.QuestionLaws.{Passes, firstNo-append-zero, firstNo-append-no, settle-kept, claimQuestions-numbered, passes-firstNo, judged-firstNo}
 use Rattle.claims.proofs.ClaimLaws.{claim-ext}
-use Rattle.claims.proofs.ReplyLaws.{hear-rising, hear-lo, hear-hi, helper-positions}
+use Rattle.claims.proofs.ReplyLaws.{numberOf-help, numberOf-decide, hear-rising, hear-lo, hear-hi, helper-positions}
 
--- ---- a claim heard
+-- ---- a claim heard, by any store
 
-module _ (l : List ℕ) (rise : Rising l) (c : Claim) (ordered : c .lo ≤ c .hi) where
+module _ (s : Store) (c : Claim) where
+  pub hearIn-judged : (judged c ≡ 0 → ⊥) → hearIn s c ≡ unheard s (judged c)
+  unfolding hearIn judged
+  hearIn-judged f = rw (firstNo-append-no (claimQuestions c) (question 6 (addBothIn s (c .lo) (c .hi) .fits) ∷ []) f, ne-eqb (firstNo (claimQuestions c)) 0 f)
+
+  module _ (pass : judged c ≡ 0) where
+    -- what is left to ask is 6
+    only-6 : firstNo (hearQuestions s c) ≡ cond (addBothIn s (c .lo) (c .hi) .fits) 0 6
+    unfolding judged
+    only-6 = firstNo-append-zero (claimQuestions c) (question 6 (addBothIn s (c .lo) (c .hi) .fits) ∷ []) (claimQuestions-numbered c) pass
+
+    pub hearIn-unfit : addBothIn s (c .lo) (c .hi) .fits ≡ false → hearIn s c ≡ unheard s 6
+    unfolding hearIn
+    hearIn-unfit e = let six : firstNo (hearQuestions s c) ≡ 6 = only-6 ∙ rw e in rw six
+
+    pub hearIn-fit : addBothIn s (c .lo) (c .hi) .fits ≡ true → hearIn s c ≡ heard (addBothIn s (c .lo) (c .hi))
+    unfolding hearIn
+    hearIn-fit e = let none : firstNo (hearQuestions s c) ≡ 0 = only-6 ∙ rw e in rw none
+
+  -- refused: the store is what it was
+  pub hearIn-kept : (hearIn s c .number ≡ 0 → ⊥) → hearIn s c .store ≡ s
+  unfolding hearIn
+  hearIn-kept = settle-kept (λ (h : Hearing). h .number) (λ (h : Hearing). h .store) (heard (addBothIn s (c .lo) (c .hi))) (unheard s) refl (λ n. refl)
+      (firstNo (hearQuestions s c))
+
+  -- not refused: lo and hi stand at positions of the store
+  pub hearIn-laid : hearIn s c .number ≡ 0 → Laid (record { fits = true; store = hearIn s c .store; first = hearIn s c .first; last = hearIn s c .last })
+  hearIn-laid e = ⊎-elim
+      {C = Laid (record { fits = true; store = hearIn s c .store; first = hearIn s c .first; last = hearIn s c .last })}
+      (λ (pass : judged c ≡ 0). fitting pass (addBothIn s (c .lo) (c .hi) .fits) refl)
+      (λ f. absurd (f (sym (ap (λ (h : Hearing). h .number) (hearIn-judged f)) ∙ e)))
+      (eq-or-ne (judged c) 0)
+    where
+      fitting : judged c ≡ 0 → (t : Bool) → addBothIn s (c .lo) (c .hi) .fits ≡ t
+          → Laid (record { fits = true; store = hearIn s c .store; first = hearIn s c .first; last = hearIn s c .last })
+      fitting pass true f =
+          let h = hearIn-fit pass f in
+          let l = addBothIn-laid s (c .lo) (c .hi) f in
+          rw h (record { rise = l .rise; inside = l .inside; short = l .short })
+      fitting pass false f = absurd (let z : 6 ≡ 0 = sym (ap (λ (h : Hearing). h .number) (hearIn-unfit pass f)) ∙ e in omega arith)
+
+-- ---- a claim heard, by a store in order
+
+module _ (l : List ℕ) (rise : Rising l) (c : Claim) (good : Passes c) where
+  passed : judged c ≡ 0
+  passed = judged-firstNo c ∙ passes-firstNo c good
+
   pub hearIn-fits : length (hear c l) ≤ limit
-      → hearIn (storeOf l .keys) (length l) c ≡ addedAt (length (hear c l)) (position (c .lo) (hear c l)) (position (c .hi) (hear c l))
-  unfolding hearIn
-  hearIn-fits h = addBoth-fits l rise (c .lo) (c .hi) ordered h
+      → hearIn (storeOf l) c ≡ heard (grown (storeOf (hear c l)) (position (c .lo) (hear c l)) (position (c .hi) (hear c l)))
+  hearIn-fits h =
+      let g = addBothIn-fits l rise (c .lo) (c .hi) (good .ordered) h in
+      hearIn-fit (storeOf l) c passed (ap (λ (x : Grown). x .fits) g) ∙ ap heard g
 
-  pub keysHearing-fits : length (hear c l) ≤ limit → keysHearing (storeOf l .keys) (length l) c ≡ storeOf (hear c l) .keys
-  unfolding keysHearing
-  keysHearing-fits h = keysBoth-fits l rise (c .lo) (c .hi) ordered h
-
-  pub hearIn-full : limit < length (hear c l) → hearIn (storeOf l .keys) (length l) c ≡ noRoom (length l)
-  unfolding hearIn
-  hearIn-full h = addBoth-full l rise (c .lo) (c .hi) ordered h
-
-  pub keysHearing-full : limit < length (hear c l) → keysHearing (storeOf l .keys) (length l) c ≡ storeOf l .keys
-  unfolding keysHearing
-  keysHearing-full h = keysBoth-full l rise (c .lo) (c .hi) ordered h
-
--- where there is no room for its ends, nothing is added to any run
-pub keysHearing-refused : (keys : List ℕ) (count : ℕ) (c : Claim) → (hearIn keys count c .number ≡ 0 → ⊥) → keysHearing keys count c ≡ keys
-unfolding hearIn keysHearing
-keysHearing-refused keys count c f = keysBoth-refused keys count (c .lo) (c .hi) f
+  pub hearIn-full : limit < length (hear c l) → hearIn (storeOf l) c ≡ unheard (storeOf l) 6
+  hearIn-full h = hearIn-unfit (storeOf l) c passed (ap (λ (x : Grown). x .fits) (addBothIn-full l rise (c .lo) (c .hi) (good .ordered) h))
 
 -- ---- a claim made
 
@@ -69,11 +108,11 @@ claimOf-store l i j h g =
     claim-ext (claimOf i j (storeOf l .keys)) (claimOf i j l) (getD-store l i (omega arith)) (getD-store l j g) (ap xorAll (span-store l i j h g)) refl
 
 module _ (l : List ℕ) (short : length l ≤ limit) where
-  pub within-store : (i j : ℕ) → within (storeOf l .keys) (length l) i j ≡ (leb i j && ltb j (length l))
+  pub within-store : (i j : ℕ) → within (storeOf l) i j ≡ (leb i j && ltb j (length l))
   within-store i j =
-      rw (length-keys-storeOf l short, le-leb (length l) limit short) (ap (λ (t : Bool). leb i j && t) (and-true (ltb j (length l))))
+      rw (count-storeOf l, length-keys-storeOf l short, le-leb (length l) limit short) (ap (λ (t : Bool). leb i j && t) (and-true (ltb j (length l))))
 
-  pub makeIn-store : (i j : ℕ) → makeIn (storeOf l .keys) (length l) i j
+  pub makeIn-store : (i j : ℕ) → makeIn (storeOf l) i j
       ≡ cond (leb i j && ltb j (length l)) (record { number = 0; claim = claimOf i j l }) (record { number = 7; claim = noClaim })
   unfolding makeIn
   makeIn-store i j = rw (within-store i j) (go (leb i j && ltb j (length l)) refl)
@@ -86,7 +125,17 @@ module _ (l : List ℕ) (short : length l ≤ limit) where
           (claimOf-store l i j (leb-true i j (and-left (leb i j) (ltb j (length l)) e)) (ltb-true j (length l) (and-right (leb i j) (ltb j (length l)) e)))
       go false e = refl
 
--- ---- the answer, where lo and hi are held
+-- ---- the answer
+
+-- it is no refusal, whatever the keys are
+pub answerAt-number : (keys : List ℕ) (first last : ℕ) (c : Claim) → numberOf (answerAt keys first last c) ≡ 0
+answerAt-number keys first last c = numberOf-decide (claimOf first last keys) c (helpIn keys first last) (go (ltb (first + 1) last))
+  where
+    go : (t : Bool) → numberOf (cond t (help (first + 1) (last - 1) keys) Match) ≡ 0
+    go true = numberOf-help (first + 1) (last - 1) keys
+    go false = refl
+
+-- where lo and hi are held
 
 pub help-store : (l : List ℕ) (a b : ℕ) → a ≤ b → b < length l → help a b (storeOf l .keys) ≡ help a b l
 help-store l a b h g = go (ltb (b - a) 3) refl
@@ -117,26 +166,48 @@ module _ (l : List ℕ) (short : length l ≤ limit) (rise : Rising l) (c : Clai
       rw (lt-ltb (position (c .lo) l + 1) (position (c .hi) l) (omega arith))
       (help-store l (position (c .lo) l + 1) (position (c .hi) l - 1) room (omega (arith, last-lt)))
 
-  pub answerIn-store : answerIn (storeOf l .keys) (length l) (position (c .lo) l) (position (c .hi) l) c ≡ answer c l
-  unfolding answerIn answer
+  pub answerAt-store : answerAt (storeOf l .keys) (position (c .lo) l) (position (c .hi) l) c ≡ answer c l
+  unfolding answer
+  answerAt-store =
+      ap (λ (o : Claim). decide o c (helpIn (storeOf l .keys) (position (c .lo) l) (position (c .hi) l)))
+      (claimOf-store l (position (c .lo) l) (position (c .hi) l) first-le-last last-lt)
+      ∙ decide-store (same (own c l) c) (ltb (own c l .cnt) (c .cnt)) refl refl
+
+  -- where a key is sought
+  place : (k : ℕ) → placeIn (storeOf l .keys) (storeOf l .count) k .at ≡ position k l
+  place k = rw (count-storeOf l) (ap (λ (p : Place). p .at) (placeIn-store l rise k))
+
+  pub answerIn-store : answerIn (storeOf l) c ≡ answer c l
+  unfolding answerIn
   answerIn-store =
-      let w : within (storeOf l .keys) (length l) (position (c .lo) l) (position (c .hi) l) ≡ true =
+      let w : within (storeOf l) (position (c .lo) l) (position (c .hi) l) ≡ true =
       within-store l short (position (c .lo) l) (position (c .hi) l)
-      ∙ and-both (leb (position (c .lo) l) (position (c .hi) l)) (ltb (position (c .hi) l) (length l)) (le-leb (position (c .lo) l) (position (c .hi) l) first-le-last) (lt-ltb (position (c .hi) l) (length l) last-lt) in
-      ap (λ (t : Bool). cond t (decide (claimOf (position (c .lo) l) (position (c .hi) l) (storeOf l .keys)) c (helpIn (storeOf l .keys) (position (c .lo) l) (position (c .hi) l))) (Refused 7)) w
-      ∙ (ap (λ (o : Claim). decide o c (helpIn (storeOf l .keys) (position (c .lo) l) (position (c .hi) l))) (claimOf-store l (position (c .lo) l) (position (c .hi) l) first-le-last last-lt)
-      ∙ decide-store (same (own c l) c) (ltb (own c l .cnt) (c .cnt)) refl refl)
+      ∙ and-both (leb (position (c .lo) l) (position (c .hi) l)) (ltb (position (c .hi) l) (length l))
+      (le-leb (position (c .lo) l) (position (c .hi) l) first-le-last) (lt-ltb (position (c .hi) l) (length l) last-lt) in
+      rw (place (c .lo), place (c .hi), w) answerAt-store
 
 -- ---- the reply
 
+module _ (s : Store) (c : Claim) where
+  -- refused: the store is what it was
+  pub replyIn-kept : (numberOf (replyIn s c .answer) ≡ 0 → ⊥) → replyIn s c .store ≡ s
+  unfolding replyIn
+  replyIn-kept = settle-kept (λ (r : Replied). numberOf (r .answer)) (λ (r : Replied). r .store)
+      (record { store = hearIn s c .store; answer = answerAt (hearIn s c .store .keys) (hearIn s c .first) (hearIn s c .last) c })
+      (λ n. record { store = s; answer = Refused n })
+      (answerAt-number (hearIn s c .store .keys) (hearIn s c .first) (hearIn s c .last) c) (λ n. refl) (hearIn s c .number)
+
+  pub replyIn-judged : (judged c ≡ 0 → ⊥) → replyIn s c ≡ record { store = s; answer = Refused (judged c) }
+  unfolding replyIn
+  replyIn-judged f = rw (hearIn-judged s c f, ne-eqb (judged c) 0 f)
+
 module _ (l : List ℕ) (rise : Rising l) (c : Claim) (good : Passes c) where
-  pub replyIn-fits : length (hear c l) ≤ limit
-      → replyIn (storeOf l .keys) (length l) c ≡ record { count = length (hear c l); answer = reply c l }
+  pub replyIn-fits : length (hear c l) ≤ limit → replyIn (storeOf l) c ≡ record { store = storeOf (hear c l); answer = reply c l }
   unfolding replyIn
   replyIn-fits h =
-      rw (hearIn-fits l rise c (good .ordered) h, keysHearing-fits l rise c (good .ordered) h)
-      (ap (λ (a : Answer). record { count = length (hear c l); answer = a }) (answerIn-store (hear c l) h (hear-rising c l rise) c good (hear-lo c l) (hear-hi c l)))
+      rw (hearIn-fits l rise c good h)
+      (ap (λ (a : Answer). record { store = storeOf (hear c l); answer = a }) (answerAt-store (hear c l) h (hear-rising c l rise) c good (hear-lo c l) (hear-hi c l)))
 
-  pub replyIn-full : limit < length (hear c l) → replyIn (storeOf l .keys) (length l) c ≡ record { count = length l; answer = Refused 6 }
+  pub replyIn-full : limit < length (hear c l) → replyIn (storeOf l) c ≡ record { store = storeOf l; answer = Refused 6 }
   unfolding replyIn
-  replyIn-full h = rw (hearIn-full l rise c (good .ordered) h)
+  replyIn-full h = rw (hearIn-full l rise c good h)

@@ -8,8 +8,9 @@
 --   Cases         the twelve lettered cases
 -- The laws of the code. Not cited from outside, but for LentLaws.
 --   Summing, HalfSums   the sums of a run and of its halves
---   Judging, Lending    each way that the code of src/claim.rt and src/lent.rt goes
---   LentLaws      what the calls on a lent run mean where the run is a store in order
+--   Judging       each way that the code of src/claim.rt goes
+--   LentLaws      what the calls on a lent run mean
+--   Lending       each way that the code of src/lent.rt goes
 --   Calling       each way that the code of src/calls.rt goes
 pub mod Xor
 pub mod Between
@@ -21,6 +22,6 @@ pub mod Cases
 mod Summing
 mod Judging
 mod HalfSums
-mod Lending
 pub mod LentLaws
+mod Lending
 mod Calling

@@ -61,6 +61,16 @@ settle-done n done refused e = rw (eq-eqb n 0 e)
 pub settle-refused : {A : Type 0} (n : ℕ) (done : A) (refused : ℕ → A) → (n ≡ 0 → ⊥) → settle n done refused ≡ refused n
 settle-refused n done refused f = rw (ne-eqb n 0 f)
 
+-- The law of all calls on a lent run that refuse by number: where `done` has the number 0, and a refusal keeps what was given, a number other than 0
+-- means that what was given is kept.
+pub settle-kept : {A B : Type 0} {given : B} (number : A → ℕ) (kept : A → B) (done : A) (refused : ℕ → A)
+    → number done ≡ 0 → ((n : ℕ) → kept (refused n) ≡ given) → (n : ℕ) → (number (settle n done refused) ≡ 0 → ⊥) → kept (settle n done refused) ≡ given
+settle-kept {given = given} number kept done refused zero same n = go (eqb n 0)
+  where
+    go : (t : Bool) → (number (cond t done (refused n)) ≡ 0 → ⊥) → kept (cond t done (refused n)) ≡ given
+    go true f = absurd (f zero)
+    go false f = same n
+
 -- ---- a claim that passes 2 to 5
 
 pub record Passes (c : Claim) : Type 0 where

@@ -21,7 +21,7 @@ use Rattle.claims.specs.declared.claim.Claim.{Claim}
 use Rattle.claims.specs.declared.answer.Answer.{Answer}
 use Rattle.claims.specs.declared.answer.Answer.the-variants.{Refused, Match, Ask, One, Two}
 use Rattle.claims.specs.Claim.{span, xorAll, claimOf, between}
-use Rattle.claims.specs.Reply.{adding, hear, own, same, half, help, answer, reply, numberOf, claimsOf, matches, sameKeys, falseMatch}
+use Rattle.claims.specs.Reply.{adding, hear, own, same, half, help, decide, answer, reply, numberOf, claimsOf, matches, sameKeys, falseMatch}
 use Rattle.claims.proofs.Xor.{xorAll-one, xorAll-two}
 use Rattle.claims.proofs.Between.{inside, mem-between, between-one, between-inside, length-between-inside, between-rising, between-sub}
 use Rattle.claims.proofs.Span.{first, last, first-between, last-between, first-span, last-span, length-span, span-join, between-span, span-inside}
@@ -218,18 +218,25 @@ pub reply-answered : (c : Claim) (l : List ℕ) → Rising l → Passes c → An
 reply-answered c l r p = answered c (hear c l) (hear-rising c l r) p (hear-lo c l) (hear-hi c l)
 
 -- no answer is a refusal
-pub numberOf-answer : (c : Claim) (l : List ℕ) → numberOf (answer c l) ≡ 0
-unfolding answer
-numberOf-answer c l = go (same (own c l) c) (ltb (own c l .cnt) (c .cnt))
+pub numberOf-help : (a b : ℕ) (l : List ℕ) → numberOf (help a b l) ≡ 0
+numberOf-help a b l = go (ltb (b - a) 3)
   where
-    help-number : (a b : ℕ) (v : Bool) → numberOf (cond v (One (claimOf a b l)) (Two (claimOf a (a + half a b) l) (claimOf (a + half a b + 1) b l))) ≡ 0
-    help-number a b true = refl
-    help-number a b false = refl
+    go : (t : Bool) → numberOf (cond t (One (claimOf a b l)) (Two (claimOf a (a + half a b) l) (claimOf (a + half a b + 1) b l))) ≡ 0
+    go true = refl
+    go false = refl
 
-    go : (t u : Bool) → numberOf (cond t Match (cond u (Ask (own c l)) (help (position (c .lo) l + 1) (position (c .hi) l - 1) l))) ≡ 0
+pub numberOf-decide : (mine c : Claim) (helped : Answer) → numberOf helped ≡ 0 → numberOf (decide mine c helped) ≡ 0
+numberOf-decide mine c helped e = go (same mine c) (ltb (mine .cnt) (c .cnt))
+  where
+    go : (t u : Bool) → numberOf (cond t Match (cond u (Ask mine) helped)) ≡ 0
     go true u = refl
     go false true = refl
-    go false false = help-number (position (c .lo) l + 1) (position (c .hi) l - 1) (ltb (position (c .hi) l - 1 - (position (c .lo) l + 1)) 3)
+    go false false = e
+
+pub numberOf-answer : (c : Claim) (l : List ℕ) → numberOf (answer c l) ≡ 0
+unfolding answer
+numberOf-answer c l =
+    numberOf-decide (own c l) c (help (position (c .lo) l + 1) (position (c .hi) l - 1) l) (numberOf-help (position (c .lo) l + 1) (position (c .hi) l - 1) l)
 
 -- ---- the claims of a reply
 

@@ -2,6 +2,7 @@
 -- "A refusal returns its number, the given store or node, and zeros for any claim or count." Assumes nothing.
 use Prim.Native.Nat.{ℕ}
 use mathlib.Core.List.{List, [], _∷_, _++_}
+use mathlib.Core.Path.{_≡_}
 use Rattle.keys.specs.declared.store.Store.{Store}
 use Rattle.keys.specs.Store.{keysOf, storeOf, insert}
 use Rattle.claims.specs.declared.claim.Claim.{Claim}
@@ -11,7 +12,7 @@ use Rattle.claims.specs.declared.answer.Replied.{Replied}
 use Rattle.claims.specs.declared.answer.Answer.the-variants.{Refused}
 use Rattle.claims.specs.Claim.{claimOf, noClaim}
 use Rattle.claims.specs.Question.{Question, firstNo, settle, question1, question6, question7, claimQuestions}
-use Rattle.claims.specs.Reply.{ends, hear, reply}
+use Rattle.claims.specs.Reply.{ends, hear, reply, numberOf}
 
 -- the questions of a single claim: 2 to 5
 unfoldable pub judged : Claim → ℕ
@@ -46,3 +47,8 @@ replied s c =
     settle (firstNo (replyQuestions s c))
     (record { store = storeOf (hear c (keysOf s)); answer = reply c (keysOf s) })
     (λ n. record { store = s; answer = Refused n })
+
+-- What `reply` promises: the answer and the store, and that the number which the answer stands for is that of the first question answered no.
+pub record Replying (s : Store) (c : Claim) (r : Replied) : Type 0 where
+  pub result : r ≡ replied s c
+  pub number : numberOf (r .answer) ≡ firstNo (replyQuestions s c)

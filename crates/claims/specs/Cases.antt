@@ -4,15 +4,17 @@ use Prim.Native.Nat.{ℕ}
 use mathlib.Core.Bool.{Bool, true}
 use mathlib.Core.List.{List, [], _∷_}
 use Rattle.keys.specs.declared.store.Store.{Store}
-use Rattle.keys.specs.Store.{emptyStore, storeOf}
+use Rattle.keys.specs.Store.{limit, zeros, emptyStore, storeOf}
+use Rattle.keys.specs.Lent.{storeWith}
 use Rattle.claims.specs.declared.claim.Claim.{Claim}
 use Rattle.claims.specs.declared.answer.Answer.{Answer}
-use Rattle.claims.specs.declared.answer.Answer.the-variants.{Match, Ask, One, Two}
+use Rattle.claims.specs.declared.answer.Answer.the-variants.{Refused, Match, Ask, One, Two}
 use Rattle.claims.specs.declared.answer.Made.{Made}
 use Rattle.claims.specs.declared.answer.Replied.{Replied}
 use Rattle.claims.specs.Claim.{between}
 use Rattle.claims.specs.Reply.{falseMatch}
 use Rattle.claims.specs.Call.{made, replied, judged}
+use Rattle.claims.specs.Lent.{replyIn}
 
 -- what a row compares: a reply with its store, a claim that was made, the number of a claim's first no, or whether a match is false
 pub data Outcome : Type 0 where
@@ -74,4 +76,20 @@ table =
     ∷ refuses (claim 5 2000 0 1025) 3
     -- l. (9, 5, 12, 2): 2.
     ∷ refuses (claim 9 5 12 2) 2
+    ∷ []
+
+-- ---- a refusal never writes: the reply on a lent run, of any content
+
+-- a store hears a claim, is refused with the number n, and is what it was
+abbrev pub unmoved : Store → Claim → ℕ → Row
+unmoved s c n = record { gives = reply-is (replyIn s c); wanted = reply-is (record { store = s; answer = Refused n }) }
+
+abbrev pub lentTable : List Row
+lentTable =
+    -- lo above hi, and 3, 4 and 5 answered no as well: 2 is the first
+    unmoved (storeOf (3 ∷ 5 ∷ 9 ∷ [])) (claim 9 4 0 7) 2
+    -- case l
+    ∷ unmoved (storeOf (3 ∷ 5 ∷ 9 ∷ [])) (claim 9 5 12 2) 2
+    -- a run that is out of order and full
+    ∷ unmoved (storeWith (zeros limit) limit) (claim 4 7 0 3) 6
     ∷ []

@@ -1,40 +1,72 @@
--- The calls on a lent run of keys that hear and make claims, for any content of the run, as in `keys`, specs/Lent: question 1 is not theirs, and they
--- are no rule of document 01.
--- What they mean where the run is a store in order is said by laws (proofs/LentLaws), by the definitions of Store, Claim and Reply. Assumes nothing.
+-- The calls on a lent run of keys that hear and make claims, for any content of the run: each by one equation over the store that the run and its
+-- count make up (`storeWith` of `keys`), as in `keys`, specs/Lent. Question 1 is not theirs, and they are no rule of document 01. Whatever can be refused
+-- is asked before the first write, so a number other than 0 means that the store is what it was (`hearIn-kept`, `replyIn-kept` of proofs/LentLaws).
+-- What they mean where the store is in order is said by laws (proofs/LentLaws), by the definitions of Store, Claim and Reply. Assumes nothing.
 use mathlib.Core.Path.{_≡_}
 use Prim.Native.Nat.{ℕ, _+_, _-_, _/_, _≤_, _<_}
 use mathlib.Core.Bool.{Bool, cond, _&&_}
-use mathlib.Core.List.{List}
-use lib.Dec.{ltb, leb, eqb}
+use mathlib.Core.List.{List, [], _∷_, _++_}
+use lib.Dec.{ltb, leb}
 use lib.ListN.{length, take, drop}
-use Rattle.keys.specs.declared.lent.Added.{Added}
+use Rattle.keys.specs.declared.store.Store.{Store}
 use Rattle.keys.specs.Store.{limit}
-use Rattle.keys.specs.Lent.{addBoth, keysBoth}
+use Rattle.keys.specs.Lent.{placeIn, storeWith, Grown, addBothIn}
 use Rattle.claims.specs.declared.claim.Claim.{Claim}
 use Rattle.claims.specs.declared.answer.Answer.{Answer}
-use Rattle.claims.specs.declared.answer.Answer.the-variants.{Refused}
+use Rattle.claims.specs.declared.answer.Answer.the-variants.{Refused, Match}
 use Rattle.claims.specs.declared.answer.Made.{Made}
+use Rattle.claims.specs.declared.answer.Replied.{Replied}
+use Rattle.claims.specs.declared.lent.Heard.{Heard}
 use Rattle.claims.specs.declared.lent.Told.{Told}
 use Rattle.claims.specs.Claim.{claimOf, noClaim, xorAll}
+use Rattle.claims.specs.Question.{Question, question, firstNo, settle, claimQuestions}
 use Rattle.claims.specs.Reply.{decide, help}
 
--- `hear_in`: what hearing a claim adds, its ends
-unfoldable pub hearIn : List ℕ → ℕ → Claim → Added
-hearIn keys count c = addBoth keys count (c .lo) (c .hi)
+-- ---- a claim heard
 
-unfoldable pub keysHearing : List ℕ → ℕ → Claim → List ℕ
-keysHearing keys count c = keysBoth keys count (c .lo) (c .hi)
+-- what is asked where a store hears a claim: 2 to 5, and 6, whether its ends fit
+abbrev pub hearQuestions : Store → Claim → List Question
+hearQuestions s c = claimQuestions c ++ (question 6 (addBothIn s (c .lo) (c .hi) .fits) ∷ [])
+
+-- what hearing gives: the number of the first question answered no, the store then, and where lo and hi stand in it
+pub record Hearing : Type 0 where
+  pub number : ℕ
+  pub store : Store
+  pub first : ℕ
+  pub last : ℕ
+
+-- that, by the run as it is then and what the call returns
+abbrev pub hearingWith : List ℕ → Heard → Hearing
+hearingWith keys h = record { number = h .number; store = storeWith keys (h .count); first = h .first; last = h .last }
+
+abbrev pub heard : Grown → Hearing
+heard g = record { number = 0; store = g .store; first = g .first; last = g .last }
+
+abbrev pub unheard : Store → ℕ → Hearing
+unheard s n = record { number = n; store = s; first = 0; last = 0 }
+
+-- what the call returns then
+abbrev pub notHeard : ℕ → ℕ → Heard
+notHeard n count = record { number = n; count = count; first = 0; last = 0 }
+
+-- `hear_in`: what hearing a claim adds, its ends
+unfoldable pub hearIn : Store → Claim → Hearing
+hearIn s c = settle (firstNo (hearQuestions s c)) (heard (addBothIn s (c .lo) (c .hi))) (unheard s)
+
+-- ---- a claim made
 
 -- is first ≤ last < count, within the run and the limit?
-abbrev pub within : List ℕ → ℕ → ℕ → ℕ → Bool
-within keys count first last = leb first last && (ltb last count && (leb count (length keys) && leb count limit))
+abbrev pub within : Store → ℕ → ℕ → Bool
+within s first last = leb first last && (ltb last (s .count) && (leb (s .count) (length (s .keys)) && leb (s .count) limit))
 
 -- `make_in`: the claim of two positions; 7 where they are not positions
-unfoldable pub makeIn : List ℕ → ℕ → ℕ → ℕ → Made
-makeIn keys count first last =
-    cond (within keys count first last)
-    (record { number = 0; claim = claimOf first last keys })
+unfoldable pub makeIn : Store → ℕ → ℕ → Made
+makeIn s first last =
+    cond (within s first last)
+    (record { number = 0; claim = claimOf first last (s .keys) })
     (record { number = 7; claim = noClaim })
+
+-- ---- the answer
 
 -- where the second half of the positions first to last begins: after the first of two claims that help
 abbrev pub middle : ℕ → ℕ → ℕ
@@ -52,24 +84,31 @@ pub record Halves (keys : List ℕ) (first last left right : ℕ) : Type 0 where
   pub left-sum : left ≡ xorAll (take (middle first last - first) (drop first keys))
   pub right-sum : right ≡ xorAll (take (last + 1 - middle first last) (drop (middle first last) keys))
 
--- the help of a store whose lo and hi stand at first and last; 7 where there is no position between them
+-- The help of keys among which lo and hi stand at first and last. With no position between them there is nothing to help with: a claim that passed 4
+-- and 5 is own.
 abbrev pub helpIn : List ℕ → ℕ → ℕ → Answer
-helpIn keys first last = cond (ltb (first + 1) last) (help (first + 1) (last - 1) keys) (Refused 7)
+helpIn keys first last = cond (ltb (first + 1) last) (help (first + 1) (last - 1) keys) Match
 
--- `answer_in`: the answer to a claim whose lo and hi stand at first and last; 7 where these are not positions
-unfoldable pub answerIn : List ℕ → ℕ → ℕ → ℕ → Claim → Answer
-answerIn keys count first last c =
-    cond (within keys count first last)
-    (decide (claimOf first last keys) c (helpIn keys first last))
-    (Refused 7)
+-- the answer to a claim whose lo and hi stand at first and last
+abbrev pub answerAt : List ℕ → ℕ → ℕ → Claim → Answer
+answerAt keys first last c = decide (claimOf first last keys) c (helpIn keys first last)
 
--- what is told of a claim once it is heard, by the run as it is then
-abbrev pub toldAfter : Added → List ℕ → Claim → Told
-toldAfter h keys c =
-    cond (eqb (h .number) 0)
-    (record { count = h .count; answer = answerIn keys (h .count) (h .first) (h .last) c })
-    (record { count = h .count; answer = Refused (h .number) })
+-- `answer_in`: the answer to a claim whose lo and hi are sought, and none is added; 1 where they are not found at positions
+unfoldable pub answerIn : Store → Claim → Answer
+answerIn s c =
+    cond (within s (placeIn (s .keys) (s .count) (c .lo) .at) (placeIn (s .keys) (s .count) (c .hi) .at))
+    (answerAt (s .keys) (placeIn (s .keys) (s .count) (c .lo) .at) (placeIn (s .keys) (s .count) (c .hi) .at) c)
+    (Refused 1)
 
--- `reply_in`: a claim is heard and answered; where there is no room, refused with 6
-unfoldable pub replyIn : List ℕ → ℕ → Claim → Told
-replyIn keys count c = toldAfter (hearIn keys count c) (keysHearing keys count c) c
+-- ---- the reply
+
+-- what a reply gives, by the run as it is then and what the call returns
+abbrev pub repliedWith : List ℕ → Told → Replied
+repliedWith keys t = record { store = storeWith keys (t .count); answer = t .answer }
+
+-- `reply_in`: a claim is heard, and answered by the store as it is then
+unfoldable pub replyIn : Store → Claim → Replied
+replyIn s c =
+    settle (hearIn s c .number)
+    (record { store = hearIn s c .store; answer = answerAt (hearIn s c .store .keys) (hearIn s c .first) (hearIn s c .last) c })
+    (λ n. record { store = s; answer = Refused n })

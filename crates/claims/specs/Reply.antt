@@ -23,7 +23,7 @@ adding c l = ends c
 abbrev pub hear : Claim → List ℕ → List ℕ
 hear c l = insertAll (adding c l) l
 
--- "“Own” is then the claim of this store from lo to hi." Line 20.
+-- "“Own” is then the claim of this store from lo to hi." Line 21.
 abbrev pub own : Claim → List ℕ → Claim
 own c l = claimOf (position (c .lo) l) (position (c .hi) l) l
 
@@ -31,7 +31,7 @@ own c l = claimOf (position (c .lo) l) (position (c .hi) l) l
 abbrev pub same : Claim → Claim → Bool
 same c d = eqb (c .lo) (d .lo) && eqb (c .hi) (d .hi) && eqb (c .sum) (d .sum) && eqb (c .cnt) (d .cnt)
 
--- "If b − a < 3: one claim, a to b. Else with z = (b + 1 − a) div 2: two claims, a to a + z, then a + z + 1 to b." Lines 27 to 34.
+-- "If b − a < 3: one claim, a to b. Else with z = (b + 1 − a) div 2: two claims, a to a + z, then a + z + 1 to b." Lines 30 to 35.
 abbrev pub half : ℕ → ℕ → ℕ
 half a b = (b + 1 - a) / 2
 
@@ -41,11 +41,11 @@ help a b l =
     (One (claimOf a b l))
     (Two (claimOf a (a + half a b) l) (claimOf (a + half a b + 1) b l))
 
--- "Own equals the claim in all four fields: match. cnt greater than own cnt: ask, which carries own. Otherwise help." Lines 21 to 26.
+-- "Own equals the claim in all four fields: match. cnt greater than own cnt: ask, which carries own. Otherwise help." Lines 21 to 28.
 abbrev pub decide : Claim → Claim → Answer → Answer
 decide mine c helped = cond (same mine c) Match (cond (ltb (mine .cnt) (c .cnt)) (Ask mine) helped)
 
--- The answer of a store whose keys l have lo and hi among them. "Let a be the position after lo and b the one before hi."
+-- The answer of a store whose keys l have lo and hi among them. "Let a be the position after lo and b the one before hi." Line 29.
 unfoldable pub answer : Claim → List ℕ → Answer
 answer c l = decide (own c l) c (help (position (c .lo) l + 1) (position (c .hi) l - 1) l)
 
@@ -53,29 +53,47 @@ answer c l = decide (own c l) c (help (position (c .lo) l + 1) (position (c .hi)
 abbrev pub reply : Claim → List ℕ → Answer
 reply c l = answer c (hear c l)
 
--- What each case of an answer stands for: the number of document 01's question that was answered no (0: none was), ..
-abbrev pub numberOf : Answer → ℕ
-numberOf (Refused n) = n
-numberOf Match = 0
-numberOf (Ask c) = 0
-numberOf (One c) = 0
-numberOf (Two c d) = 0
+-- ---- what each case of an answer stands for
 
--- .. and the claims that it carries, in their order
+pub data Kind : Type 0 where
+  refused matched asked helped : Kind
+
+-- its kind, the number of document 01's question that was answered no (0: none was), and the claims that it carries, in their order
+pub record Case : Type 0 where
+  pub kind : Kind
+  pub number : ℕ
+  pub claims : List Claim
+
+abbrev pub caseOf : Answer → Case
+caseOf (Refused n) = record { kind = refused; number = n; claims = [] }
+caseOf Match = record { kind = matched; number = 0; claims = [] }
+caseOf (Ask c) = record { kind = asked; number = 0; claims = c ∷ [] }
+caseOf (One c) = record { kind = helped; number = 0; claims = c ∷ [] }
+caseOf (Two c d) = record { kind = helped; number = 0; claims = c ∷ d ∷ [] }
+
+abbrev pub numberOf : Answer → ℕ
+numberOf a = caseOf a .number
+
 abbrev pub claimsOf : Answer → List Claim
-claimsOf (Refused n) = []
-claimsOf Match = []
-claimsOf (Ask c) = c ∷ []
-claimsOf (One c) = c ∷ []
-claimsOf (Two c d) = c ∷ d ∷ []
+claimsOf a = caseOf a .claims
+
+abbrev pub isMatched : Kind → Bool
+isMatched refused = false
+isMatched matched = true
+isMatched asked = false
+isMatched helped = false
+
+abbrev pub isAsked : Kind → Bool
+isAsked refused = false
+isAsked matched = false
+isAsked asked = true
+isAsked helped = false
 
 -- is it a match?
 abbrev pub matches : Answer → Bool
-matches (Refused n) = false
-matches Match = true
-matches (Ask c) = false
-matches (One c) = false
-matches (Two c d) = false
+matches a = isMatched (caseOf a .kind)
+
+-- ---- a false match
 
 -- are two lists of keys the same?
 abbrev pub sameKeys : List ℕ → List ℕ → Bool

@@ -4,14 +4,13 @@ use crate::answer::Entered;
 use crate::answer::Made;
 use crate::answer::Replied;
 use crate::claim::Claim;
-use crate::claim::judge;
 use crate::lent::make_in;
 use crate::lent::reply_in;
 use keys::Store;
 use keys::add_in;
 use keys::ordered_in;
 ghost use mathlib.Core.Path.{_≡_};
-ghost use Rattle.claims.specs.Call.{entered, made, replied};
+ghost use Rattle.claims.specs.Call.{entered, made, Replying};
 
 // Enters a key. Asks 1 and 6.
 pub fn enter(store: Store, key: u64) -> Entered
@@ -27,8 +26,14 @@ pub fn enter(store: Store, key: u64) -> Entered
     }
     let added = add_in(&mut s.keys, count, key);
     s.count = added.count;
+    if !added.fits {
+        return Entered {
+            number: 6,
+            store: s,
+        };
+    }
     Entered {
-        number: added.number,
+        number: 0,
         store: s,
     }
 }
@@ -41,12 +46,7 @@ pub fn make(store: Store, first: usize, last: usize) -> Made
     if !ordered_in(&store.keys, count) {
         return Made {
             number: 1,
-            claim: Claim {
-                lo: 0,
-                hi: 0,
-                sum: 0,
-                cnt: 0,
-            },
+            claim: Claim::NONE,
         };
     }
     make_in(&store.keys, count, first, last)
@@ -54,7 +54,7 @@ pub fn make(store: Store, first: usize, last: usize) -> Made
 
 // Replies to a claim. Asks 1, 2 to 5 and 6.
 pub fn reply(store: Store, claim: Claim) -> Replied
-    ensures { λ r. ⌜ r ≡ replied store claim ⌝ }
+    ensures { λ r. ⌜ Replying store claim r ⌝ }
 {
     let mut s = store;
     let count = s.count;
@@ -62,13 +62,6 @@ pub fn reply(store: Store, claim: Claim) -> Replied
         return Replied {
             store: s,
             answer: Answer::Refused(1),
-        };
-    }
-    let number = judge(claim);
-    if number != 0 {
-        return Replied {
-            store: s,
-            answer: Answer::Refused(number),
         };
     }
     let told = reply_in(&mut s.keys, count, claim);

@@ -14,6 +14,16 @@ pub struct Claim {
     pub cnt: u16,
 }
 
+impl Claim {
+    // The claim of zeros, which stands where there is none.
+    pub const NONE: Claim = Claim {
+        lo: 0,
+        hi: 0,
+        sum: 0,
+        cnt: 0,
+    };
+}
+
 // The number of the first question of 2 to 5 that the claim answers no, or 0.
 pub fn judge(claim: Claim) -> u8
     ensures { λ r. ⌜ r ≡ judged claim ⌝ }

@@ -1,18 +1,27 @@
-// The calls on a lent run of keys, for the loops of the crate above: no store is copied and question 1 is not put again.
-// Each is total, and says by a definition of specs/Lent what it does to any content.
+// The calls on a lent run of keys that hear and make claims, for the crates above: no store is copied and question 1 is not put again.
+// Each is total, and says by a definition of specs/Lent what it does to any content; where it refuses, it has written nothing.
 use crate::answer::Answer;
 use crate::answer::Made;
 use crate::claim::Claim;
 use crate::claim::alike;
+use crate::claim::judge;
 use crate::sums::sum_of;
 use crate::sums::sums_of;
-use keys::Added;
 use keys::Store;
-use keys::add_both;
+use keys::add_both_in;
+use keys::place_in;
 ghost use mathlib.Core.Path.{_≡_};
 ghost use Rattle.claims.specs.Claim.{span, xorAll, claimOf};
-ghost use Rattle.claims.specs.Reply.{decide};
-ghost use Rattle.claims.specs.Lent.{hearIn, keysHearing, within, Positions, makeIn, Halves, helpIn, answerIn, replyIn};
+ghost use Rattle.keys.specs.Lent.{storeWith};
+ghost use Rattle.claims.specs.Lent.{hearingWith, notHeard, hearIn, within, Positions, makeIn, Halves, helpIn, answerAt, answerIn, repliedWith, replyIn};
+
+// A claim heard: the count then, and where its lo and hi stand; or the number of the first question answered no, and the count as it was.
+pub struct Heard {
+    pub number: u8,
+    pub count: usize,
+    pub first: usize,
+    pub last: usize,
+}
 
 // A claim replied to: the count then, and the answer.
 pub struct Told {
@@ -20,16 +29,41 @@ pub struct Told {
     pub answer: Answer,
 }
 
-// Adds what hearing a claim adds, and says where its lo and hi stand then.
-pub fn hear_in(keys: &mut [u64; Store::LIMIT], count: usize, claim: Claim) -> Added
-    ensures { λ r. ⌜ (r ≡ hearIn (now (keys .entry)) count claim) × (now (keys .exit) ≡ keysHearing (now (keys .entry)) count claim) ⌝ }
+// What hearing returns where it is refused.
+fn not_heard(number: u8, count: usize) -> Heard
+    ensures { λ r. ⌜ r ≡ notHeard number count ⌝ }
 {
-    add_both(keys, count, claim.lo, claim.hi)
+    Heard {
+        number,
+        count,
+        first: 0,
+        last: 0,
+    }
+}
+
+// Adds what hearing a claim adds, and says where its lo and hi stand then. Asks 2 to 5 and 6.
+pub fn hear_in(keys: &mut [u64; Store::LIMIT], count: usize, claim: Claim) -> Heard
+    ensures { λ r. ⌜ hearingWith (now (keys .exit)) r ≡ hearIn (storeWith (now (keys .entry)) count) claim ⌝ }
+{
+    let number = judge(claim);
+    if number != 0 {
+        return not_heard(number, count);
+    }
+    let added = add_both_in(keys, count, claim.lo, claim.hi);
+    if !added.fits {
+        return not_heard(6, count);
+    }
+    Heard {
+        number: 0,
+        count: added.count,
+        first: added.first,
+        last: added.last,
+    }
 }
 
 // Whether first and last are positions of the run.
 fn inside(keys: &[u64], count: usize, first: usize, last: usize) -> bool
-    ensures { λ r. ⌜ r ≡ within (now (keys .entry)) count first last ⌝ }
+    ensures { λ r. ⌜ r ≡ within (storeWith (now (keys .entry)) count) first last ⌝ }
 {
     if last < first {
         return false;
@@ -69,17 +103,12 @@ fn claim_at(keys: &[u64], first: usize, last: usize) -> Claim
 
 // The claim of positions first to last, if they are positions.
 pub fn make_in(keys: &[u64], count: usize, first: usize, last: usize) -> Made
-    ensures { λ r. ⌜ r ≡ makeIn (now (keys .entry)) count first last ⌝ }
+    ensures { λ r. ⌜ r ≡ makeIn (storeWith (now (keys .entry)) count) first last ⌝ }
 {
     if !inside(keys, count, first, last) {
         return Made {
             number: 7,
-            claim: Claim {
-                lo: 0,
-                hi: 0,
-                sum: 0,
-                cnt: 0,
-            },
+            claim: Claim::NONE,
         };
     }
     let claim = claim_at(keys, first, last);
@@ -92,7 +121,7 @@ fn help_with(keys: &[u64], first: usize, last: usize, left: u64, right: u64) -> 
     ensures { λ r. ⌜ r ≡ helpIn (now (keys .entry)) first last ⌝ }
 {
     if last <= first + 1 {
-        return Answer::Refused(7);
+        return Answer::Match;
     }
     let a = first + 1;
     let b = last - 1;
@@ -117,7 +146,7 @@ fn answer_with(
     claim: Claim,
 ) -> Answer
     requires { ⌜ Halves (now keys) first last left right ⌝ }
-    ensures { λ r. ⌜ r ≡ decide (claimOf first last (now (keys .entry))) claim (helpIn (now (keys .entry)) first last) ⌝ }
+    ensures { λ r. ⌜ r ≡ answerAt (now (keys .entry)) first last claim ⌝ }
 {
     let own = claim_with(keys, first, last, left ^ right);
     if alike(own, claim) {
@@ -132,7 +161,7 @@ fn answer_with(
 // The answer to a claim whose lo and hi stand at first and last: one pass over the span, in two halves.
 fn answer_at(keys: &[u64], first: usize, last: usize, claim: Claim) -> Answer
     requires { ⌜ Positions (now keys) first last ⌝ }
-    ensures { λ r. ⌜ r ≡ decide (claimOf first last (now (keys .entry))) claim (helpIn (now (keys .entry)) first last) ⌝ }
+    ensures { λ r. ⌜ r ≡ answerAt (now (keys .entry)) first last claim ⌝ }
 {
     let mid = first + 1 + (last - first + 1) / 2;
     let end = last + 1;
@@ -140,28 +169,30 @@ fn answer_at(keys: &[u64], first: usize, last: usize, claim: Claim) -> Answer
     answer_with(keys, first, last, sums.one, sums.other, claim)
 }
 
-// The answer to a claim whose lo and hi stand at first and last, if these are positions.
-pub fn answer_in(keys: &[u64], count: usize, first: usize, last: usize, claim: Claim) -> Answer
-    ensures { λ r. ⌜ r ≡ answerIn (now (keys .entry)) count first last claim ⌝ }
+// The answer to a claim whose lo and hi are sought; none is added. 1 where they are not found at positions.
+pub fn answer_in(keys: &[u64], count: usize, claim: Claim) -> Answer
+    ensures { λ r. ⌜ r ≡ answerIn (storeWith (now (keys .entry)) count) claim ⌝ }
 {
-    if !inside(keys, count, first, last) {
-        return Answer::Refused(7);
+    let lower = place_in(keys, count, claim.lo);
+    let upper = place_in(keys, count, claim.hi);
+    if !inside(keys, count, lower.at, upper.at) {
+        return Answer::Refused(1);
     }
-    answer_at(keys, first, last, claim)
+    answer_at(keys, lower.at, upper.at, claim)
 }
 
-// The reply to a claim.
+// The reply to a claim. Asks 2 to 5 and 6.
 pub fn reply_in(keys: &mut [u64; Store::LIMIT], count: usize, claim: Claim) -> Told
-    ensures { λ r. ⌜ (r ≡ replyIn (now (keys .entry)) count claim) × (now (keys .exit) ≡ keysHearing (now (keys .entry)) count claim) ⌝ }
+    ensures { λ r. ⌜ repliedWith (now (keys .exit)) r ≡ replyIn (storeWith (now (keys .entry)) count) claim ⌝ }
 {
     let heard = hear_in(keys, count, claim);
     if heard.number != 0 {
         return Told {
-            count: heard.count,
+            count,
             answer: Answer::Refused(heard.number),
         };
     }
-    let answer = answer_in(&keys[..], heard.count, heard.first, heard.last, claim);
+    let answer = answer_at(&keys[..], heard.first, heard.last, claim);
     Told {
         count: heard.count,
         answer,

@@ -16,6 +16,7 @@ pub use calls::reply;
 pub use claim::Claim;
 pub use claim::judge;
 pub use keys::Store;
+pub use lent::Heard;
 pub use lent::Told;
 pub use lent::answer_in;
 pub use lent::hear_in;

@@ -2,10 +2,10 @@
 -- counting, taking a frame, entering a key; a beat. Not here: the end of a call that writes one image (Saving). Assumes nothing.
 use Prim.Native.Nat.{ℕ, _≤_, _<_}
 use native.Mathlib.Omega.{arith}
-use mathlib.Core.Bool.{true}
+use mathlib.Core.Bool.{true, false, cond, not}
 use mathlib.Core.List.{List, [], _∷_, _++_}
 use mathlib.Core.Path.{_≡_, ap, sym, _∙_, subst}
-use borrow.Author.Tests.{le-leb, lt-leb, ne-eqb}
+use borrow.Author.Tests.{le-leb, lt-leb, ne-eqb, not-true, not-false}
 use lib.Dec.{lit<}
 use lib.IntN.{ℤ, pos}
 use lib.ListN.{length, take, drop}
@@ -13,7 +13,7 @@ use mir.Syntax.{w64}
 use mir.Val.{toZ, ofZ}
 use Rattle.keys.specs.declared.lent.Added.{Added}
 use Rattle.keys.specs.Store.{limit}
-use Rattle.keys.specs.Lent.{addIn, keysAdding}
+use Rattle.keys.specs.Lent.{storeWith, grownWith, addIn}
 use Rattle.keys.proofs.Order.{inOrder-count, length-keysOf}
 use Rattle.claims.specs.Question.{Question, firstNo, question6}
 use Rattle.claims.proofs.QuestionLaws.{Numbered, firstNo-append-zero, firstNo-append-no}
@@ -40,7 +40,7 @@ use Rattle.host.specs.Call.{beatImageQuestions, nodeServed, framesSent, 
 use Rattle.host.specs.Known.{nodeHeld, Known, Loaded, TakenFrom, EnteredInto, Sent}
 use Rattle.host.proofs.Signs.{returned, fits-pos, fits-minus}
 use Rattle.host.proofs.Turns.{questions6-numbered, takenUntil-number, takenUntil-node, ordered-takenInTurn}
-use Rattle.host.proofs.Entering.{six, fits-six, ordered-entered, added-number, added-node, added-long}
+use Rattle.host.proofs.Entering.{six, ordered-entered, added-six, unfit-long, added-fits, added-node, added-long}
 use Rattle.host.proofs.Saving.{known-refused}
 
 -- ---- what reading tells
@@ -160,21 +160,35 @@ module _ (image : List ℕ) {keys : List ℕ} {r : Rest} (loaded : Loaded image 
 
     -- ---- entering a key: h is what adding it told, and `after` the run of keys then
 
-    pub enteredInto-added : (key : ℕ) {h : Added} {after : List ℕ} → h ≡ addIn keys (r .held) key → after ≡ keysAdding keys (r .held) key
-        → EnteredInto image key after (record { number = h .number; held = h .count; table = r .table; count = r .count })
-    enteredInto-added key {h} {after} added put =
-        let n = nodeHeld keys r in
-        let o = nodeInOrder-ordered n (loaded .sound .ordered read) in
-        let number = added-number n key o (loaded .sound .long) added put in
-        let node : h .number ≡ 0 → nodeWith after (h .count) (r .table) (r .count) ≡ nodeEntered n key = added-node n key o (loaded .sound .long) added put in
-        record {
-          number = number ∙ (ap (λ (m : Node). six m key) (loaded .node read) ∙ sym (past-image (question6 (key ∷ []) (nodeKeys (nodeIn image)) ∷ [])));
-          node = λ z. node z ∙ ap (λ (m : Node). nodeEntered m key) (loaded .node read);
-          sound = record {
-            long = added-long n key o (loaded .sound .long) added put;
-            ordered = λ z. rw (node z) (ordered-nodeInOrder (nodeEntered n key) (ordered-entered n key o (fits-six n key (sym number ∙ z))));
-          };
-        }
+    module _ (key : ℕ) {h : Added} {after : List ℕ} (added : grownWith after h ≡ addIn (storeWith keys (r .held)) key) where
+      held-ordered : Ordered (nodeHeld keys r)
+      held-ordered = nodeInOrder-ordered (nodeHeld keys r) (loaded .sound .ordered read)
+
+      entering-asked : firstNo (enteringQuestions image key) ≡ cond (h .fits) 0 6
+      entering-asked =
+          past-image (question6 (key ∷ []) (nodeKeys (nodeIn image)) ∷ [])
+          ∙ (ap (λ (m : Node). six m key) (sym (loaded .node read)) ∙ added-six (nodeHeld keys r) key held-ordered (loaded .sound .long) added)
+
+      pub enteredInto-unfit : not (h .fits) ≡ true
+          → EnteredInto image key after (record { number = 6; held = r .held; table = r .table; count = r .count })
+      enteredInto-unfit e =
+          let f = not-true (h .fits) e in
+          known-refused (sym (entering-asked ∙ rw f)) (unfit-long (nodeHeld keys r) key held-ordered (loaded .sound .long) added f) (λ (z : 6 ≡ 0). omega arith)
+
+      pub enteredInto-fit : not (h .fits) ≡ false
+          → EnteredInto image key after (record { number = 0; held = h .count; table = r .table; count = r .count })
+      enteredInto-fit e =
+          let n = nodeHeld keys r in
+          let f = not-false (h .fits) e in
+          let node : nodeWith after (h .count) (r .table) (r .count) ≡ nodeEntered n key = added-node n key held-ordered (loaded .sound .long) added f in
+          record {
+            number = sym (entering-asked ∙ rw f);
+            node = λ z. node ∙ ap (λ (m : Node). nodeEntered m key) (loaded .node read);
+            sound = record {
+              long = added-long n key held-ordered (loaded .sound .long) added f;
+              ordered = λ z. rw node (ordered-nodeInOrder (nodeEntered n key) (ordered-entered n key held-ordered (added-fits n key held-ordered (loaded .sound .long) added f)));
+            };
+          }
 
 -- ---- a beat
 

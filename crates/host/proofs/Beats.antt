@@ -20,8 +20,8 @@ use Rattle.rule.proofs.NodeLaws.{Ordered, nodeInOrder-ordered, ordered-nodeInOr
 use Rattle.rule.proofs.CallLaws.{beaten-done, beatenLent-done, ordered-beaten, length-pendingOf}
 use Rattle.rule.proofs.TableLaws.{length-sending}
 use Rattle.rule.proofs.Words.{length-claimWords, length-writtenOver}
-use Rattle.beats.specs.Serving.{beatenIn, beatenInLent}
-use Rattle.beats.proofs.ServeLaws.{beatenIn-beaten, beatenInLent-beatenLent}
+use Rattle.beats.specs.Lent.{beatIn, beatInLent}
+use Rattle.beats.proofs.LentLaws.{beatIn-beaten, beatInLent-beatenLent}
 use Rattle.wire.specs.Frame.{allPass}
 use Rattle.wire.specs.Run.{readRun}
 use Rattle.host.specs.Frames.{framesLimit, inWords}
@@ -55,18 +55,18 @@ module _ (n : Node) (ordered : nodeInOrder n ≡ true) where
 
   -- r and words are what the beat returned and left in the run of words that it was lent
   module _ (long : length (n .store .keys) ≡ limit) (lent : List ℕ) (room : length lent ≡ 4 * beatLimit) {r : Beaten} {words : List ℕ}
-      (beaten : r ≡ beatenIn n lent) (left : words ≡ beatenInLent n lent) where
+      (beaten : r ≡ beatIn n lent) (left : words ≡ beatInLent n lent) where
     asked : firstNo (beatQuestions n lent) ≡ 0
     asked = rw (ordered, le-leb beatLimit (length lent / 4) (omega arith))
 
     done : r ≡ record { number = 0; node = nodeServed n; written = length sent }
-    done = beaten ∙ (beatenIn-beaten n lent long o ∙ beaten-done n lent asked)
+    done = beaten ∙ (beatIn-beaten n lent long o ∙ beaten-done n lent asked)
 
     beat-written : r .written ≡ length sent
     beat-written = ap (λ (b : Beaten). b .written) done
 
     beat-words : words ≡ writtenOver (claimWords sent) lent
-    beat-words = left ∙ (beatenInLent-beatenLent n lent long o ∙ beatenLent-done n lent asked)
+    beat-words = left ∙ (beatInLent-beatenLent n lent long o ∙ beatenLent-done n lent asked)
 
     beat-read : readRun inWords (r .written) words ≡ sent
     beat-read = rw (beat-written, beat-words) (readRun-claimWords sent (drop (length (claimWords sent)) lent))

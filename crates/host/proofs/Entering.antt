@@ -2,20 +2,21 @@
 -- lent keys tells and leaves, which is that. Assumes nothing.
 use Prim.Native.Nat.{ℕ, _+_, _≤_, _<_}
 use native.Mathlib.Omega.{arith}
+use mathlib.Core.Bool.{true, false, cond}
 use mathlib.Core.List.{List, [], _∷_}
 use mathlib.Core.Logic.{⊎-elim}
-use mathlib.Core.Path.{_≡_, ap, ap₂, sym, _∙_, subst}
+use mathlib.Core.Path.{_≡_, ap, sym, _∙_, subst}
 use borrow.Author.Tests.{lt-ltb, le-ltb}
 use lib.ListN.{length}
 use Rattle.keys.specs.declared.store.Store.{Store}
 use Rattle.keys.specs.declared.lent.Added.{Added}
 use Rattle.keys.specs.Store.{limit, storeOf, insert}
-use Rattle.keys.specs.Lent.{addIn, keysAdding}
+use Rattle.keys.specs.Lent.{storeWith, Grown, grownWith, addIn}
 use Rattle.keys.proofs.Tests.{lt-or-le}
 use Rattle.keys.proofs.Rising.{Rising}
 use Rattle.keys.proofs.Insert.{insert-rising, mem-insert-old}
-use Rattle.keys.proofs.Order.{inOrder-rising, length-keysOf, storeOf-keysOf, count-storeOf, length-keys-storeOf}
-use Rattle.keys.proofs.LentLaws.{addIn-fits, addIn-full, keysAdding-fits, keysAdding-full}
+use Rattle.keys.proofs.Order.{inOrder-rising, storeOf-keysOf, length-keys-storeOf}
+use Rattle.keys.proofs.LentLaws.{addIn-fits, addIn-full, addIn-unfit}
 use Rattle.claims.specs.Question.{firstNo, question6}
 use Rattle.claims.specs.Call.{entered}
 use Rattle.rule.specs.declared.node.Node.{Node}
@@ -61,43 +62,32 @@ module _ (n : Node) (key : ℕ) where
 
     -- ---- the key added to the lent keys: what that told, and the run of keys then
 
-    module _ (long : length (n .store .keys) ≡ limit) {h : Added} {after : List ℕ}
-        (added : h ≡ addIn (n .store .keys) (n .store .count) key) (put : after ≡ keysAdding (n .store .keys) (n .store .count) key) where
-      -- the run is that of the node's keys
-      keys-are : n .store .keys ≡ storeOf (nodeKeys n) .keys
-      keys-are = ap (λ (s : Store). s .keys) (storeOf-keysOf (n .store) long (o .store))
+    module _ (long : length (n .store .keys) ≡ limit) {h : Added} {after : List ℕ} (added : grownWith after h ≡ addIn (n .store) key) where
+      told : grownWith after h ≡ addIn (storeOf (nodeKeys n)) key
+      told = added ∙ ap (λ (s : Store). addIn s key) (storeOf-keysOf (n .store) long (o .store))
 
-      count-is : n .store .count ≡ length (nodeKeys n)
-      count-is = sym (length-keysOf (n .store) long (o .store))
-
-      told : h ≡ addIn (storeOf (nodeKeys n) .keys) (length (nodeKeys n)) key
-      told = added ∙ ap₂ (λ (keys : List ℕ) (m : ℕ). addIn keys m key) keys-are count-is
-
-      left : after ≡ keysAdding (storeOf (nodeKeys n) .keys) (length (nodeKeys n)) key
-      left = put ∙ ap₂ (λ (keys : List ℕ) (m : ℕ). keysAdding keys m key) keys-are count-is
-
-      pub added-number : h .number ≡ six
-      added-number = ⊎-elim {C = h .number ≡ six}
-          (λ (f : limit < length grown). ap (λ (x : Added). x .number) (told ∙ addIn-full (nodeKeys n) rise key f) ∙ sym (six-full f))
-          (λ (f : length grown ≤ limit). ap (λ (x : Added). x .number) (told ∙ addIn-fits (nodeKeys n) rise key f) ∙ sym (six-fits f))
+      -- 6 as it is asked, and as adding told it
+      pub added-six : six ≡ cond (h .fits) 0 6
+      added-six = ⊎-elim {C = six ≡ cond (h .fits) 0 6}
+          (λ (f : limit < length grown). six-full f ∙ ap (λ (g : Grown). cond (g .fits) 0 6) (sym (told ∙ addIn-full (nodeKeys n) rise key f)))
+          (λ (f : length grown ≤ limit). six-fits f ∙ ap (λ (g : Grown). cond (g .fits) 0 6) (sym (told ∙ addIn-fits (nodeKeys n) rise key f)))
           (lt-or-le limit (length grown))
 
-      module _ (done : h .number ≡ 0) where
-        added-fits : length grown ≤ limit
-        added-fits = fits-six (sym added-number ∙ done)
+      -- a key that does not fit leaves the run with its places
+      pub unfit-long : h .fits ≡ false → length after ≡ limit
+      unfit-long f =
+          let kept = addIn-unfit (n .store) key (sym (ap (λ (g : Grown). g .fits) added) ∙ f) in
+          rw (ap (λ (g : Grown). g .store .keys) added ∙ ap (λ (s : Store). s .keys) kept) long
 
-        keys-grown : after ≡ storeOf grown .keys
-        keys-grown = left ∙ keysAdding-fits (nodeKeys n) rise key added-fits
+      module _ (fit : h .fits ≡ true) where
+        pub added-fits : length grown ≤ limit
+        added-fits = fits-six (added-six ∙ rw fit)
 
-        pub added-node : restored n (record { keys = after; count = h .count }) ≡ nodeEntered n key
-        added-node =
-            let count : h .count ≡ storeOf grown .count =
-            ap (λ (x : Added). x .count) (told ∙ addIn-fits (nodeKeys n) rise key added-fits) ∙ sym (count-storeOf grown) in
-            let store : record { keys = after; count = h .count } ≡ storeOf grown = λ i. record { keys = keys-grown i; count = count i } in
-            ap (restored n) store ∙ sym (nodeEntered-is added-fits)
+        store-grown : storeWith after (h .count) ≡ storeOf grown
+        store-grown = ap (λ (g : Grown). g .store) (told ∙ addIn-fits (nodeKeys n) rise key added-fits)
 
-      pub added-long : length after ≡ limit
-      added-long = ⊎-elim {C = length after ≡ limit}
-          (λ (f : limit < length grown). rw (left ∙ (keysAdding-full (nodeKeys n) rise key f ∙ sym keys-are)) long)
-          (λ (f : length grown ≤ limit). rw (left ∙ keysAdding-fits (nodeKeys n) rise key f) (length-keys-storeOf grown f))
-          (lt-or-le limit (length grown))
+        pub added-node : restored n (storeWith after (h .count)) ≡ nodeEntered n key
+        added-node = ap (restored n) store-grown ∙ sym (nodeEntered-is added-fits)
+
+        pub added-long : length after ≡ limit
+        added-long = rw (ap (λ (s : Store). s .keys) store-grown) (length-keys-storeOf grown added-fits)

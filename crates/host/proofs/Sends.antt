@@ -6,6 +6,7 @@ use mathlib.Core.Bool.{true}
 use mathlib.Core.List.{List, [], _∷_, _++_, append-nil}
 use mathlib.Core.Path.{_≡_, refl, ap, sym, _∙_}
 use borrow.Rule.Slice.PartMut.{putMid, post-is}
+use borrow.Author.Tests.{eqb-true}
 use lib.Dec.{eqb}
 use lib.ListN.{length, take, drop, getD, set, length-append, length-drop, length-take, drop-of-length-le}
 use lib.Seq.{drop-drop, getD-drop, take-all}
@@ -30,10 +31,14 @@ use Rattle.wire.proofs.RunLaws.{length-readRun, set-readRun}
 use Rattle.host.specs.Frames.{framesBytes, inWords}
 use Rattle.host.specs.Known.{FramesWritten}
 use Rattle.host.proofs.Words.{getD-readRun}
-use Rattle.host.proofs.Turns.{allPass-getD}
 use Rattle.host.proofs.Grouping.{framesBytes-turn, framesBytes-nil}
 
 -- ---- claims that pass
+
+allPass-getD : (cs : List Claim) (i : ℕ) → allPass cs ≡ true → i < length cs → judged (getD cs i noClaim) ≡ 0
+allPass-getD [] i p h = absurd (omega arith)
+allPass-getD (c ∷ cs) zero p h = eqb-true (judged c) 0 (and-left (eqb (judged c) 0) (allPass cs) p)
+allPass-getD (c ∷ cs) (suc i) p h = allPass-getD cs i (and-right (eqb (judged c) 0) (allPass cs) p) (omega arith)
 
 allPass-take : (n : ℕ) (cs : List Claim) → allPass cs ≡ true → allPass (take n cs) ≡ true
 allPass-take zero [] p = refl

@@ -27,16 +27,11 @@ use Rattle.rule.specs.Table.{tableWith}
 use Rattle.rule.specs.Call.{takeQuestions, taken}
 use Rattle.rule.proofs.NodeLaws.{Ordered, nodeInOrder-ordered, ordered-nodeInOrder, nodeKeys-nodeOf, store-nodeOf}
 use Rattle.rule.proofs.CallLaws.{takeQuestions-6, takeQuestions-yes, taken-done, taken-refused, ordered-taken}
-use Rattle.nodes.specs.Lent.{takenNext}
-use Rattle.nodes.proofs.TakeLaws.{takenNext-taken, ordered-takenNext}
+use Rattle.nodes.specs.Lent.{takeIn}
+use Rattle.nodes.proofs.TakeLaws.{takeIn-taken, ordered-takeIn}
 use Rattle.wire.specs.Frame.{allPass}
 use Rattle.wire.specs.Image.{Shaped}
 use Rattle.host.specs.Taking.{questions6, takenInTurn, takenUntil}
-
-pub allPass-getD : (cs : List Claim) (i : ℕ) → allPass cs ≡ true → i < length cs → judged (getD cs i noClaim) ≡ 0
-allPass-getD [] i p h = absurd (omega arith)
-allPass-getD (c ∷ cs) zero p h = eqb-true (judged c) 0 (and-left (eqb (judged c) 0) (allPass cs) p)
-allPass-getD (c ∷ cs) (suc i) p h = allPass-getD cs i (and-right (eqb (judged c) 0) (allPass cs) p) (omega arith)
 
 -- ---- one turn: r is what taking the claim at place i gave
 
@@ -44,22 +39,18 @@ pub record Turn (n : Node) (cs : List Claim) (i : ℕ) (r : Taken) : Type 0 wher
   pub below : i < length cs
   pub shaped : Shaped n
   pub ordered : nodeInOrder n ≡ true
-  pub pass : allPass cs ≡ true
-  pub next : r ≡ takenNext n (getD cs i noClaim)
+  pub next : r ≡ takeIn n (getD cs i noClaim)
 
 module _ {n : Node} {cs : List Claim} {i : ℕ} {r : Taken} (t : Turn n cs i r) where
   -- the claim
   abbrev c : Claim
   c = getD cs i noClaim
 
-  passes : judged c ≡ 0
-  passes = allPass-getD cs i (t .pass) (t .below)
-
   o : Ordered n
   o = nodeInOrder-ordered n (t .ordered)
 
   turn-taken : r ≡ taken n c
-  turn-taken = t .next ∙ takenNext-taken n (t .shaped .pending) o c (t .shaped .keys) passes
+  turn-taken = t .next ∙ takeIn-taken n (t .shaped .pending) o c (t .shaped .keys)
 
   pub turn-refused : (r .number ≡ 0 → ⊥) → takenUntil n (drop i cs) ≡ r
   turn-refused f = rw (drop-cons cs i noClaim (t .below), ← turn-taken, ne-eqb (r .number) 0 f)
@@ -70,7 +61,7 @@ module _ {n : Node} {cs : List Claim} {i : ℕ} {r : Taken} (t : Turn n cs i r) 
   pub turn-ordered : nodeInOrder (r .node) ≡ true
   turn-ordered =
       subst (λ (x : Taken). nodeInOrder (x .node) ≡ true) (sym (t .next))
-      (ordered-nodeInOrder (takenNext n c .node) (ordered-takenNext n (t .shaped .pending) o c (t .shaped .keys) passes))
+      (ordered-nodeInOrder (takeIn n c .node) (ordered-takeIn n (t .shaped .pending) o c (t .shaped .keys)))
 
   -- the run of keys keeps its places
   pub turn-long : length (r .node .store .keys) ≡ limit

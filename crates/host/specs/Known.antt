@@ -62,12 +62,11 @@ pub record Saved (keys : List ℕ) (r : Rest) (before after : List ℕ) (result 
 
 -- ---- the claims of a frame, taken in turn (src/turn.rt)
 
--- given: a node in order, its run of keys with all places, and of four claims the first `count`, which pass 13
+-- given: a node in order, its run of keys with all places, and of four claims the first `count`
 pub record TurnsGiven (n : Node) (claims : List Claim) (count : ℕ) : Type 0 where
   pub long : length (n .store .keys) ≡ limit
   pub ordered : nodeInOrder n ≡ true
   pub few : count ≤ frameLimit
-  pub pass : allPass (take count claims) ≡ true
 
 -- told: what taking them until one is refused gives, and the run of keys with all places
 pub record Turned (n : Node) (cs : List Claim) (keys : List ℕ) (r : Rest) : Type 0 where

@@ -18,10 +18,19 @@ pub(crate) fn entered_into(image: &[u8], key: u64, keys: &mut [u64; Store::LIMIT
     }
     let added = add_in(keys, read.held, key);
     let table = read.table;
+    let count = read.count;
+    if !added.fits {
+        return Rest {
+            number: 6,
+            held: read.held,
+            table,
+            count,
+        };
+    }
     Rest {
-        number: added.number,
+        number: 0,
         held: added.count,
         table,
-        count: read.count,
+        count,
     }
 }

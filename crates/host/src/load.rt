@@ -1,6 +1,6 @@
 // The node of an image: its keys in a lent run of zeros, and the rest.
 use keys::Store;
-use nodes::ordered_lent;
+use nodes::front_in;
 use rule::Rest;
 use wire::read_image_in;
 ghost use mathlib.Core.Path.{_≡_};
@@ -17,10 +17,12 @@ pub(crate) fn load(image: &[u8], keys: &mut [u64; Store::LIMIT]) -> Rest
         return read;
     }
     let table = read.table;
-    if !ordered_lent(&keys[..], read.held, table, read.count) {
+    let held = read.held;
+    let places = &keys[..];
+    if !front_in(&places[..held], table, read.count) {
         return Rest {
             number: 1,
-            held: read.held,
+            held,
             table,
             count: read.count,
         };

@@ -2,7 +2,7 @@
 use crate::load::load;
 use claims::Claim;
 use keys::Store;
-use nodes::take_next;
+use nodes::take_in;
 use rule::Node;
 use rule::Rest;
 use wire::Framed;
@@ -34,7 +34,7 @@ fn take_in_turn(
     let mut i: usize = 0;
     while i < n {
         let places = taken.table;
-        let next = take_next(keys, taken.held, places, taken.count, claims[i]);
+        let next = take_in(keys, taken.held, places, taken.count, claims[i]);
         if next.number != 0 {
             return next;
         }

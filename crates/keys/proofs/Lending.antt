@@ -1,17 +1,17 @@
 -- The calls on a lent run (src/lent.rt): one law for each way that the code goes, over the definitions of specs/Lent; adding keys is in Adding. What
 -- these mean where the run is a store in order is in LentLaws. Assumes nothing.
-use mathlib.Core.Path.{_≡_}
-use mathlib.Core.Bool.{true, false}
+use mathlib.Core.Path.{_≡_, _∙_}
+use mathlib.Core.Bool.{Bool, true, false, not}
 use mathlib.Core.List.{List}
 use Prim.Native.Nat.{ℕ, _+_, _-_, _≤_, _<_}
 use native.Mathlib.Omega.{arith}
-use borrow.Author.Tests.{lt-ltb, le-ltb, le-leb, lt-leb}
+use borrow.Author.Tests.{lt-ltb, le-ltb, le-leb, lt-leb, not-true, not-false}
 use lib.Dec.{eqb}
 use lib.ListN.{length, take, drop, getD, length-drop}
 use lib.Seq.{take-all}
 use Rattle.keys.specs.declared.lent.Place.{Place}
 use Rattle.keys.specs.Store.{limit, rising, allZero}
-use Rattle.keys.specs.Lent.{orderedIn, quartered, placeIn, insertedAt, putIn}
+use Rattle.keys.specs.Lent.{orderedIn, quartered, placeIn, insertedAt, lacking, putIn}
 use Rattle.keys.proofs.Quartering.{quartered-lt}
 
 -- `ordered_in`
@@ -25,17 +25,17 @@ module _ (keys : List ℕ) (count : ℕ) where
   unfolding orderedIn
   ordered-short h g = rw (le-leb count limit h, lt-leb count (length keys) g)
 
-  pub ordered-not : count ≤ limit → count ≤ length keys → rising (take count keys) ≡ false → false ≡ orderedIn keys count
-  unfolding orderedIn
-  ordered-not h g e = rw (le-leb count limit h, le-leb count (length keys) g, e)
+  module _ (few : count ≤ limit) (long : count ≤ length keys) (rises : Bool) (told : rises ≡ rising (take count keys)) where
+    pub ordered-not : not rises ≡ true → false ≡ orderedIn keys count
+    unfolding orderedIn
+    ordered-not e = rw (le-leb count limit few, le-leb count (length keys) long, ← told, not-true rises e)
 
-  pub ordered-blank : count ≤ limit → count ≤ length keys → rising (take count keys) ≡ true
-      → allZero (take (length keys - count) (drop count keys)) ≡ orderedIn keys count
-  unfolding orderedIn
-  ordered-blank h g e =
-      let all : take (length keys - count) (drop count keys) ≡ drop count keys =
-      take-all (length keys - count) (drop count keys) (omega (arith, length-drop count keys)) in
-      rw (le-leb count limit h, le-leb count (length keys) g, e, all)
+    pub ordered-blank : not rises ≡ false → (blank : Bool) → blank ≡ allZero (take (length keys - count) (drop count keys)) → blank ≡ orderedIn keys count
+    unfolding orderedIn
+    ordered-blank e blank looked =
+        let all : take (length keys - count) (drop count keys) ≡ drop count keys =
+        take-all (length keys - count) (drop count keys) (omega (arith, length-drop count keys)) in
+        looked ∙ rw (le-leb count limit few, le-leb count (length keys) long, ← told, not-false rises e, all)
 
 -- `place_in`
 
@@ -66,8 +66,12 @@ module _ (keys : List ℕ) (count key : ℕ) where
 -- `put_in`
 
 module _ (p : Place) (count key : ℕ) (keys : List ℕ) where
-  pub putIn-held : p .held ≡ true → keys ≡ putIn p count key keys
-  putIn-held e = rw e
+  pub putIn-held : not (p .held) ≡ false → keys ≡ putIn p count key keys
+  putIn-held e = rw (not-false (p .held) e)
 
-  pub putIn-missing : p .held ≡ false → insertedAt (p .at) count key keys ≡ putIn p count key keys
-  putIn-missing e = rw e
+  pub putIn-missing : not (p .held) ≡ true → (after : List ℕ) → after ≡ insertedAt (p .at) count key keys → after ≡ putIn p count key keys
+  putIn-missing e after put = rw (not-true (p .held) e) put
+
+-- a missing key is put in below the limit
+pub putIn-fits : (p : Place) (count : ℕ) → not (p .held) ≡ true → count + lacking p ≤ limit → count < limit
+putIn-fits p count e h = let f : count + 1 ≤ limit = rw (not-true (p .held) e) at h in omega arith

@@ -1,31 +1,28 @@
 -- What the calls on a lent run mean where the run is a store in order (specs/Lent against specs/Store): the run of `storeOf l` for rising keys l, and
--- their number as the count. The crates above prove their loops from these. In order: question 1; a place; one key added; two keys added; no room.
+-- their number as the count. The crates above prove their loops from these. In order: question 1; a place; one key added; two keys
+-- added; and of any run, what does not fit and what does.
 -- Assumes nothing.
-use mathlib.Core.Path.{_≡_, refl, sym, _∙_, ap}
-use mathlib.Core.Bool.{Bool, true, false, cond, _&&_}
+use mathlib.Core.Path.{_≡_, refl, sym, _∙_, ap, ap₂}
+use mathlib.Core.Bool.{Bool, true, false, cond, _&&_, false≢true}
 use mathlib.Core.Logic.{⊎-elim}
-use mathlib.Core.List.{List, _∷_, _++_, append-assoc, List·Memᴰ}
+use mathlib.Core.List.{List, [], _∷_, _++_, append-assoc, List·Memᴰ}
 use Prim.Native.Nat.{ℕ, suc, _+_, _-_, _≤_, _<_}
 use native.Mathlib.Omega.{arith}
 use borrow.Author.Tests.{le-leb, lt-leb, leb-true, eq-eqb, ne-eqb}
 use lib.Dec.{leb, eqb}
-use lib.ListN.{length, take, drop, length-take, length-drop}
-use lib.Seq.{take-append-le, drop-append-le, take-at, drop-append-add}
-use Rattle.keys.specs.declared.lent.Added.{Added}
+use lib.ListN.{length, take, drop, length-take, length-drop, take-append-drop, drop-of-length-le}
+use lib.Seq.{length-take-le, take-append-le, drop-append-le, take-at, drop-at, drop-append-add, take-length}
 use Rattle.keys.specs.declared.lent.Place.{Place}
 use Rattle.keys.specs.declared.store.Store.{Store}
 use Rattle.keys.specs.Store.{limit, zeros, keysOf, storeOf, rising, allZero, inOrder, position, holds, insert}
-use Rattle.keys.specs.Lent.{orderedIn, placeIn, insertedAt, lacking, putIn, room, addedAt, noRoom, addOne, keysOne, raised, addTwo, keysTwo, addIn, keysAdding, addBoth, keysBoth}
+use Rattle.keys.specs.Lent.{orderedIn, placeIn, insertedAt, lacking, putIn, storeWith, Grown, grown, unfit, room, withKey, addOne, raised, fitTwo, addTwo, addIn, addBothIn}
 use Rattle.keys.proofs.Tests.{eq-or-ne, and-left, and-right}
-use Rattle.keys.proofs.Rising.{Rising, holds-mem, holds-absent, mem-holds, absent-holds, mem-or-absent}
+use Rattle.keys.proofs.Rising.{Rising, rising-true, holds-mem, holds-absent, mem-holds, absent-holds, mem-or-absent}
 use Rattle.keys.proofs.Insert.{insert-rising, insert-held, mem-insert-new, length-insert-missing, length-insert-held, length-insert-ge, insert-mem, mem-insert-old}
-use Rattle.keys.proofs.Position.{position-le, insert-position, position-insert-le, position-insert-self, position-insert-missing, position-insert-held}
-use Rattle.keys.proofs.Order.{keys-storeOf}
+use Rattle.keys.proofs.Position.{position-le, position-mono, insert-position, position-insert-le, position-insert-self, position-insert-missing, position-insert-held}
+use Rattle.keys.proofs.Order.{allZero-zeros, count-storeOf, keys-storeOf, keysOf-storeOf}
+use Rattle.keys.proofs.Adding.{placeIn-lt}
 use Rattle.keys.proofs.Finding.{placeIn-front}
-
--- what adding gives, by its parts
-addedAt-path : {n n′ i i′ j j′ : ℕ} → n ≡ n′ → i ≡ i′ → j ≡ j′ → addedAt n i j ≡ addedAt n′ i′ j′
-addedAt-path p q r = λ t. addedAt (p t) (q t) (r t)
 
 -- ---- question 1
 
@@ -36,6 +33,25 @@ orderedIn-inOrder s e = rw e (go (leb (s .count) limit))
     go : (t : Bool) → (t && (t && (rising (keysOf s) && allZero (drop (s .count) (s .keys))))) ≡ (t && (rising (keysOf s) && allZero (drop (s .count) (s .keys))))
     go true = refl
     go false = refl
+
+-- a run that is keys to its end
+pub orderedIn-all : (l : List ℕ) → orderedIn l (length l) ≡ inOrder (storeOf l)
+unfolding orderedIn inOrder storeOf
+orderedIn-all l =
+    let z : List ℕ = zeros (limit - length l) in
+    let past : drop (length l) (l ++ z) ≡ z = drop-at l z (length l) refl in
+    let le : length l ≤ length l = omega arith in
+    let none : drop (length l) l ≡ [] = drop-of-length-le l le in
+    rw (
+      count-storeOf l,
+      keysOf-storeOf l,
+      keys-storeOf l,
+      past,
+      allZero-zeros (limit - length l),
+      le-leb (length l) (length l) (omega arith),
+      take-length l,
+      none,
+    )
 
 -- what a run that passes it gives
 module _ (keys : List ℕ) (count : ℕ) (yes : orderedIn keys count ≡ true) where
@@ -65,6 +81,14 @@ module _ (l : List ℕ) (rise : Rising l) where
 
   pub placeIn-store : (key : ℕ) → placeIn (storeOf l .keys) (length l) key ≡ placeOf key
   placeIn-store key = rw (keys-storeOf l) (placeIn-front l (zeros (limit - length l)) key rise)
+
+-- the place of a key in any run in order
+pub placeIn-ordered : (keys : List ℕ) (held key : ℕ) → orderedIn keys held ≡ true
+    → placeIn keys held key ≡ record { at = position key (take held keys); held = holds key (take held keys) }
+placeIn-ordered keys held key h =
+    let n : length (take held keys) ≡ held = length-take-le held keys (orderedIn-long keys held h) in
+    ap₂ (λ (r : List ℕ) (m : ℕ). placeIn r m key) (sym (take-append-drop held keys)) (sym n)
+    ∙ placeIn-front (take held keys) (drop held keys) key (rising-true (take held keys) (orderedIn-rising keys held h))
 
 -- ---- a key put in
 
@@ -103,27 +127,36 @@ putIn-insert l rise k h = go (holds k l) refl
         let missing = holds-absent k l e in
         insertedAt-insert l k missing (omega (arith, length-insert-missing k l missing))
 
--- ---- one key added: its store, where it fits
+-- the store with the key
+pub withKey-insert : (l : List ℕ) (rise : Rising l) (k : ℕ) → length (insert k l) ≤ limit
+    → withKey (placeOf l rise k) k (storeOf l) ≡ storeOf (insert k l)
+withKey-insert l rise k h =
+    let n : storeOf l .count + lacking (placeOf l rise k) ≡ storeOf (insert k l) .count =
+    ap (λ (m : ℕ). m + lacking (placeOf l rise k)) (count-storeOf l) ∙ (length-insert-lacking l rise k ∙ sym (count-storeOf (insert k l))) in
+    let put : putIn (placeOf l rise k) (storeOf l .count) k (storeOf l .keys) ≡ storeOf (insert k l) .keys =
+    ap (λ (m : ℕ). putIn (placeOf l rise k) m k (storeOf l .keys)) (count-storeOf l) ∙ putIn-insert l rise k h in
+    λ i. storeWith (put i) (n i)
+
+-- ---- one key added
 
 module _ (l : List ℕ) (rise : Rising l) (k : ℕ) where
-  pub addIn-fits : length (insert k l) ≤ limit
-      → addIn (storeOf l .keys) (length l) k ≡ addedAt (length (insert k l)) (position k l) (position k l)
+  -- the place where it is found, and the count with it
+  found : placeIn (storeOf l .keys) (storeOf l .count) k ≡ placeOf l rise k
+  found = rw (count-storeOf l) (placeIn-store l rise k)
+
+  grows : storeOf l .count + lacking (placeOf l rise k) ≡ length (insert k l)
+  grows = rw (count-storeOf l) (length-insert-lacking l rise k)
+
+  pub addIn-fits : length (insert k l) ≤ limit → addIn (storeOf l) k ≡ grown (storeOf (insert k l)) (position k l) (position k l)
   unfolding addIn
   addIn-fits h =
-      rw (placeIn-store l rise k, length-insert-lacking l rise k, le-leb (length (insert k l)) limit h)
+      let fits : room (storeOf l .count) (lacking (placeOf l rise k)) ≡ true = ap (λ (n : ℕ). leb n limit) grows ∙ le-leb (length (insert k l)) limit h in
+      rw (found, fits)
+      (ap (λ (s : Store). grown s (position k l) (position k l)) (withKey-insert l rise k h))
 
-  pub keysAdding-fits : length (insert k l) ≤ limit → keysAdding (storeOf l .keys) (length l) k ≡ storeOf (insert k l) .keys
-  unfolding keysAdding
-  keysAdding-fits h =
-      rw (placeIn-store l rise k, length-insert-lacking l rise k, le-leb (length (insert k l)) limit h) (putIn-insert l rise k h)
-
-  pub addIn-full : limit < length (insert k l) → addIn (storeOf l .keys) (length l) k ≡ noRoom (length l)
+  pub addIn-full : limit < length (insert k l) → addIn (storeOf l) k ≡ unfit (storeOf l)
   unfolding addIn
-  addIn-full h = rw (placeIn-store l rise k, length-insert-lacking l rise k, lt-leb (length (insert k l)) limit h)
-
-  pub keysAdding-full : limit < length (insert k l) → keysAdding (storeOf l .keys) (length l) k ≡ storeOf l .keys
-  unfolding keysAdding
-  keysAdding-full h = rw (placeIn-store l rise k, length-insert-lacking l rise k, lt-leb (length (insert k l)) limit h)
+  addIn-full h = rw (found, grows, lt-leb (length (insert k l)) limit h)
 
 -- ---- two keys added, the lesser one first
 
@@ -157,32 +190,27 @@ module _ (l : List ℕ) (rise : Rising l) (lo hi : ℕ) (h : lo < hi) where
   pub length-both : length l + (lacking (placeOf l rise lo) + lacking (placeOf l rise hi)) ≡ length (insert hi (insert lo l))
   length-both = omega (arith, length-insert-lacking l rise lo, length-insert-lacking (insert lo l) lower-rise hi, lacking-raised)
 
+  -- their places rise, ..
+  turn : leb (position lo l) (position hi l) ≡ true
+  turn = le-leb (position lo l) (position hi l) (position-mono lo hi l (omega arith))
+
+  -- .. and the count with both
+  grows-both : storeOf l .count + (lacking (placeOf l rise lo) + lacking (placeOf l rise hi)) ≡ length (insert hi (insert lo l))
+  grows-both = rw (count-storeOf l) length-both
+
   pub addTwo-fits : length (insert hi (insert lo l)) ≤ limit
-      → addTwo (placeOf l rise lo) (placeOf l rise hi) (length l)
-      ≡ addedAt (length (insert hi (insert lo l))) (position lo l) (position hi (insert lo l))
+      → addTwo (placeOf l rise lo) (placeOf l rise hi) lo hi (storeOf l)
+      ≡ grown (storeOf (insert hi (insert lo l))) (position lo l) (position hi (insert lo l))
   addTwo-fits g =
-      let sum : length l + lacking (placeOf l rise lo) + lacking (placeOf l rise hi) ≡ length (insert hi (insert lo l)) = omega (arith, length-both) in
-      rw (length-both, le-leb (length (insert hi (insert lo l))) limit g, sum, position-raised)
+      let once : withKey (placeOf l rise lo) lo (storeOf l) ≡ storeOf (insert lo l) =
+      withKey-insert l rise lo (omega (arith, length-insert-ge hi (insert lo l))) in
+      let twice : withKey (raised (placeOf l rise lo) (placeOf l rise hi)) hi (withKey (placeOf l rise lo) lo (storeOf l)) ≡ storeOf (insert hi (insert lo l)) =
+      ap₂ (λ (p : Place) (s : Store). withKey p hi s) raised-place once ∙ withKey-insert (insert lo l) lower-rise hi g in
+      rw (turn, grows-both, le-leb (length (insert hi (insert lo l))) limit g)
+      (λ i. grown (twice i) (position lo l) (position-raised i))
 
-  pub keysTwo-fits : length (insert hi (insert lo l)) ≤ limit
-      → keysTwo (placeOf l rise lo) (placeOf l rise hi) (length l) lo hi (storeOf l .keys) ≡ storeOf (insert hi (insert lo l)) .keys
-  keysTwo-fits g =
-      let one : length (insert lo l) ≤ limit = omega (arith, length-insert-ge hi (insert lo l)) in
-      let once : putIn (placeOf l rise lo) (length l) lo (storeOf l .keys) ≡ storeOf (insert lo l) .keys = putIn-insert l rise lo one in
-      let twice : putIn (placeOf (insert lo l) lower-rise hi) (length (insert lo l)) hi (storeOf (insert lo l) .keys) ≡ storeOf (insert hi (insert lo l)) .keys =
-      putIn-insert (insert lo l) lower-rise hi g in
-      rw (length-both, le-leb (length (insert hi (insert lo l))) limit g)
-      (ap (λ (m : List ℕ). putIn (raised (placeOf l rise lo) (placeOf l rise hi)) (length l + lacking (placeOf l rise lo)) hi m) once
-      ∙ (ap (λ (n : ℕ). putIn (raised (placeOf l rise lo) (placeOf l rise hi)) n hi (storeOf (insert lo l) .keys)) (length-insert-lacking l rise lo)
-      ∙ (ap (λ (p : Place). putIn p (length (insert lo l)) hi (storeOf (insert lo l) .keys)) raised-place
-      ∙ twice)))
-
-  pub addTwo-full : limit < length (insert hi (insert lo l)) → addTwo (placeOf l rise lo) (placeOf l rise hi) (length l) ≡ noRoom (length l)
-  addTwo-full g = rw (length-both, lt-leb (length (insert hi (insert lo l))) limit g)
-
-  pub keysTwo-full : limit < length (insert hi (insert lo l))
-      → keysTwo (placeOf l rise lo) (placeOf l rise hi) (length l) lo hi (storeOf l .keys) ≡ storeOf l .keys
-  keysTwo-full g = rw (length-both, lt-leb (length (insert hi (insert lo l))) limit g)
+  pub addTwo-full : limit < length (insert hi (insert lo l)) → addTwo (placeOf l rise lo) (placeOf l rise hi) lo hi (storeOf l) ≡ unfit (storeOf l)
+  addTwo-full g = rw (turn, grows-both, lt-leb (length (insert hi (insert lo l))) limit g)
 
 -- ---- two keys added, or one where they are equal
 
@@ -205,80 +233,106 @@ module _ (l : List ℕ) (rise : Rising l) (lo hi : ℕ) (ordered : lo ≤ hi) wh
   both-cases : (P : Type 0) → (lo ≡ hi → P) → (lo < hi → P) → P
   both-cases P one two = ⊎-elim {C = P} one (λ (f : lo ≡ hi → ⊥). two (omega arith)) (eq-or-ne lo hi)
 
-  length-alone : lo ≡ hi → length withBoth ≡ length (insert lo l)
-  length-alone e = ap length (both-alone e)
-
-  pub addBoth-fits : length withBoth ≤ limit
-      → addBoth (storeOf l .keys) (length l) lo hi ≡ addedAt (length withBoth) (position lo withBoth) (position hi withBoth)
-  unfolding addBoth addIn
-  addBoth-fits h = both-cases
-      (addBoth (storeOf l .keys) (length l) lo hi ≡ addedAt (length withBoth) (position lo withBoth) (position hi withBoth))
+  pub addBothIn-fits : length withBoth ≤ limit
+      → addBothIn (storeOf l) lo hi ≡ grown (storeOf withBoth) (position lo withBoth) (position hi withBoth)
+  unfolding addBothIn addIn
+  addBothIn-fits h = both-cases
+      (addBothIn (storeOf l) lo hi ≡ grown (storeOf withBoth) (position lo withBoth) (position hi withBoth))
       (λ e.
+      let same = both-alone e in
+      let last : position lo l ≡ position hi withBoth = sym (ap (λ (k : ℕ). position k withBoth) (sym e) ∙ position-lo-both) in
       rw (eq-eqb lo hi e)
-      (addIn-fits l rise lo (omega (arith, length-alone e))
-      ∙ addedAt-path (sym (length-alone e)) (sym position-lo-both) (sym (ap (λ (k : ℕ). position k withBoth) (sym e) ∙ position-lo-both))))
+      (addIn-fits l rise lo (omega (arith, ap length same)) ∙ (λ i. grown (storeOf (sym same i)) (sym position-lo-both i) (last i))))
       (λ p.
-      rw (ne-eqb lo hi (λ (e : lo ≡ hi). omega arith), placeIn-store l rise lo, placeIn-store l rise hi)
-      (addTwo-fits l rise lo hi p h ∙ addedAt-path refl (sym position-lo-both) (sym position-hi-both)))
+      rw (ne-eqb lo hi (λ (e : lo ≡ hi). omega arith), found l rise lo, found l rise hi)
+      (addTwo-fits l rise lo hi p h ∙ (λ i. grown (storeOf withBoth) (sym position-lo-both i) (sym position-hi-both i))))
 
-  pub keysBoth-fits : length withBoth ≤ limit → keysBoth (storeOf l .keys) (length l) lo hi ≡ storeOf withBoth .keys
-  unfolding keysBoth keysAdding
-  keysBoth-fits h = both-cases
-      (keysBoth (storeOf l .keys) (length l) lo hi ≡ storeOf withBoth .keys)
-      (λ e.
-      rw (eq-eqb lo hi e)
-      (keysAdding-fits l rise lo (omega (arith, length-alone e)) ∙ ap (λ (m : List ℕ). storeOf m .keys) (sym (both-alone e))))
+  pub addBothIn-full : limit < length withBoth → addBothIn (storeOf l) lo hi ≡ unfit (storeOf l)
+  unfolding addBothIn addIn
+  addBothIn-full h = both-cases
+      (addBothIn (storeOf l) lo hi ≡ unfit (storeOf l))
+      (λ e. rw (eq-eqb lo hi e) (addIn-full l rise lo (omega (arith, ap length (both-alone e)))))
       (λ p.
-      rw (ne-eqb lo hi (λ (e : lo ≡ hi). omega arith), placeIn-store l rise lo, placeIn-store l rise hi)
-      (keysTwo-fits l rise lo hi p h))
-
-  pub addBoth-full : limit < length withBoth → addBoth (storeOf l .keys) (length l) lo hi ≡ noRoom (length l)
-  unfolding addBoth addIn
-  addBoth-full h = both-cases
-      (addBoth (storeOf l .keys) (length l) lo hi ≡ noRoom (length l))
-      (λ e. rw (eq-eqb lo hi e) (addIn-full l rise lo (omega (arith, length-alone e))))
-      (λ p.
-      rw (ne-eqb lo hi (λ (e : lo ≡ hi). omega arith), placeIn-store l rise lo, placeIn-store l rise hi)
+      rw (ne-eqb lo hi (λ (e : lo ≡ hi). omega arith), found l rise lo, found l rise hi)
       (addTwo-full l rise lo hi p h))
 
-  pub keysBoth-full : limit < length withBoth → keysBoth (storeOf l .keys) (length l) lo hi ≡ storeOf l .keys
-  unfolding keysBoth keysAdding
-  keysBoth-full h = both-cases
-      (keysBoth (storeOf l .keys) (length l) lo hi ≡ storeOf l .keys)
-      (λ e. rw (eq-eqb lo hi e) (keysAdding-full l rise lo (omega (arith, length-alone e))))
-      (λ p.
-      rw (ne-eqb lo hi (λ (e : lo ≡ hi). omega arith), placeIn-store l rise lo, placeIn-store l rise hi)
-      (keysTwo-full l rise lo hi p h))
+-- ---- of any run: keys that do not fit leave the store as it was; those that fit stand at places of it, the lesser one first
 
--- ---- no room, and no key added: of any run
+-- what adding gives is one of the two
+pub record Laid (g : Grown) : Type 0 where
+  pub rise : g .first ≤ g .last
+  pub inside : g .last < g .store .count
+  pub short : g .store .count ≤ limit
 
-module _ (keys : List ℕ) (count : ℕ) where
-  keysOne-refused : (p : Place) (k : ℕ) → (addOne p count .number ≡ 0 → ⊥) → keysOne p count k keys ≡ keys
-  keysOne-refused p k f = go (room count (lacking p)) f
+module _ (s : Store) where
+  addOne-unfit : (p : Place) (k : ℕ) → addOne p k s .fits ≡ false → addOne p k s .store ≡ s
+  addOne-unfit p k = go (room (s .count) (lacking p))
     where
-      go : (t : Bool) → (cond {A = Added} t (addedAt (count + lacking p) (p .at) (p .at)) (noRoom count) .number ≡ 0 → ⊥) → cond t (putIn p count k keys) keys ≡ keys
-      go true g = absurd (g refl)
-      go false g = refl
+      go : (t : Bool) → cond t (grown (withKey p k s) (p .at) (p .at)) (unfit s) .fits ≡ false
+          → cond t (grown (withKey p k s) (p .at) (p .at)) (unfit s) .store ≡ s
+      go true e = absurd (false≢true (sym e))
+      go false e = refl
 
-  keysTwo-refused : (p q : Place) (lo hi : ℕ) → (addTwo p q count .number ≡ 0 → ⊥) → keysTwo p q count lo hi keys ≡ keys
-  keysTwo-refused p q lo hi f = go (room count (lacking p + lacking q)) f
+  addTwo-unfit : (p q : Place) (lo hi : ℕ) → addTwo p q lo hi s .fits ≡ false → addTwo p q lo hi s .store ≡ s
+  addTwo-unfit p q lo hi = go (fitTwo p q (s .count))
     where
-      go : (t : Bool) → (cond {A = Added} t (addedAt (count + lacking p + lacking q) (p .at) (q .at + lacking p)) (noRoom count) .number ≡ 0 → ⊥)
-          → cond t (putIn (raised p q) (count + lacking p) hi (putIn p count lo keys)) keys ≡ keys
-      go true g = absurd (g refl)
-      go false g = refl
+      both : Grown
+      both = grown (withKey (raised p q) hi (withKey p lo s)) (p .at) (q .at + lacking p)
 
-  pub keysBoth-refused : (lo hi : ℕ) → (addBoth keys count lo hi .number ≡ 0 → ⊥) → keysBoth keys count lo hi ≡ keys
-  unfolding addBoth keysBoth
-  keysBoth-refused lo hi f = go (eqb lo hi) f
+      go : (t : Bool) → cond t both (unfit s) .fits ≡ false → cond t both (unfit s) .store ≡ s
+      go true e = absurd (false≢true (sym e))
+      go false e = refl
+
+  pub addIn-unfit : (k : ℕ) → addIn s k .fits ≡ false → addIn s k .store ≡ s
+  unfolding addIn
+  addIn-unfit k = addOne-unfit (placeIn (s .keys) (s .count) k) k
+
+  pub addBothIn-unfit : (lo hi : ℕ) → addBothIn s lo hi .fits ≡ false → addBothIn s lo hi .store ≡ s
+  unfolding addBothIn
+  addBothIn-unfit lo hi = go (eqb lo hi)
     where
       p : Place
-      p = placeIn keys count lo
+      p = placeIn (s .keys) (s .count) lo
 
       q : Place
-      q = placeIn keys count hi
+      q = placeIn (s .keys) (s .count) hi
 
-      go : (t : Bool) → (cond {A = Added} t (addOne p count) (addTwo p q count) .number ≡ 0 → ⊥)
-          → cond t (keysOne p count lo keys) (keysTwo p q count lo hi keys) ≡ keys
-      go true g = keysOne-refused p lo g
-      go false g = keysTwo-refused p q lo hi g
+      go : (t : Bool) → cond t (addOne p lo s) (addTwo p q lo hi s) .fits ≡ false → cond t (addOne p lo s) (addTwo p q lo hi s) .store ≡ s
+      go true e = addOne-unfit p lo e
+      go false e = addTwo-unfit p q lo hi e
+
+  addOne-laid : (p : Place) (k : ℕ) → p .at < s .count + lacking p → addOne p k s .fits ≡ true → Laid (addOne p k s)
+  addOne-laid p k below = go (room (s .count) (lacking p)) refl
+    where
+      go : (t : Bool) → room (s .count) (lacking p) ≡ t → cond t (grown (withKey p k s) (p .at) (p .at)) (unfit s) .fits ≡ true
+          → Laid (cond t (grown (withKey p k s) (p .at) (p .at)) (unfit s))
+      go true e f = record { rise = omega arith; inside = omega arith; short = leb-true (s .count + lacking p) limit e }
+      go false e f = absurd (false≢true f)
+
+  addTwo-laid : (p q : Place) (lo hi : ℕ) → q .at < s .count + lacking q → addTwo p q lo hi s .fits ≡ true → Laid (addTwo p q lo hi s)
+  addTwo-laid p q lo hi below = go (fitTwo p q (s .count)) refl
+    where
+      both : Grown
+      both = grown (withKey (raised p q) hi (withKey p lo s)) (p .at) (q .at + lacking p)
+
+      go : (t : Bool) → fitTwo p q (s .count) ≡ t → cond t both (unfit s) .fits ≡ true → Laid (cond t both (unfit s))
+      go true e f =
+          let rises : p .at ≤ q .at = leb-true (p .at) (q .at) (and-left (leb (p .at) (q .at)) (room (s .count) (lacking p + lacking q)) e) in
+          let fits : s .count + (lacking p + lacking q) ≤ limit =
+          leb-true (s .count + (lacking p + lacking q)) limit (and-right (leb (p .at) (q .at)) (room (s .count) (lacking p + lacking q)) e) in
+          record { rise = omega arith; inside = omega arith; short = omega arith }
+      go false e f = absurd (false≢true f)
+
+  pub addBothIn-laid : (lo hi : ℕ) → addBothIn s lo hi .fits ≡ true → Laid (addBothIn s lo hi)
+  unfolding addBothIn
+  addBothIn-laid lo hi = go (eqb lo hi)
+    where
+      p : Place
+      p = placeIn (s .keys) (s .count) lo
+
+      q : Place
+      q = placeIn (s .keys) (s .count) hi
+
+      go : (t : Bool) → cond t (addOne p lo s) (addTwo p q lo hi s) .fits ≡ true → Laid (cond t (addOne p lo s) (addTwo p q lo hi s))
+      go true e = addOne-laid p lo (placeIn-lt (s .keys) (s .count) lo) e
+      go false e = addTwo-laid p q lo hi (placeIn-lt (s .keys) (s .count) hi) e

@@ -10,7 +10,7 @@ use lib.ListN.{length, take, drop, getD, set, length-append, length-take, length
 use lib.Seq.{set-split, set-at, getD-set-other, getD-take, take-suc, drop-cons, length-take-le}
 use Rattle.keys.specs.declared.lent.Place.{Place}
 use Rattle.keys.specs.Store.{limit}
-use Rattle.keys.specs.Lent.{insertedAt, putIn}
+use Rattle.keys.specs.Lent.{insertedAt, lacking, putIn}
 
 pub insertedAt-count : (keys : List ℕ) (count x : ℕ) → count < length keys → set keys count x ≡ insertedAt count count x keys
 unfolding insertedAt
@@ -60,10 +60,10 @@ pub length-insertedAt : (at count key : ℕ) (keys : List ℕ) → at ≤ count 
 unfolding insertedAt
 length-insertedAt at count key keys h g = simp (length-append, length-take, length-drop) (omega arith)
 
-pub length-putIn : (p : Place) (count key : ℕ) (keys : List ℕ) → (p .held ≡ false → (p .at ≤ count) × (count < limit)) → length keys ≡ limit
-    → length (putIn p count key keys) ≡ limit
-length-putIn p count key keys f e = go (p .held) f
+pub length-putIn : (p : Place) (count key : ℕ) (keys after : List ℕ) → after ≡ putIn p count key keys → p .at ≤ count → count + lacking p ≤ limit
+    → length keys ≡ limit → length after ≡ limit
+length-putIn p count key keys after put h f e = ap length put ∙ go (p .held) f
   where
-    go : (t : Bool) → (t ≡ false → (p .at ≤ count) × (count < limit)) → length (cond t keys (insertedAt (p .at) count key keys)) ≡ limit
-    go true h = e
-    go false h = let fits = h refl in length-insertedAt (p .at) count key keys (fits .0) (omega arith) ∙ e
+    go : (t : Bool) → count + cond t 0 1 ≤ limit → length (cond t keys (insertedAt (p .at) count key keys)) ≡ limit
+    go true g = e
+    go false g = length-insertedAt (p .at) count key keys h (omega arith) ∙ e

@@ -2,12 +2,13 @@
 -- question 1 again at each step. They are given a run of keys and a count, and no store: question 1 is not theirs, and they are no rule of document 01.
 -- What they mean where the run is a store in order is said by laws (proofs/LentLaws), by the definitions of Store. Assumes nothing.
 use Prim.Native.Nat.{ℕ, zero, suc, _+_, _-_, _*_, _/_}
-use mathlib.Core.Bool.{Bool, false, cond, _&&_}
+use mathlib.Core.Bool.{Bool, true, false, cond, _&&_}
 use mathlib.Core.List.{List, _∷_, _++_}
 use lib.Dec.{ltb, leb, eqb}
 use lib.ListN.{length, take, drop, getD}
 use Rattle.keys.specs.declared.lent.Place.{Place}
 use Rattle.keys.specs.declared.lent.Added.{Added}
+use Rattle.keys.specs.declared.store.Store.{Store}
 use Rattle.keys.specs.Store.{limit, rising, allZero}
 
 -- is a run of keys with a count that of a store in order?
@@ -59,55 +60,65 @@ lacking p = cond (p .held) 0 1
 abbrev pub putIn : Place → ℕ → ℕ → List ℕ → List ℕ
 putIn p count key keys = cond (p .held) keys (insertedAt (p .at) count key keys)
 
+-- ---- keys added to the store that a run of keys and a count make up
+
+abbrev pub storeWith : List ℕ → ℕ → Store
+storeWith keys count = record { keys = keys; count = count }
+
+-- what adding gives: whether the keys fit, the store then, and where the lesser and the greater one stand in it
+pub record Grown : Type 0 where
+  pub fits : Bool
+  pub store : Store
+  pub first : ℕ
+  pub last : ℕ
+
+-- that, by the run as it is then and what the call returns
+abbrev pub grownWith : List ℕ → Added → Grown
+grownWith keys a = record { fits = a .fits; store = storeWith keys (a .count); first = a .first; last = a .last }
+
+abbrev pub grown : Store → ℕ → ℕ → Grown
+grown s first last = record { fits = true; store = s; first = first; last = last }
+
+-- keys that do not fit leave the store as it was
+abbrev pub unfit : Store → Grown
+unfit s = record { fits = false; store = s; first = 0; last = 0 }
+
+-- what the call returns then
+abbrev pub noRoom : ℕ → Added
+noRoom count = record { fits = false; count = count; first = 0; last = 0 }
+
 -- is there room for m keys more?
 abbrev pub room : ℕ → ℕ → Bool
 room count m = leb (count + m) limit
 
--- what adding gives: the count, and where the lesser and the greater key stand then; or the number 6, and the count as it was
-abbrev pub addedAt : ℕ → ℕ → ℕ → Added
-addedAt count first last = record { number = 0; count = count; first = first; last = last }
+-- the store with a key at its place p
+abbrev pub withKey : Place → ℕ → Store → Store
+withKey p key s = storeWith (putIn p (s .count) key (s .keys)) (s .count + lacking p)
 
-abbrev pub noRoom : ℕ → Added
-noRoom count = record { number = 6; count = count; first = 0; last = 0 }
-
--- one key added at its place p: the answer, and the run
-abbrev pub addOne : Place → ℕ → Added
-addOne p count = cond (room count (lacking p)) (addedAt (count + lacking p) (p .at) (p .at)) (noRoom count)
-
-abbrev pub keysOne : Place → ℕ → ℕ → List ℕ → List ℕ
-keysOne p count key keys = cond (room count (lacking p)) (putIn p count key keys) keys
+-- one key added, at p
+abbrev pub addOne : Place → ℕ → Store → Grown
+addOne p key s = cond (room (s .count) (lacking p)) (grown (withKey p key s) (p .at) (p .at)) (unfit s)
 
 -- the place q of a greater key, once the lesser one is put in at p
 abbrev pub raised : Place → Place → Place
 raised p q = record { at = q .at + lacking p; held = q .held }
 
--- two keys added, the lesser one at p and the greater one at q: the answer, and the run
-abbrev pub addTwo : Place → Place → ℕ → Added
-addTwo p q count =
-    cond (room count (lacking p + lacking q))
-    (addedAt (count + lacking p + lacking q) (p .at) (q .at + lacking p))
-    (noRoom count)
+-- Do two keys fit, the lesser one at p and the greater one at q? There is room, and p does not come after q, as it would where lo is above hi.
+abbrev pub fitTwo : Place → Place → ℕ → Bool
+fitTwo p q count = leb (p .at) (q .at) && room count (lacking p + lacking q)
 
-abbrev pub keysTwo : Place → Place → ℕ → ℕ → ℕ → List ℕ → List ℕ
-keysTwo p q count lo hi keys =
-    cond (room count (lacking p + lacking q))
-    (putIn (raised p q) (count + lacking p) hi (putIn p count lo keys))
-    keys
+-- two keys added, the lesser one at p and the greater one at q
+abbrev pub addTwo : Place → Place → ℕ → ℕ → Store → Grown
+addTwo p q lo hi s =
+    cond (fitTwo p q (s .count)) (grown (withKey (raised p q) hi (withKey p lo s)) (p .at) (q .at + lacking p)) (unfit s)
 
 -- `add_in`: one key entered
-unfoldable pub addIn : List ℕ → ℕ → ℕ → Added
-addIn keys count key = addOne (placeIn keys count key) count
+unfoldable pub addIn : Store → ℕ → Grown
+addIn s key = addOne (placeIn (s .keys) (s .count) key) key s
 
-unfoldable pub keysAdding : List ℕ → ℕ → ℕ → List ℕ
-keysAdding keys count key = keysOne (placeIn keys count key) count key keys
-
--- `add_both`: two keys entered, or one where they are equal
-unfoldable pub addBoth : List ℕ → ℕ → ℕ → ℕ → Added
-addBoth keys count lo hi =
-    cond (eqb lo hi) (addOne (placeIn keys count lo) count) (addTwo (placeIn keys count lo) (placeIn keys count hi) count)
-
-unfoldable pub keysBoth : List ℕ → ℕ → ℕ → ℕ → List ℕ
-keysBoth keys count lo hi =
+-- `add_both_in`: two keys entered, or one where they are equal
+unfoldable pub addBothIn : Store → ℕ → ℕ → Grown
+addBothIn s lo hi =
     cond (eqb lo hi)
-    (keysOne (placeIn keys count lo) count lo keys)
-    (keysTwo (placeIn keys count lo) (placeIn keys count hi) count lo hi keys)
+    (addOne (placeIn (s .keys) (s .count) lo) lo s)
+    (addTwo (placeIn (s .keys) (s .count) lo) (placeIn (s .keys) (s .count) hi) lo hi s)

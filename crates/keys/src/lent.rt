@@ -6,11 +6,10 @@ use crate::leaf::quarter;
 use crate::leaf::rises;
 use crate::store::Store;
 ghost use mathlib.Core.Path.{_≡_};
-ghost use mathlib.Core.Bool.{false};
-ghost use Prim.Native.Nat.{_≤_, _<_};
+ghost use Prim.Native.Nat.{_+_, _≤_};
 ghost use lib.ListN.{length};
 ghost use Rattle.keys.specs.Store.{limit};
-ghost use Rattle.keys.specs.Lent.{orderedIn, placeIn, lacking, putIn, addTwo, keysTwo, addIn, keysAdding, addBoth, keysBoth};
+ghost use Rattle.keys.specs.Lent.{orderedIn, placeIn, lacking, putIn, storeWith, grownWith, noRoom, addTwo, addIn, addBothIn};
 
 // Where a key stands, or would stand.
 pub struct Place {
@@ -18,9 +17,9 @@ pub struct Place {
     pub held: bool,
 }
 
-// Keys added: the count then, and where the lesser and the greater one stand; or the number 6.
+// Keys added: the count then, and where the lesser and the greater one stand; or that they do not fit, and the count as it was.
 pub struct Added {
-    pub number: u8,
+    pub fits: bool,
     pub count: usize,
     pub first: usize,
     pub last: usize,
@@ -66,7 +65,7 @@ pub fn place_in(keys: &[u64], count: usize, key: u64) -> Place
 }
 
 fn put_in(keys: &mut [u64; Store::LIMIT], place: Place, count: usize, key: u64)
-    requires { ⌜ (place .held ≡ false → (place .at ≤ count) × (count < limit)) × (length (now keys) ≡ limit) ⌝ }
+    requires { ⌜ (place .at ≤ count) × (count + lacking place ≤ limit) × (length (now keys) ≡ limit) ⌝ }
     ensures { λ r. ⌜ now (keys .exit) ≡ putIn place count key (now (keys .entry)) ⌝ }
 {
     let at = place.at;
@@ -82,23 +81,30 @@ fn lacks(place: Place) -> usize
     if place.held { 0 } else { 1 }
 }
 
+// What adding returns where the keys do not fit.
+fn no_room(count: usize) -> Added
+    ensures { λ r. ⌜ r ≡ noRoom count ⌝ }
+{
+    Added {
+        fits: false,
+        count,
+        first: 0,
+        last: 0,
+    }
+}
+
 // Enters one key.
 pub fn add_in(keys: &mut [u64; Store::LIMIT], count: usize, key: u64) -> Added
-    ensures { λ r. ⌜ (r ≡ addIn (now (keys .entry)) count key) × (now (keys .exit) ≡ keysAdding (now (keys .entry)) count key) ⌝ }
+    ensures { λ r. ⌜ grownWith (now (keys .exit)) r ≡ addIn (storeWith (now (keys .entry)) count) key ⌝ }
 {
     let place = place_in(&keys[..], count, key);
     let more = lacks(place);
     if Store::LIMIT - more < count {
-        return Added {
-            number: 6,
-            count,
-            first: 0,
-            last: 0,
-        };
+        return no_room(count);
     }
     put_in(keys, place, count, key);
     Added {
-        number: 0,
+        fits: true,
         count: count + more,
         first: place.at,
         last: place.at,
@@ -115,17 +121,15 @@ fn add_two(
     hi: u64,
 ) -> Added
     requires { ⌜ (lower .at ≤ count) × (upper .at ≤ count) × (length (now keys) ≡ limit) ⌝ }
-    ensures { λ r. ⌜ (r ≡ addTwo lower upper count) × (now (keys .exit) ≡ keysTwo lower upper count lo hi (now (keys .entry))) ⌝ }
+    ensures { λ r. ⌜ grownWith (now (keys .exit)) r ≡ addTwo lower upper lo hi (storeWith (now (keys .entry)) count) ⌝ }
 {
+    if upper.at < lower.at {
+        return no_room(count);
+    }
     let below = lacks(lower);
     let above = lacks(upper);
     if Store::LIMIT - (below + above) < count {
-        return Added {
-            number: 6,
-            count,
-            first: 0,
-            last: 0,
-        };
+        return no_room(count);
     }
     put_in(keys, lower, count, lo);
     let raised = Place {
@@ -134,7 +138,7 @@ fn add_two(
     };
     put_in(keys, raised, count + below, hi);
     Added {
-        number: 0,
+        fits: true,
         count: count + below + above,
         first: lower.at,
         last: upper.at + below,
@@ -142,8 +146,8 @@ fn add_two(
 }
 
 // Enters two keys, or one where they are equal.
-pub fn add_both(keys: &mut [u64; Store::LIMIT], count: usize, lo: u64, hi: u64) -> Added
-    ensures { λ r. ⌜ (r ≡ addBoth (now (keys .entry)) count lo hi) × (now (keys .exit) ≡ keysBoth (now (keys .entry)) count lo hi) ⌝ }
+pub fn add_both_in(keys: &mut [u64; Store::LIMIT], count: usize, lo: u64, hi: u64) -> Added
+    ensures { λ r. ⌜ grownWith (now (keys .exit)) r ≡ addBothIn (storeWith (now (keys .entry)) count) lo hi ⌝ }
 {
     if lo == hi {
         return add_in(keys, count, lo);

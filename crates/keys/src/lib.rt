@@ -8,7 +8,7 @@ mod store;
 pub use count::capped;
 pub use lent::Added;
 pub use lent::Place;
-pub use lent::add_both;
+pub use lent::add_both_in;
 pub use lent::add_in;
 pub use lent::ordered_in;
 pub use lent::place_in;

@@ -1,31 +1,31 @@
 -- Question 1 of a node as the code puts it (src/order.rt): one law for each way that the code goes. In order: two claims compared; the claim of
 -- zeros, before which none comes; a claim that fits; the loops over the table, of which what is left computes the answer; the node.
 -- Assumes nothing.
-use mathlib.Core.Path.{_≡_, refl, sym, _∙_, ap, ap₂}
-use mathlib.Core.Bool.{Bool, true, false, cond, _&&_, false≢true, and-true, and-false, and-assoc}
-use mathlib.Core.List.{List, [], _∷_}
-use Prim.Native.Nat.{ℕ, _+_, _≤_, _<_}
+use mathlib.Core.Path.{_≡_, refl, sym, _∙_, ap}
+use mathlib.Core.Bool.{Bool, true, false, cond, not, _&&_, false≢true, and-true, and-false, and-assoc}
+use mathlib.Core.List.{List, [], _∷_, _++_}
+use Prim.Native.Nat.{ℕ, _+_, _-_, _≤_, _<_}
 use native.Mathlib.Numerals.{add-one}
 use native.Mathlib.Omega.{arith}
-use borrow.Author.Tests.{le-ltb, le-leb, lt-leb, eqb-true, eq-eqb, ne-eqb}
-use lib.Dec.{ltb, eqb}
-use lib.ListN.{length, take, drop, getD, drop-of-length-le}
-use lib.Seq.{drop-cons, getD-take, length-take-le}
+use borrow.Author.Tests.{le-ltb, le-leb, lt-leb, eqb-true, eq-eqb, ne-eqb, not-true, not-false}
+use lib.Dec.{ltb, leb, eqb}
+use lib.ListN.{length, take, drop, getD, drop-of-length-le, length-take}
+use lib.Seq.{drop-cons, getD-take, length-take-le, take-at, drop-at, take-length}
 use Rattle.keys.specs.declared.lent.Place.{Place}
-use Rattle.keys.specs.declared.store.Store.{Store}
-use Rattle.keys.specs.Store.{limit, keysOf, storeOf, inOrder, holds}
-use Rattle.keys.specs.Lent.{orderedIn, placeIn}
-use Rattle.keys.proofs.Order.{inOrder-rising, length-keysOf, storeOf-keysOf}
-use Rattle.keys.proofs.LentLaws.{orderedIn-inOrder, placeIn-store}
+use Rattle.keys.specs.Store.{limit, storeOf, inOrder, holds}
+use Rattle.keys.specs.Lent.{orderedIn, placeIn, storeWith}
+use Rattle.keys.proofs.Order.{keysOf-storeOf}
+use Rattle.keys.proofs.LentLaws.{orderedIn-inOrder, orderedIn-all, placeIn-ordered}
 use Rattle.claims.specs.declared.claim.Claim.{Claim}
 use Rattle.claims.specs.Claim.{noClaim}
 use Rattle.claims.specs.Reply.{ends, same}
 use Rattle.claims.specs.Call.{judged}
 use Rattle.claims.proofs.ClaimLaws.{same-claim}
 use Rattle.rule.specs.Table.{tableLimit, before, climbsFrom, climbs}
-use Rattle.rule.specs.Node.{holdsAll, allFit, allUnused, nodeInOrder}
+use Rattle.rule.specs.Node.{blanks, holdsAll, allFit, allUnused, nodeOf, nodeInOrder}
+use Rattle.rule.proofs.NodeLaws.{allUnused-blanks}
 use Rattle.rule.proofs.TableLaws.{before-total}
-use Rattle.nodes.specs.Lent.{nodeWith}
+use Rattle.nodes.specs.Lent.{nodeWith, pending, frontIn}
 
 -- ---- two claims compared
 
@@ -89,40 +89,31 @@ judged-noClaim = refl
 
 -- ---- a claim that fits: the store, seen as a run of keys
 
-module _ (keys : List ℕ) (held : ℕ) (c : Claim) (long : length keys ≡ limit) (yes : orderedIn keys held ≡ true) where
+-- what a test that was passed says
+pub tested-yes : (t u : Bool) → t ≡ u → not t ≡ false → u ≡ true
+tested-yes t u told e = sym told ∙ not-false t e
+
+module _ (keys : List ℕ) (held : ℕ) (c : Claim) (yes : orderedIn keys held ≡ true) where
   -- a place says whether its key is held
-  held-placeIn : (k : ℕ) → placeIn keys held k .held ≡ holds k (take held keys)
-  held-placeIn k =
-      let s : Store = record { keys = keys; count = held } in
-      let ordered : inOrder s ≡ true = sym (orderedIn-inOrder s long) ∙ yes in
-      let run : keys ≡ storeOf (keysOf s) .keys = ap (λ (t : Store). t .keys) (storeOf-keysOf s long ordered) in
-      let many : held ≡ length (keysOf s) = sym (length-keysOf s long ordered) in
-      ap₂ (λ (m : List ℕ) (n : ℕ). placeIn m n k .held) run many
-      ∙ ap (λ (p : Place). p .held) (placeIn-store (keysOf s) (inOrder-rising s ordered) k)
+  held-place : (k : ℕ) (p : Place) → p ≡ placeIn keys held k → holds k (take held keys) ≡ p .held
+  held-place k p found = sym (ap (λ (x : Place). x .held) (found ∙ placeIn-ordered keys held k yes))
 
   module _ (n : ℕ) (number : n ≡ judged c) where
     pub fits-judged : (n ≡ 0 → ⊥) → false ≡ (eqb (judged c) 0 && holdsAll (ends c) (take held keys))
     fits-judged f = rw (← number, ne-eqb n 0 f)
 
     module _ (pass : n ≡ 0) (p : Place) (lower : p ≡ placeIn keys held (c .lo)) where
-      pub fits-lo : p .held ≡ false → false ≡ (eqb (judged c) 0 && holdsAll (ends c) (take held keys))
-      fits-lo e =
-          let missing : holds (c .lo) (take held keys) ≡ false = sym (held-placeIn (c .lo)) ∙ (ap (λ (x : Place). x .held) (sym lower) ∙ e) in
-          rw (← number, eq-eqb n 0 pass, missing)
+      pub fits-lo : not (p .held) ≡ true → false ≡ (eqb (judged c) 0 && holdsAll (ends c) (take held keys))
+      fits-lo e = rw (← number, eq-eqb n 0 pass, held-place (c .lo) p lower, not-true (p .held) e)
 
-      pub fits-hi : p .held ≡ true → (q : Place) → q ≡ placeIn keys held (c .hi) → q .held ≡ (eqb (judged c) 0 && holdsAll (ends c) (take held keys))
+      pub fits-hi : not (p .held) ≡ false → (q : Place) → q ≡ placeIn keys held (c .hi)
+          → q .held ≡ (eqb (judged c) 0 && holdsAll (ends c) (take held keys))
       fits-hi e q upper =
-          let found : holds (c .lo) (take held keys) ≡ true = sym (held-placeIn (c .lo)) ∙ (ap (λ (x : Place). x .held) (sym lower) ∙ e) in
-          let told : q .held ≡ holds (c .hi) (take held keys) = ap (λ (x : Place). x .held) upper ∙ held-placeIn (c .hi) in
-          rw (← number, eq-eqb n 0 pass, found, and-true) told
+          rw (← number, eq-eqb n 0 pass, held-place (c .lo) p lower, not-false (p .held) e, and-true) (sym (held-place (c .hi) q upper))
 
 -- ---- the pending claims: they rise and fit if those from i on rise from above the last one and fit
 
--- the claims of a table rise strictly, and each fits
-abbrev pub pending : List Claim → List ℕ → Bool
-pending t l = climbs t && allFit t l
-
--- .. and from above a claim
+-- the claims t rise strictly from above c, and each fits
 abbrev pub pendingFrom : Claim → List Claim → List ℕ → Bool
 pendingFrom c t l = climbsFrom c t && allFit t l
 
@@ -147,16 +138,29 @@ drop-take-cons table count i d h g =
 
 module _ (t : List Claim) (l : List ℕ) (last : Claim) (i : ℕ) (left : pending t l ≡ pendingFrom last (drop i t) l)
     (c : Claim) (next : drop i t ≡ c ∷ drop (i + 1) t) where
-  pub pending-fall : before last c ≡ false → false ≡ pending t l
-  pending-fall e = rw (left, next, e)
+  -- by what the comparison said, and then the test whether the claim fits
+  module _ (rose : Bool) (compared : rose ≡ before last c) where
+    pub pending-fall : not rose ≡ true → false ≡ pending t l
+    pending-fall e = rw (left, next, ← compared, not-true rose e)
 
-  pub pending-unfit : before last c ≡ true → (eqb (judged c) 0 && holdsAll (ends c) l) ≡ false → false ≡ pending t l
-  pending-unfit e f =
-      rw (left, next, e, ← and-assoc (eqb (judged c) 0) (holdsAll (ends c) l) (allFit (drop (i + 1) t) l), f, and-false)
+    module _ (rises : not rose ≡ false) (fits : Bool) (tested : fits ≡ (eqb (judged c) 0 && holdsAll (ends c) l)) where
+      -- what is left to ask: this claim, and those behind it
+      left-is : pending t l ≡ (climbsFrom c (drop (i + 1) t) && (fits && allFit (drop (i + 1) t) l))
+      left-is =
+          rw (
+            left,
+            next,
+            ← compared,
+            not-false rose rises,
+            ← and-assoc (eqb (judged c) 0) (holdsAll (ends c) l) (allFit (drop (i + 1) t) l),
+            ← tested,
+          )
 
-  pub pending-on : before last c ≡ true → (eqb (judged c) 0 && holdsAll (ends c) l) ≡ true → pending t l ≡ pendingFrom c (drop (i + 1) t) l
-  pending-on e f =
-      rw (left, next, e, ← and-assoc (eqb (judged c) 0) (holdsAll (ends c) l) (allFit (drop (i + 1) t) l), f)
+      pub pending-unfit : not fits ≡ true → false ≡ pending t l
+      pending-unfit e = sym (left-is ∙ rw (not-true fits e, and-false))
+
+      pub pending-on : not fits ≡ false → pending t l ≡ pendingFrom c (drop (i + 1) t) l
+      pending-on e = left-is ∙ rw (not-false fits e)
 
 pub pending-all : (t : List Claim) (l : List ℕ) (last : Claim) (i : ℕ) → pending t l ≡ pendingFrom last (drop i t) l → length t ≤ i → true ≡ pending t l
 pending-all t l last i left h = rw (left, drop-of-length-le t)
@@ -168,46 +172,79 @@ drop-next table i d h = rw (add-one, drop-cons table i d)
 
 module _ (table : List Claim) (count i : ℕ) (left : allUnused (drop count table) ≡ allUnused (drop i table))
     (c : Claim) (next : drop i table ≡ c ∷ drop (i + 1) table) where
-  pub unused-not : before noClaim c ≡ true → false ≡ allUnused (drop count table)
-  unused-not e = rw (left, next, before-not-same noClaim c e)
+  pub unused-not : (t : Bool) → t ≡ before noClaim c → t ≡ true → false ≡ allUnused (drop count table)
+  unused-not t compared e = rw (left, next, before-not-same noClaim c (sym compared ∙ e))
 
-  pub unused-on : before noClaim c ≡ false → allUnused (drop count table) ≡ allUnused (drop (i + 1) table)
-  unused-on e = rw (left, next, before-noClaim-not c e)
+  pub unused-on : (t : Bool) → t ≡ before noClaim c → t ≡ false → allUnused (drop count table) ≡ allUnused (drop (i + 1) table)
+  unused-on t compared e = rw (left, next, before-noClaim-not c (sym compared ∙ e))
 
 pub unused-all : (table : List Claim) (count i : ℕ) → allUnused (drop count table) ≡ allUnused (drop i table) → length table ≤ i → true ≡ allUnused (drop count table)
 unused-all table count i left h = rw (left, drop-of-length-le table)
 
--- ---- the node
+-- ---- the node, by what was found of its parts
 
-module _ (keys : List ℕ) (held : ℕ) (table : List Claim) (count : ℕ) (long : length keys ≡ limit) where
-  pub ordered-store : orderedIn keys held ≡ false → false ≡ nodeInOrder (nodeWith keys held table count)
+module _ (keys : List ℕ) (held : ℕ) (table : List Claim) (count : ℕ) (long : length keys ≡ limit) (ordered : Bool) (tested : ordered ≡ orderedIn keys held) where
+  tested-store : inOrder (storeWith keys held) ≡ ordered
+  tested-store = sym (tested ∙ orderedIn-inOrder (storeWith keys held) long)
+
+  pub ordered-store : not ordered ≡ true → false ≡ nodeInOrder (nodeWith keys held table count)
   unfolding nodeInOrder
-  ordered-store e = rw (← orderedIn-inOrder (record { keys = keys; count = held }) long, e)
+  ordered-store e = rw (tested-store, not-true ordered e)
 
-  module _ (yes : orderedIn keys held ≡ true) where
+  module _ (yes : not ordered ≡ false) where
     pub ordered-count : tableLimit < count → false ≡ nodeInOrder (nodeWith keys held table count)
     unfolding nodeInOrder
-    ordered-count h = rw (← orderedIn-inOrder (record { keys = keys; count = held }) long, yes, lt-leb count tableLimit h)
+    ordered-count h = rw (tested-store, not-false ordered yes, lt-leb count tableLimit h)
 
-    pub ordered-pending : count ≤ tableLimit → pending (take count table) (take held keys) ≡ false → false ≡ nodeInOrder (nodeWith keys held table count)
-    unfolding nodeInOrder
-    ordered-pending h e =
+    module _ (few : count ≤ tableLimit) (pends : Bool) (looked : pends ≡ pending (take count table) (take held keys)) where
+      -- what is left to ask: the pending claims, and the unused places
+      left-to-ask : nodeInOrder (nodeWith keys held table count) ≡ (pends && allUnused (drop count table))
+      unfolding nodeInOrder
+      left-to-ask =
+          rw (
+            tested-store,
+            not-false ordered yes,
+            le-leb count tableLimit few,
+            ← and-assoc (climbs (take count table)) (allFit (take count table) (take held keys)) (allUnused (drop count table)),
+            looked,
+          )
+
+      pub ordered-pending : not pends ≡ true → false ≡ nodeInOrder (nodeWith keys held table count)
+      ordered-pending e = sym (left-to-ask ∙ rw (not-true pends e))
+
+      pub ordered-unused : not pends ≡ false → (blank : Bool) → blank ≡ allUnused (drop count table) → blank ≡ nodeInOrder (nodeWith keys held table count)
+      ordered-unused e blank f = f ∙ sym (left-to-ask ∙ rw (not-false pends e))
+
+-- ---- the node of some keys and claims
+
+nodeInOrder-nodeOf : (l : List ℕ) (t : List Claim) → nodeInOrder (nodeOf l t) ≡ (inOrder (storeOf l) && (leb (length t) tableLimit && pending t l))
+unfolding nodeInOrder nodeOf
+nodeInOrder-nodeOf l t =
+    let b : List Claim = blanks (tableLimit - length t) in
+    let front : take (length t) (t ++ b) ≡ t = take-at t b (length t) refl in
+    let past : drop (length t) (t ++ b) ≡ b = drop-at t b (length t) refl in
+    rw (front, past, keysOf-storeOf l, allUnused-blanks (tableLimit - length t), and-true (allFit t l))
+
+module _ (keys : List ℕ) (table : List Claim) (count : ℕ) where
+  pub front-count : tableLimit < count → false ≡ frontIn keys table count
+  front-count h = rw (lt-leb count tableLimit h)
+
+  module _ (few : count ≤ tableLimit) (ordered : Bool) (tested : ordered ≡ orderedIn keys (length keys)) where
+    -- what is left to ask: the keys and the claims
+    front-is : frontIn keys table count ≡ (ordered && pending (take count table) keys)
+    front-is =
+        let short : length (take count table) ≤ tableLimit = rw (length-take count table) (omega arith) in
         rw (
-          ← orderedIn-inOrder (record { keys = keys; count = held }) long,
-          yes,
-          le-leb count tableLimit h,
-          ← and-assoc (climbs (take count table)) (allFit (take count table) (take held keys)) (allUnused (drop count table)),
-          e,
+          le-leb count tableLimit few,
+          nodeInOrder-nodeOf keys (take count table),
+          ← orderedIn-all keys,
+          ← tested,
+          le-leb (length (take count table)) tableLimit short,
         )
 
-    pub ordered-unused : count ≤ tableLimit → pending (take count table) (take held keys) ≡ true
-        → allUnused (drop count table) ≡ nodeInOrder (nodeWith keys held table count)
-    unfolding nodeInOrder
-    ordered-unused h e =
-        rw (
-          ← orderedIn-inOrder (record { keys = keys; count = held }) long,
-          yes,
-          le-leb count tableLimit h,
-          ← and-assoc (climbs (take count table)) (allFit (take count table) (take held keys)) (allUnused (drop count table)),
-          e,
-        )
+    pub front-store : not ordered ≡ true → false ≡ frontIn keys table count
+    front-store e = sym (front-is ∙ rw (not-true ordered e))
+
+    pub front-pending : not ordered ≡ false → (pends : Bool) → pends ≡ pending (take count table) (take (length keys) keys) → pends ≡ frontIn keys table count
+    front-pending e pends looked =
+        looked ∙ (ap (λ (l : List ℕ). pending (take count table) l) (take-length keys) ∙ sym (front-is ∙ rw (not-false ordered e)))

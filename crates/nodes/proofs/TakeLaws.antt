@@ -1,37 +1,36 @@
--- Taking a claim (src/taking.rt): one law for each way that the code goes, and what `takenNext` of specs/Lent means on a node in order. In order: the
--- table with the claim put in; the node that hears it; the refusals of `take`; on a node in order, taking the next claim is `taken`,
--- and leaves it in order. Assumes nothing.
-use mathlib.Core.Path.{_≡_, refl, sym, _∙_, ap, ap₂, subst}
-use mathlib.Core.Bool.{Bool, true, false, cond}
+-- Taking a claim (src/taking.rt): one law for each way that the code goes, and what `takeIn` of specs/Lent means. In order: the table with the claim put
+-- in; the node that hears it, of any content; on a node in order, `takeIn` is `taken`, and leaves it in order; `take`. Assumes nothing.
+use mathlib.Core.Path.{_≡_, refl, sym, _∙_, ap, subst}
+use mathlib.Core.Bool.{Bool, true, false, cond, not}
 use mathlib.Core.Logic.{⊎-elim}
 use mathlib.Core.List.{List, [], _∷_, _++_}
 use Prim.Native.Nat.{ℕ, zero, suc, _+_, _-_, _≤_, _<_, min}
 use native.Mathlib.Omega.{arith}
-use borrow.Author.Tests.{lt-ltb, le-ltb, eq-eqb, ne-eqb}
+use borrow.Author.Tests.{lt-ltb, le-ltb, eq-eqb, ne-eqb, not-true, not-false}
 use lib.ListN.{length, take, drop, length-append, length-take, length-drop, take-append-drop}
 use lib.Seq.{length-take-le, take-take, take-all, take-at, drop-drop}
-use Rattle.keys.specs.declared.lent.Added.{Added}
 use Rattle.keys.specs.declared.store.Store.{Store}
-use Rattle.keys.specs.Store.{limit, storeOf, position, insertAll}
-use Rattle.keys.specs.Lent.{noRoom, addedAt}
+use Rattle.keys.specs.Store.{limit, storeOf, insertAll}
+use Rattle.keys.specs.Lent.{storeWith}
 use Rattle.keys.proofs.Tests.{lt-or-le, eq-or-ne}
 use Rattle.keys.proofs.Rising.{Rising}
-use Rattle.keys.proofs.Order.{inOrder-rising, length-keysOf, storeOf-keysOf, count-storeOf}
+use Rattle.keys.proofs.Order.{inOrder-rising, storeOf-keysOf}
 use Rattle.claims.specs.declared.claim.Claim.{Claim}
+use Rattle.claims.specs.declared.lent.Heard.{Heard}
 use Rattle.claims.specs.Question.{firstNo, question6, claimQuestions}
 use Rattle.claims.specs.Reply.{ends, hear, same}
 use Rattle.claims.specs.Call.{judged}
-use Rattle.claims.specs.Lent.{hearIn, keysHearing}
-use Rattle.claims.proofs.QuestionLaws.{Passes, passes, firstNo-yes, firstNo-no, firstNo-append-no, judged-firstNo}
-use Rattle.claims.proofs.LentLaws.{hearIn-fits, hearIn-full, keysHearing-fits, keysHearing-refused}
+use Rattle.claims.specs.Lent.{Hearing, hearingWith, hearIn}
+use Rattle.claims.proofs.QuestionLaws.{Passes, passes, firstNo-yes, firstNo-no, firstNo-append-no, settle-kept, judged-firstNo}
+use Rattle.claims.proofs.LentLaws.{hearIn-kept, hearIn-judged, hearIn-fits, hearIn-full}
 use Rattle.rule.specs.declared.node.Node.{Node}
 use Rattle.rule.specs.declared.answer.Taken.{Taken}
 use Rattle.rule.specs.Table.{tableLimit, before, insertClaim, tableWith}
 use Rattle.rule.specs.Node.{blanks, pendingOf, nodeKeys, nodeOf, nodeInOrder}
 use Rattle.rule.specs.Call.{writtenOver, takeQuestions, taken}
-use Rattle.rule.proofs.NodeLaws.{Ordered, blanks-allUnused}
+use Rattle.rule.proofs.NodeLaws.{Ordered, nodeInOrder-ordered, ordered-nodeInOrder, blanks-allUnused}
 use Rattle.rule.proofs.CallLaws.{takeQuestions-yes, takeQuestions-6, taken-done, taken-refused, ordered-taken, length-pendingOf}
-use Rattle.nodes.specs.Lent.{nodeWith, placeAmong, isAt, placedAt, placedIn, tableIn, Enlisted, takenAfter, takenNext}
+use Rattle.nodes.specs.Lent.{nodeWith, placeAmong, isAt, placedAt, placedIn, tableIn, Enlisted, takenWith, takeIn}
 use Rattle.nodes.proofs.Placing.{tableIn-tableWith}
 
 -- ---- the table with the claim put in
@@ -58,17 +57,20 @@ module _ (table : List Claim) (count at : ℕ) (c : Claim) (whole : length table
   enlisted-same : placedIn at c (take count table) ≡ take count table → Enlisted table (placedIn at c (take count table)) table count
   enlisted-same e = rw e (record { places = rw length-pending (sym (take-append-drop count table)); many = sym length-pending })
 
-  pub enlisted-held : isAt at c (take count table) ≡ true → Enlisted table (placedIn at c (take count table)) table count
-  enlisted-held e = enlisted-same (rw e)
+  pub enlisted-held : (t : Bool) → t ≡ isAt at c (take count table) → t ≡ true → Enlisted table (placedIn at c (take count table)) table count
+  enlisted-held t told e = enlisted-same (rw (← told, e))
 
-  module _ (other : isAt at c (take count table) ≡ false) where
+  module _ (t : Bool) (told : t ≡ isAt at c (take count table)) (no : t ≡ false) where
+    other : isAt at c (take count table) ≡ false
+    other = sym told ∙ no
+
     -- a 65th claim that comes last
     pub enlisted-last : at ≡ tableLimit → Enlisted table (placedIn at c (take count table)) table count
     enlisted-last e =
         let n : length (take at (take count table)) ≡ tableLimit = length-take-le at (take count table) (omega (arith, length-pending)) ∙ e in
         enlisted-same (rw (other, take-at (take at (take count table)) (c ∷ drop at (take count table)) tableLimit n) (take-all at (take count table) (omega (arith, length-pending))))
 
-    pub enlisted-put : at < tableLimit → (kept : ℕ) → kept ≡ min count (tableLimit - 1) → (moved : List Claim)
+    pub enlisted-put : (at ≡ tableLimit → ⊥) → (kept : ℕ) → kept ≡ min count (tableLimit - 1) → (moved : List Claim)
         → moved ≡ writtenOver (placedAt at c (take kept table)) table → Enlisted table (placedIn at c (take count table)) moved (kept + 1)
     enlisted-put h kept k moved m =
         let cut : placedIn at c (take count table) ≡ placedAt at c (take kept table) =
@@ -86,42 +88,37 @@ enlisted-found table count known at c new n whole k e put =
 
 -- ---- the node that hears the claim
 
-module _ (n : Node) (c : Claim) (h : Added) (after : List ℕ) (heard : h ≡ hearIn (n .store .keys) (n .store .count) c)
-    (put : after ≡ keysHearing (n .store .keys) (n .store .count) c) where
-  pub takenNext-refused : (h .number ≡ 0 → ⊥) → record { number = h .number; node = nodeWith after (n .store .count) (n .pending) (n .count) } ≡ takenNext n c
-  unfolding takenNext
-  takenNext-refused f =
-      let kept : after ≡ n .store .keys = put ∙ keysHearing-refused (n .store .keys) (n .store .count) c (λ e. f (ap (λ (x : Added). x .number) heard ∙ e)) in
-      (λ i. record { number = h .number; node = nodeWith (kept i) (n .store .count) (n .pending) (n .count) })
-      ∙ (sym (takenAfter-refused h f) ∙ ap₂ (λ (x : Added) (keys : List ℕ). takenAfter x keys n c) heard put)
-    where
-      takenAfter-refused : (x : Added) → (x .number ≡ 0 → ⊥) → takenAfter x after n c ≡ record { number = x .number; node = n }
-      takenAfter-refused x g = rw (ne-eqb (x .number) 0 g)
+module _ (keys : List ℕ) (held : ℕ) (table : List Claim) (count : ℕ) (c : Claim) (h : Heard) (after : List ℕ)
+    (heard : hearingWith after h ≡ hearIn (storeWith keys held) c) where
+  number-is : h .number ≡ hearIn (storeWith keys held) c .number
+  number-is = ap (λ (x : Hearing). x .number) heard
 
-  pub takenNext-done : h .number ≡ 0 → (new : List Claim) (m : ℕ) → Enlisted (n .pending) (tableIn c (pendingOf n)) new m
-      → record { number = 0; node = nodeWith after (h .count) new m } ≡ takenNext n c
-  unfolding takenNext
-  takenNext-done e new m listed =
-      (λ i. record { number = 0; node = nodeWith after (h .count) (listed .places i) (listed .many i) })
-      ∙ (sym (takenAfter-done h e) ∙ ap₂ (λ (x : Added) (keys : List ℕ). takenAfter x keys n c) heard put)
-    where
-      takenAfter-done : (x : Added) → x .number ≡ 0
-          → takenAfter x after n c ≡ record { number = 0; node = nodeWith after (x .count) (writtenOver (tableIn c (pendingOf n)) (n .pending)) (length (tableIn c (pendingOf n))) }
-      takenAfter-done x z = rw (eq-eqb (x .number) 0 z)
+  pub take-refused : (h .number ≡ 0 → ⊥)
+      → takenWith after (record { number = h .number; held = held; table = table; count = count }) ≡ takeIn (nodeWith keys held table count) c
+  unfolding takeIn
+  take-refused f =
+      let same : hearIn (storeWith keys held) c .store ≡ storeWith keys held = hearIn-kept (storeWith keys held) c (λ e. f (number-is ∙ e)) in
+      let kept : after ≡ keys = ap (λ (x : Hearing). x .store .keys) heard ∙ ap (λ (s : Store). s .keys) same in
+      rw (← number-is, ne-eqb (h .number) 0 f, kept)
 
--- ---- the refusals of `take`
+  pub take-done : h .number ≡ 0 → (new : List Claim) (m : ℕ) → Enlisted table (tableIn c (take count table)) new m
+      → takenWith after (record { number = 0; held = h .count; table = new; count = m }) ≡ takeIn (nodeWith keys held table count) c
+  unfolding takeIn
+  take-done e new m listed = rw (← heard, eq-eqb (h .number) 0 e, listed .places, listed .many)
 
-module _ (n : Node) (c : Claim) where
-  pub taken-1 : nodeInOrder n ≡ false → record { number = 1; node = n } ≡ taken n c
-  unfolding taken
-  taken-1 e = rw e
-
-  pub taken-judged : nodeInOrder n ≡ true → (m : ℕ) → m ≡ judged c → (m ≡ 0 → ⊥) → record { number = m; node = n } ≡ taken n c
-  unfolding taken judged
-  taken-judged ordered m e f =
-      let first : firstNo (claimQuestions c ++ (question6 (ends c) (nodeKeys n) ∷ [])) ≡ m =
-      firstNo-append-no (claimQuestions c) (question6 (ends c) (nodeKeys n) ∷ []) (λ z. f (e ∙ z)) ∙ sym e in
-      rw (ordered, first, ne-eqb m 0 f)
+-- refused: the node is what it was
+pub takeIn-kept : (n : Node) (c : Claim) → (takeIn n c .number ≡ 0 → ⊥) → takeIn n c .node ≡ n
+unfolding takeIn
+takeIn-kept n c = settle-kept (λ (t : Taken). t .number) (λ (t : Taken). t .node)
+    (record {
+      number = 0;
+      node = record {
+        store = hearIn (n .store) c .store;
+        pending = writtenOver (tableIn c (pendingOf n)) (n .pending);
+        count = length (tableIn c (pendingOf n));
+      };
+    })
+    (λ x. record { number = x; node = n }) refl (λ x. refl) (hearIn (n .store) c .number)
 
 -- ---- a node in order
 
@@ -155,66 +152,78 @@ module _ (n : Node) (whole : length (n .pending) ≡ tableLimit) (o : Ordered n)
       ∙ (ap (λ (l : List Claim). drop (length t - n .count) l) past
       ∙ (drop-blanks (length t - n .count) (tableLimit - n .count) ∙ ap blanks left))))
 
-  module _ (c : Claim) (long : length (n .store .keys) ≡ limit) (pass : judged c ≡ 0) where
-    rise : Rising (nodeKeys n)
-    rise = inOrder-rising (n .store) (o .store)
-
-    good : Passes c
-    good = passes c (sym (judged-firstNo c) ∙ pass)
-
+  module _ (c : Claim) (long : length (n .store .keys) ≡ limit) where
     -- the store is that of its keys
-    keys-are : n .store .keys ≡ storeOf (nodeKeys n) .keys
-    keys-are = ap (λ (s : Store). s .keys) (storeOf-keysOf (n .store) long (o .store))
+    own-store : n .store ≡ storeOf (nodeKeys n)
+    own-store = storeOf-keysOf (n .store) long (o .store)
 
-    held-are : n .store .count ≡ length (nodeKeys n)
-    held-are = sym (length-keysOf (n .store) long (o .store))
-
-    table-is : tableIn c (pendingOf n) ≡ tableWith c (pendingOf n)
-    table-is = tableIn-tableWith c (pendingOf n) (o .table) (length-pendingOf n o)
-
-    places-are : writtenOver (tableWith c (pendingOf n)) (n .pending) ≡ tableWith c (pendingOf n) ++ blanks (tableLimit - length (tableWith c (pendingOf n)))
-    places-are =
-        let many : length (pendingOf n) ≡ n .count = length-take-le (n .count) (n .pending) (let h : n .count ≤ tableLimit = o .count in omega arith) in
+    -- the table with the claim put in, laid out
+    table-is : writtenOver (tableIn c (pendingOf n)) (n .pending) ≡ tableWith c (pendingOf n) ++ blanks (tableLimit - length (tableWith c (pendingOf n)))
+    table-is =
+        let t = tableIn-tableWith c (pendingOf n) (o .table) (length-pendingOf n o) in
+        let few : n .count ≤ tableLimit = o .count in
+        let many : length (pendingOf n) ≡ n .count = length-take-le (n .count) (n .pending) (omega arith) in
         let grown : length (pendingOf n) ≤ length (insertClaim c (pendingOf n)) = length-insertClaim-ge c (pendingOf n) in
-        let cut : length (tableWith c (pendingOf n)) ≡ min tableLimit (length (insertClaim c (pendingOf n))) = length-take tableLimit (insertClaim c (pendingOf n)) in
-        writtenOver-blanks (tableWith c (pendingOf n)) (let h : n .count ≤ tableLimit = o .count in omega arith)
+        let cut : length (tableWith c (pendingOf n)) ≡ min tableLimit (length (insertClaim c (pendingOf n))) =
+        length-take tableLimit (insertClaim c (pendingOf n)) in
+        ap (λ (u : List Claim). writtenOver u (n .pending)) t ∙ writtenOver-blanks (tableWith c (pendingOf n)) (omega arith)
 
-    takenNext-fits : length (hear c (nodeKeys n)) ≤ limit → takenNext n c ≡ taken n c
-    unfolding takenNext nodeOf
-    takenNext-fits f =
-        let l = nodeKeys n in
-        let t = tableWith c (pendingOf n) in
-        let h : hearIn (n .store .keys) (n .store .count) c ≡ addedAt (length (hear c l)) (position (c .lo) (hear c l)) (position (c .hi) (hear c l)) =
-        ap₂ (λ (keys : List ℕ) (m : ℕ). hearIn keys m c) keys-are held-are ∙ hearIn-fits l rise c (good .ordered) f in
-        let k : keysHearing (n .store .keys) (n .store .count) c ≡ storeOf (hear c l) .keys =
-        ap₂ (λ (keys : List ℕ) (m : ℕ). keysHearing keys m c) keys-are held-are ∙ keysHearing-fits l rise c (good .ordered) f in
-        let yes : firstNo (takeQuestions n c) ≡ 0 =
-        takeQuestions-6 n c o pass ∙ firstNo-yes (question6 (ends c) l) [] (lt-ltb (length (insertAll (ends c) l)) (limit + 1) (omega arith)) in
-        ap₂ (λ (x : Added) (keys : List ℕ). takenAfter x keys n c) h k
-        ∙ (ap (λ (u : List Claim). record { number = 0; node = nodeWith (storeOf (hear c l) .keys) (length (hear c l)) (writtenOver u (n .pending)) (length u) }) table-is
-        ∙ ((λ i. record { number = 0; node = nodeWith (storeOf (hear c l) .keys) (sym (count-storeOf (hear c l)) i) (places-are i) (length t) })
-        ∙ sym (taken-done n c yes)))
+    take-judged : (judged c ≡ 0 → ⊥) → takeIn n c ≡ taken n c
+    unfolding takeIn taken judged
+    take-judged f =
+        let no = firstNo-append-no (claimQuestions c) (question6 (ends c) (nodeKeys n) ∷ []) f in
+        rw (hearIn-judged (n .store) c f, ordered-nodeInOrder n o, no, ne-eqb (firstNo (claimQuestions c)) 0 f)
 
-    takenNext-full : limit < length (hear c (nodeKeys n)) → takenNext n c ≡ taken n c
-    unfolding takenNext
-    takenNext-full f =
-        let l = nodeKeys n in
-        let h : hearIn (n .store .keys) (n .store .count) c ≡ noRoom (length l) =
-        ap₂ (λ (keys : List ℕ) (m : ℕ). hearIn keys m c) keys-are held-are ∙ hearIn-full l rise c (good .ordered) f in
-        let no : firstNo (takeQuestions n c) ≡ 6 =
-        takeQuestions-6 n c o pass ∙ firstNo-no (question6 (ends c) l) [] (le-ltb (length (insertAll (ends c) l)) (limit + 1) (omega arith)) in
-        ap (λ (x : Added). takenAfter x (keysHearing (n .store .keys) (n .store .count) c) n c) h
-        ∙ (ap (λ (m : ℕ). record { number = m; node = n }) (sym no)
-        ∙ sym (taken-refused n c (λ (e : firstNo (takeQuestions n c) ≡ 0). omega arith)))
+    module _ (pass : judged c ≡ 0) where
+      good : Passes c
+      good = passes c (sym (judged-firstNo c) ∙ pass)
 
-    -- Taking the next claim is `taken`, where the node is in order and the claim passes questions 2 to 5.
-    pub takenNext-taken : takenNext n c ≡ taken n c
-    takenNext-taken = ⊎-elim {C = takenNext n c ≡ taken n c} takenNext-full takenNext-fits (lt-or-le limit (length (hear c (nodeKeys n))))
+      rise : Rising (nodeKeys n)
+      rise = inOrder-rising (n .store) (o .store)
+
+      take-fits : length (hear c (nodeKeys n)) ≤ limit → takeIn n c ≡ taken n c
+      unfolding takeIn nodeOf
+      take-fits f =
+          let l = nodeKeys n in
+          let heard = ap (λ (s : Store). hearIn s c) own-store ∙ hearIn-fits l rise c good f in
+          let many : length (tableIn c (pendingOf n)) ≡ length (tableWith c (pendingOf n)) = ap length (tableIn-tableWith c (pendingOf n) (o .table) (length-pendingOf n o)) in
+          let yes : firstNo (takeQuestions n c) ≡ 0 =
+          takeQuestions-6 n c o pass ∙ firstNo-yes (question6 (ends c) l) [] (lt-ltb (length (insertAll (ends c) l)) (limit + 1) (omega arith)) in
+          rw heard
+          ((λ i. record { number = 0; node = record { store = storeOf (hear c l); pending = table-is i; count = many i } }) ∙ sym (taken-done n c yes))
+
+      take-full : limit < length (hear c (nodeKeys n)) → takeIn n c ≡ taken n c
+      unfolding takeIn
+      take-full f =
+          let l = nodeKeys n in
+          let heard = ap (λ (s : Store). hearIn s c) own-store ∙ hearIn-full l rise c good f in
+          let no : firstNo (takeQuestions n c) ≡ 6 =
+          takeQuestions-6 n c o pass ∙ firstNo-no (question6 (ends c) l) [] (le-ltb (length (insertAll (ends c) l)) (limit + 1) (omega arith)) in
+          rw heard
+          (ap (λ (m : ℕ). record { number = m; node = n }) (sym no)
+          ∙ sym (taken-refused n c (λ (e : firstNo (takeQuestions n c) ≡ 0). omega arith)))
+
+    -- Taking a claim is `taken`, where the node is in order.
+    pub takeIn-taken : takeIn n c ≡ taken n c
+    takeIn-taken = ⊎-elim {C = takeIn n c ≡ taken n c}
+        (λ (pass : judged c ≡ 0). ⊎-elim {C = takeIn n c ≡ taken n c} (take-full pass) (take-fits pass) (lt-or-le limit (length (hear c (nodeKeys n)))))
+        take-judged (eq-or-ne (judged c) 0)
 
     -- The node is then in order again, and the next claim may be taken.
-    pub ordered-takenNext : Ordered (takenNext n c .node)
-    ordered-takenNext =
-        ⊎-elim {C = Ordered (takenNext n c .node)}
-        (λ (e : firstNo (takeQuestions n c) ≡ 0). subst (λ (r : Taken). Ordered (r .node)) (sym (takenNext-taken ∙ taken-done n c e)) (ordered-taken n c (takeQuestions-yes n c e)))
-        (λ (f : firstNo (takeQuestions n c) ≡ 0 → ⊥). subst (λ (r : Taken). Ordered (r .node)) (sym (takenNext-taken ∙ taken-refused n c f)) o)
+    pub ordered-takeIn : Ordered (takeIn n c .node)
+    ordered-takeIn =
+        ⊎-elim {C = Ordered (takeIn n c .node)}
+        (λ (e : firstNo (takeQuestions n c) ≡ 0).
+        subst (λ (r : Taken). Ordered (r .node)) (sym (takeIn-taken ∙ taken-done n c e)) (ordered-taken n c (takeQuestions-yes n c e)))
+        (λ (f : firstNo (takeQuestions n c) ≡ 0 → ⊥). subst (λ (r : Taken). Ordered (r .node)) (sym (takeIn-taken ∙ taken-refused n c f)) o)
         (eq-or-ne (firstNo (takeQuestions n c)) 0)
+
+-- ---- `take`, by what `ordered` said
+
+module _ (n : Node) (c : Claim) (ordered : Bool) (tested : ordered ≡ nodeInOrder n) where
+  pub taken-1 : not ordered ≡ true → record { number = 1; node = n } ≡ taken n c
+  unfolding taken
+  taken-1 e = rw (← tested, not-true ordered e)
+
+  pub taken-in : not ordered ≡ false → length (n .pending) ≡ tableLimit → length (n .store .keys) ≡ limit → (r : Taken) → r ≡ takeIn n c → r ≡ taken n c
+  taken-in e whole long r f = f ∙ takeIn-taken n whole (nodeInOrder-ordered n (sym tested ∙ not-false ordered e)) c long

@@ -1,31 +1,36 @@
--- Calls between our own crates, on a node whose keys are lent, so that none is copied: the test of its order, and a claim taken into one that was tested
--- before, so that a frame of claims pays question 1 once. They are total, and no rule of document 01. What they mean where the node is in order is said by
--- laws (proofs/TakeLaws), by the definitions of Table, Node and Call. Assumes nothing.
+-- Calls between our own crates, on a node whose keys are lent, so that none is copied: the test of the order of what was read, and a claim taken into a
+-- node that was tested before, so that a frame of claims pays question 1 once. They are total, and no rule of document 01. A number other than 0 means
+-- that the node is what it was (`takeIn-kept` of proofs/LentLaws). What they mean where the node is in order is said by laws (proofs/LentLaws), by the
+-- definitions of Table, Node and Call. Assumes nothing.
 use mathlib.Core.Path.{_≡_}
 use Prim.Native.Nat.{ℕ, zero, suc, _+_, _-_, _/_}
 use mathlib.Core.Bool.{Bool, cond, not, _&&_}
 use mathlib.Core.List.{List, _∷_, _++_}
-use lib.Dec.{ltb, eqb}
+use lib.Dec.{ltb, leb, eqb}
 use lib.ListN.{length, take, drop, getD}
-use Rattle.keys.specs.declared.lent.Added.{Added}
-use Rattle.keys.specs.Store.{limit}
+use Rattle.keys.specs.Lent.{storeWith}
 use Rattle.claims.specs.declared.claim.Claim.{Claim}
 use Rattle.claims.specs.Claim.{noClaim}
-use Rattle.claims.specs.Lent.{hearIn, keysHearing}
+use Rattle.claims.specs.Question.{settle}
+use Rattle.claims.specs.Lent.{hearIn}
 use Rattle.rule.specs.declared.node.Node.{Node}
 use Rattle.rule.specs.declared.answer.Rest.{Rest}
 use Rattle.rule.specs.declared.answer.Taken.{Taken}
-use Rattle.rule.specs.Table.{tableLimit, before}
-use Rattle.rule.specs.Node.{pendingOf, nodeInOrder}
+use Rattle.rule.specs.Table.{tableLimit, before, climbs}
+use Rattle.rule.specs.Node.{pendingOf, nodeOf, allFit, nodeInOrder}
 use Rattle.rule.specs.Call.{writtenOver}
 
 -- the node of these parts: a run of keys and how many are held, a table and how many are pending
 abbrev pub nodeWith : List ℕ → ℕ → List Claim → ℕ → Node
-nodeWith keys held table count = record { store = record { keys = keys; count = held }; pending = table; count = count }
+nodeWith keys held table count = record { store = storeWith keys held; pending = table; count = count }
 
--- `ordered_lent`: is the run of keys a store's, and the node of these parts in order?
-abbrev pub lentInOrder : List ℕ → ℕ → List Claim → ℕ → Bool
-lentInOrder keys held table count = eqb (length keys) limit && nodeInOrder (nodeWith keys held table count)
+-- do the claims t rise strictly, and does each pass questions 2 to 5 and have lo and hi among the keys l?
+abbrev pub pending : List Claim → List ℕ → Bool
+pending t l = climbs t && allFit t l
+
+-- `front_in`: is the node of these keys and of the first `count` claims of a table in order?
+abbrev pub frontIn : List ℕ → List Claim → ℕ → Bool
+frontIn keys table count = leb count tableLimit && nodeInOrder (nodeOf keys (take count table))
 
 -- Halving: of the `size` claims from `base` on, the half in which the first one stands that does not come before c; n times over.
 abbrev pub halvedTo : ℕ → List Claim → Claim → ℕ → ℕ → ℕ
@@ -60,17 +65,20 @@ pub record Enlisted (table t new : List Claim) (count : ℕ) : Type 0 where
   pub places : new ≡ writtenOver t table
   pub many : count ≡ length t
 
--- what is taken once the claim is heard, by the run of keys as it is then
-abbrev pub takenAfter : Added → List ℕ → Node → Claim → Taken
-takenAfter h keys n c =
-    cond (eqb (h .number) 0)
-    (record { number = 0; node = nodeWith keys (h .count) (writtenOver (tableIn c (pendingOf n)) (n .pending)) (length (tableIn c (pendingOf n))) })
-    (record { number = h .number; node = n })
-
--- what is taken, of a run of keys and the rest of the node
+-- what is taken, by the run of keys as it is then and what the call returns
 abbrev pub takenWith : List ℕ → Rest → Taken
 takenWith keys r = record { number = r .number; node = nodeWith keys (r .held) (r .table) (r .count) }
 
--- `take_next`: a claim is heard and put into the table; where there is no room for its ends, refused with 6
-unfoldable pub takenNext : Node → Claim → Taken
-takenNext n c = takenAfter (hearIn (n .store .keys) (n .store .count) c) (keysHearing (n .store .keys) (n .store .count) c) n c
+-- `take_in`: a claim is heard, and put into the table
+unfoldable pub takeIn : Node → Claim → Taken
+takeIn n c =
+    settle (hearIn (n .store) c .number)
+    (record {
+      number = 0;
+      node = record {
+        store = hearIn (n .store) c .store;
+        pending = writtenOver (tableIn c (pendingOf n)) (n .pending);
+        count = length (tableIn c (pendingOf n));
+      };
+    })
+    (λ x. record { number = x; node = n })

@@ -3,7 +3,7 @@
 mod order;
 mod taking;
 
+pub use order::front_in;
 pub use order::ordered;
-pub use order::ordered_lent;
 pub use taking::take;
-pub use taking::take_next;
+pub use taking::take_in;

@@ -1,7 +1,6 @@
 // Question 1 of a node: whether it is in order.
 use claims::Claim;
 use claims::judge;
-use keys::Store;
 use keys::ordered_in;
 use keys::place_in;
 use rule::Node;
@@ -12,12 +11,11 @@ ghost use lib.Dec.{eqb};
 ghost use lib.ListN.{length, take, drop};
 ghost use Rattle.keys.specs.Store.{limit};
 ghost use Rattle.keys.specs.Lent.{orderedIn};
-ghost use Rattle.claims.specs.Claim.{noClaim};
 ghost use Rattle.claims.specs.Reply.{ends};
 ghost use Rattle.claims.specs.Call.{judged};
-ghost use Rattle.rule.specs.Table.{tableLimit, before, climbs};
-ghost use Rattle.rule.specs.Node.{holdsAll, allFit, allUnused, nodeInOrder};
-ghost use Rattle.nodes.specs.Lent.{nodeWith, lentInOrder};
+ghost use Rattle.rule.specs.Table.{tableLimit, before};
+ghost use Rattle.rule.specs.Node.{holdsAll, allUnused, nodeInOrder};
+ghost use Rattle.nodes.specs.Lent.{nodeWith, pending, frontIn};
 
 // Whether one claim comes before another in a table: by cnt, then lo, hi, sum.
 pub(crate) fn precedes(one: Claim, other: Claim) -> bool
@@ -35,21 +33,9 @@ pub(crate) fn precedes(one: Claim, other: Claim) -> bool
     one.sum < other.sum
 }
 
-// The claim of zeros, which comes before every other one.
-pub(crate) fn none() -> Claim
-    ensures { λ r. ⌜ r ≡ noClaim ⌝ }
-{
-    Claim {
-        lo: 0,
-        hi: 0,
-        sum: 0,
-        cnt: 0,
-    }
-}
-
 // Whether a claim passes questions 2 to 5 and has lo and hi in the store.
 fn fits(keys: &[u64], held: usize, claim: Claim) -> bool
-    requires { ⌜ (length (now keys) ≡ limit) × (orderedIn (now keys) held ≡ true) ⌝ }
+    requires { ⌜ orderedIn (now keys) held ≡ true ⌝ }
     ensures { λ r. ⌜ r ≡ (eqb (judged claim) 0 && holdsAll (ends claim) (take held (now (keys .entry)))) ⌝ }
 {
     if judge(claim) != 0 {
@@ -65,10 +51,10 @@ fn fits(keys: &[u64], held: usize, claim: Claim) -> bool
 
 // Whether the first `count` claims of a table rise strictly and each fits. None that fits is all zeros, so the first one comes after that.
 fn pends(keys: &[u64], held: usize, table: [Claim; Node::TABLE], count: usize) -> bool
-    requires { ⌜ (length (now keys) ≡ limit) × (orderedIn (now keys) held ≡ true) × (count ≤ tableLimit) ⌝ }
-    ensures { λ r. ⌜ r ≡ (climbs (take count table) && allFit (take count table) (take held (now (keys .entry)))) ⌝ }
+    requires { ⌜ (orderedIn (now keys) held ≡ true) × (count ≤ tableLimit) ⌝ }
+    ensures { λ r. ⌜ r ≡ pending (take count table) (take held (now (keys .entry))) ⌝ }
 {
-    let mut last = none();
+    let mut last = Claim::NONE;
     let mut i = 0;
     while i < count {
         let claim = table[i];
@@ -90,7 +76,7 @@ fn unused(table: [Claim; Node::TABLE], count: usize) -> bool
 {
     let mut i = count;
     while i < Node::TABLE {
-        if precedes(none(), table[i]) {
+        if precedes(Claim::NONE, table[i]) {
             return false;
         }
         i += 1;
@@ -115,14 +101,17 @@ fn ordered_parts(keys: &[u64], held: usize, table: [Claim; Node::TABLE], count: 
     unused(table, count)
 }
 
-// Whether a node whose keys are lent is in order.
-pub fn ordered_lent(keys: &[u64], held: usize, table: [Claim; Node::TABLE], count: usize) -> bool
-    ensures { λ r. ⌜ r ≡ lentInOrder (now (keys .entry)) held table count ⌝ }
+// Whether the node of these keys and of the first `count` claims of a table is in order. What stands past them is not looked at.
+pub fn front_in(keys: &[u64], table: [Claim; Node::TABLE], count: usize) -> bool
+    ensures { λ r. ⌜ r ≡ frontIn (now (keys .entry)) table count ⌝ }
 {
-    if keys.len() != Store::LIMIT {
+    if Node::TABLE < count {
         return false;
     }
-    ordered_parts(keys, held, table, count)
+    if !ordered_in(keys, keys.len()) {
+        return false;
+    }
+    pends(keys, keys.len(), table, count)
 }
 
 // Whether a node is in order.

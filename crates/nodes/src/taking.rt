@@ -3,7 +3,6 @@ use crate::order::ordered;
 use crate::order::precedes;
 use claims::Claim;
 use claims::hear_in;
-use claims::judge;
 use keys::Store;
 use keys::capped;
 use rule::Node;
@@ -14,7 +13,7 @@ ghost use Prim.Native.Nat.{_≤_, _<_};
 ghost use lib.ListN.{take};
 ghost use Rattle.rule.specs.Table.{tableLimit};
 ghost use Rattle.rule.specs.Call.{writtenOver, taken};
-ghost use Rattle.nodes.specs.Lent.{placeAmong, isAt, placedAt, placedIn, tableIn, Enlisted, nodeWith, takenWith, takenNext};
+ghost use Rattle.nodes.specs.Lent.{placeAmong, isAt, placedAt, placedIn, tableIn, Enlisted, nodeWith, takenWith, takeIn};
 
 // A table, and how many claims are pending in it.
 struct Listed {
@@ -96,15 +95,15 @@ fn enlist(table: [Claim; Node::TABLE], count: usize, claim: Claim) -> Listed
     enlist_at(table, known, at, claim)
 }
 
-// Takes a claim that passes questions 2 to 5 into a node that was found in order, and whose keys are lent. Asks 6.
-pub fn take_next(
+// Takes a claim into a node whose keys are lent. Asks 2 to 5 and 6.
+pub fn take_in(
     keys: &mut [u64; Store::LIMIT],
     held: usize,
     table: [Claim; Node::TABLE],
     count: usize,
     claim: Claim,
 ) -> Rest
-    ensures { λ r. ⌜ takenWith (now (keys .exit)) r ≡ takenNext (nodeWith (now (keys .entry)) held table count) claim ⌝ }
+    ensures { λ r. ⌜ takenWith (now (keys .exit)) r ≡ takeIn (nodeWith (now (keys .entry)) held table count) claim ⌝ }
 {
     let heard = hear_in(keys, held, claim);
     if heard.number != 0 {
@@ -132,15 +131,11 @@ pub fn take(node: Node, claim: Claim) -> Taken
     if !ordered(node) {
         return Taken { number: 1, node };
     }
-    let number = judge(claim);
-    if number != 0 {
-        return Taken { number, node };
-    }
     let mut n = node;
     let held = n.store.count;
     let pending = n.pending;
     let count = n.count;
-    let next = take_next(&mut n.store.keys, held, pending, count, claim);
+    let next = take_in(&mut n.store.keys, held, pending, count, claim);
     let places = next.table;
     n.store.count = next.held;
     n.pending = places;

@@ -7,9 +7,8 @@ use lib.Dec.{ltb, eqb}
 use lib.ListN.{take}
 use Rattle.claims.specs.declared.claim.Claim.{Claim}
 use Rattle.claims.specs.declared.answer.Answer.{Answer}
-use Rattle.claims.specs.declared.answer.Answer.the-variants.{Refused, Match, Ask, One, Two}
 use Rattle.claims.specs.Claim.{wholeClaim}
-use Rattle.claims.specs.Reply.{same, reply, claimsOf}
+use Rattle.claims.specs.Reply.{same, reply, caseOf, isAsked, claimsOf}
 
 -- "up to 64 pending claims"
 abbrev pub tableLimit : ℕ
@@ -50,11 +49,7 @@ tableWith c t = take tableLimit (insertClaim c t)
 
 -- "Matched and helped claims leave the table; asked ones remain."
 abbrev pub remains : Answer → Bool
-remains (Refused n) = false
-remains Match = false
-remains (Ask c) = true
-remains (One c) = false
-remains (Two c d) = false
+remains a = isAsked (caseOf a .kind)
 
 -- what a beat sends for the pending claims, and which of them it keeps
 pub record Served : Type 0 where

@@ -1,32 +1,37 @@
--- The core of a round on flat words (specs/Core) is the round of specs/Round, where both runs are stores in order and the records are enough. The records
--- are the queue itself: what waits stands, in its order, where its deliveries will be recorded. In order: a state of the core laid out from the keys of
--- both stores, what waits and what is delivered; one delivery; deliveries until none waits; the whole claim; both halves. Assumes nothing.
+-- The core of a round on flat words (specs/Core) is the round of `rule`, specs/Round, where both stores are in order and the records are enough. The
+-- records are the queue itself: what waits stands, in its order, where its deliveries will be recorded. In order: a state of the core laid out from the
+-- keys of both stores, what waits and what is delivered; one delivery; deliveries until none waits; the whole claim; both halves. Assumes nothing.
 use Prim.Native.Nat.{ℕ, zero, suc, _+_, _-_, _*_, _≤_, _<_}
-use mathlib.Core.List.{List, [], _∷_, _++_, map, append-assoc, append-nil, List·Memᴰ·head}
+use mathlib.Core.List.{List, [], _∷_, _++_, map, map-append, append-assoc, append-nil, List·Memᴰ·head}
 use mathlib.Core.Path.{_≡_, refl, sym, ap, ap₂, _∙_, subst}
 use native.Mathlib.Omega.{arith}
 use borrow.Author.Tests.{eq-eqb, ne-eqb, lt-ltb, le-leb}
-use lib.ListN.{length, getD, length-append, length-map}
+use lib.ListN.{length, length-append, length-map}
+use Rattle.keys.specs.declared.store.Store.{Store}
 use Rattle.keys.specs.Store.{limit, storeOf}
 use Rattle.keys.proofs.Rising.{Rising, rising-length}
+use Rattle.keys.proofs.Order.{count-storeOf}
 use Rattle.claims.specs.declared.claim.Claim.{Claim}
 use Rattle.claims.specs.Claim.{claimOf, wholeClaim}
 use Rattle.claims.specs.Reply.{hear, reply, claimsOf}
-use Rattle.claims.specs.Lent.{makeIn, keysHearing, replyIn}
+use Rattle.claims.specs.Lent.{makeIn, replyIn}
 use Rattle.claims.proofs.QuestionLaws.{Passes}
 use Rattle.claims.proofs.ReplyLaws.{hear-rising, hear-sub}
-use Rattle.claims.proofs.LentLaws.{keysHearing-fits, replyIn-fits, makeIn-store}
+use Rattle.claims.proofs.LentLaws.{replyIn-fits, makeIn-store}
 use Rattle.rule.specs.declared.delivery.Delivery.{Delivery}
-use Rattle.rule.specs.Round.{End, leftEnd, rightEnd, senderNumber, Pair, pair, Entry, waits, receiver, keysBefore, delivered, answers, Line, Run, run, half, roundOf, transcript, union}
+use Rattle.rule.specs.Round.{End, leftEnd, rightEnd, senderNumber, Pair, pair, Entry, waits, receiver, keysBefore, delivered, answers}
+use Rattle.rule.specs.Round.{Line, Run, run, half, roundOf, transcript, union}
 use Rattle.rule.specs.Call.{deliveryWords, writtenOver}
 use Rattle.rule.proofs.Pair.{Rises, unionOf, rises-pair}
 use Rattle.rule.proofs.Entry.{Sound, weights, sound-limit, length-waits}
 use Rattle.rule.proofs.Deliver.{adding-within}
-use Rattle.rule.proofs.Half.{Fine, fine-step, weights-step, fine-length, run-nil, run-cons, run-more, opening, halfway-opening, half-run, half-fine, half-union, length-half}
+use Rattle.rule.proofs.Half.{Fine, fine-step, weights-step, fine-length, run-nil, run-cons, run-more}
+use Rattle.rule.proofs.Half.{opening, halfway-opening, half-run, half-fine, half-union, length-half}
 use Rattle.rule.proofs.Union.{length-left-union, length-right-union}
-use Rattle.transcript.specs.Core.{recordsIn, claimIn, putRecords, nextAfter, Core, step, steps, finish, wholeWords, wholeNext, opened, reopened, both}
-use Rattle.transcript.proofs.Steps.{steps-on, steps-off}
-use Rattle.transcript.proofs.WordsLaws.{delivery, length-over, sender-at, claim-at, putRecords-append}
+use Rattle.transcript.specs.Core.{recordsIn, senderIn, claimIn, Log, putRecords, putWhole}
+use Rattle.transcript.specs.Core.{Core, claimAt, step, steps, finish, opened, reopened, both}
+use Rattle.transcript.proofs.StepLaws.{steps-on, steps-off}
+use Rattle.transcript.proofs.WordsLaws.{delivery, length-over, sender-at, claim-at, logOf, putRecords-append}
 
 -- ---- a state of the core
 
@@ -36,22 +41,15 @@ noted e = delivery (senderNumber (e .sender)) (e .claim)
 
 -- the core is where both stores have the keys of p, `done` is delivered and q waits, over the words `lent`
 pub record Laid (lent : List ℕ) (p : Pair) (q : List Entry) (done : List Delivery) (s : Core) : Type 0 where
-  pub left-is : s .left ≡ storeOf (p .left) .keys
-  pub left-count : s .leftCount ≡ length (p .left)
-  pub right-is : s .right ≡ storeOf (p .right) .keys
-  pub right-count : s .rightCount ≡ length (p .right)
-  pub words-are : s .words ≡ writtenOver (deliveryWords (done ++ map noted q)) lent
+  pub left-is : s .left ≡ storeOf (p .left)
+  pub right-is : s .right ≡ storeOf (p .right)
+  pub log-is : s .log ≡ logOf (done ++ map noted q) lent
   pub head-is : s .head ≡ length done
-  pub tail-is : s .tail ≡ length (done ++ map noted q)
 
 -- claims that wait from one end are noted in their order
 noted-waits : (s : End) (l : List ℕ) (cs : List Claim) → map noted (waits s l cs) ≡ map (delivery (senderNumber s)) cs
 noted-waits s l [] = refl
 noted-waits s l (c ∷ cs) = ap (λ (t : List Delivery). delivery (senderNumber s) c ∷ t) (noted-waits s l cs)
-
-map-append : {A B : Type 0} (f : A → B) (a b : List A) → map f (a ++ b) ≡ map f a ++ map f b
-map-append f [] b = refl
-map-append f (x ∷ xs) b = ap (λ (t : List _). f x ∷ t) (map-append f xs b)
 
 -- one delivery moves its record from what waits to what is delivered, and puts the answers last
 noted-step : (done : List Delivery) (e : Entry) (q a : List Entry)
@@ -75,13 +73,14 @@ module _ (lent u : List ℕ) (p : Pair) (e : Entry) (q : List Entry) (done : Lis
   fits-words = omega (arith, length-append done (map noted (e ∷ q)), length-map (e ∷ q) noted, fine-length u p (e ∷ q) fine, room)
 
   -- what is read of the first record waiting
-  sender-is : getD (s .words) (s .head * 5) 0 ≡ senderNumber (e .sender)
-  sender-is =
-      ap₂ (λ (w : List ℕ) (n : ℕ). getD w (n * 5) 0) (laid .words-are) (laid .head-is)
-      ∙ sender-at done (noted e) (map noted q) lent
+  words-are : s .log .words ≡ writtenOver (deliveryWords (done ++ map noted (e ∷ q))) lent
+  words-are = ap (λ (l : Log). l .words) (laid .log-is)
 
-  claim-is : claimIn (s .words) (s .head) ≡ e .claim
-  claim-is = ap₂ claimIn (laid .words-are) (laid .head-is) ∙ claim-at done (noted e) (map noted q) lent fits-words (passes .at-most)
+  sender-is : senderIn (s .log .words) (s .head) ≡ senderNumber (e .sender)
+  sender-is = ap₂ senderIn words-are (laid .head-is) ∙ sender-at done (noted e) (map noted q) lent
+
+  claim-is : claimAt s ≡ e .claim
+  claim-is = ap₂ claimIn words-are (laid .head-is) ∙ claim-at done (noted e) (map noted q) lent fits-words (passes .at-most)
 
   -- the receiver's keys after it have room
   heard-fits : length (hear (e .claim) (keysBefore e p)) ≤ limit
@@ -91,26 +90,17 @@ module _ (lent u : List ℕ) (p : Pair) (e : Entry) (q : List Entry) (done : Lis
       (hear-sub (e .claim) (keysBefore e p) u (adding-within u p e sound (fine .within)) (fine .within (receiver e))) in
       omega (arith, fine .fits)
 
-  -- what is told by the receiver, whose run and count are those of its keys
-  told-is : (keys : List ℕ) (count : ℕ) → keys ≡ storeOf (keysBefore e p) .keys → count ≡ length (keysBefore e p)
-      → replyIn keys count (claimIn (s .words) (s .head)) ≡ record { count = length (hear (e .claim) (keysBefore e p)); answer = reply (e .claim) (keysBefore e p) }
-  told-is keys count k n =
-      ap (replyIn keys count) claim-is
-      ∙ (ap₂ (λ (x : List ℕ) (m : ℕ). replyIn x m (e .claim)) k n
-      ∙ replyIn-fits (keysBefore e p) (fine .rises (receiver e)) (e .claim) passes heard-fits)
-
-  keys-are : (keys : List ℕ) (count : ℕ) → keys ≡ storeOf (keysBefore e p) .keys → count ≡ length (keysBefore e p)
-      → keysHearing keys count (claimIn (s .words) (s .head)) ≡ storeOf (hear (e .claim) (keysBefore e p)) .keys
-  keys-are keys count k n =
-      ap (keysHearing keys count) claim-is
-      ∙ (ap₂ (λ (x : List ℕ) (m : ℕ). keysHearing x m (e .claim)) k n
-      ∙ keysHearing-fits (keysBefore e p) (fine .rises (receiver e)) (e .claim) (passes .ordered) heard-fits)
+  -- what the receiver replies, whose store has these keys
+  replied : (own : Store) → own ≡ storeOf (keysBefore e p)
+      → replyIn own (claimAt s) ≡ record { store = storeOf (hear (e .claim) (keysBefore e p)); answer = reply (e .claim) (keysBefore e p) }
+  replied own k = ap₂ replyIn k claim-is ∙ replyIn-fits (keysBefore e p) (fine .rises (receiver e)) (e .claim) passes heard-fits
 
   -- the answers' records go after the last one
   answers-fit : length (done ++ map noted (e ∷ q)) + length (claimsOf (reply (e .claim) (keysBefore e p))) ≤ recordsIn lent
   answers-fit =
       let next-fine = fine-step u p e q fine in
-      let a : length (answers e p) ≡ length (claimsOf (reply (e .claim) (keysBefore e p))) = length-waits (receiver e) (hear (e .claim) (keysBefore e p)) (claimsOf (reply (e .claim) (keysBefore e p))) in
+      let a : length (answers e p) ≡ length (claimsOf (reply (e .claim) (keysBefore e p))) =
+      length-waits (receiver e) (hear (e .claim) (keysBefore e p)) (claimsOf (reply (e .claim) (keysBefore e p))) in
       let b : length (q ++ answers e p) ≤ weights u (delivered e p) (q ++ answers e p) = fine-length u (delivered e p) (q ++ answers e p) next-fine in
       let n : length (done ++ map noted (e ∷ q)) ≡ length done + length (map noted (e ∷ q)) = length-append done (map noted (e ∷ q)) in
       let m : length (map noted (e ∷ q)) ≡ suc (length q) = length-map (e ∷ q) noted in
@@ -122,21 +112,16 @@ module _ (lent u : List ℕ) (p : Pair) (e : Entry) (q : List Entry) (done : Lis
   written : (done ++ map noted (e ∷ q)) ++ map (delivery (senderNumber (receiver e))) (claimsOf (reply (e .claim) (keysBefore e p)))
       ≡ (done ++ (noted e ∷ [])) ++ map noted (q ++ answers e p)
   written =
-      ap (λ (t : List Delivery). (done ++ map noted (e ∷ q)) ++ t) (sym (noted-waits (receiver e) (hear (e .claim) (keysBefore e p)) (claimsOf (reply (e .claim) (keysBefore e p)))))
+      ap (λ (t : List Delivery). (done ++ map noted (e ∷ q)) ++ t)
+      (sym (noted-waits (receiver e) (hear (e .claim) (keysBefore e p)) (claimsOf (reply (e .claim) (keysBefore e p)))))
       ∙ noted-step done e q (answers e p)
 
-  words-then : putRecords (s .words) (s .tail) (senderNumber (receiver e)) (claimsOf (reply (e .claim) (keysBefore e p)))
-      ≡ writtenOver (deliveryWords ((done ++ (noted e ∷ [])) ++ map noted (q ++ answers e p))) lent
-  words-then =
-      ap₂ (λ (w : List ℕ) (n : ℕ). putRecords w n (senderNumber (receiver e)) (claimsOf (reply (e .claim) (keysBefore e p)))) (laid .words-are) (laid .tail-is)
-      ∙ (putRecords-append (done ++ map noted (e ∷ q)) lent (senderNumber (receiver e)) (claimsOf (reply (e .claim) (keysBefore e p))) answers-fit .0
-      ∙ ap (λ (t : List Delivery). writtenOver (deliveryWords t) lent) written)
-
-  tail-then : nextAfter (s .words) (s .tail) (claimsOf (reply (e .claim) (keysBefore e p))) ≡ length ((done ++ (noted e ∷ [])) ++ map noted (q ++ answers e p))
-  tail-then =
-      ap₂ (λ (w : List ℕ) (n : ℕ). nextAfter w n (claimsOf (reply (e .claim) (keysBefore e p)))) (laid .words-are) (laid .tail-is)
-      ∙ (putRecords-append (done ++ map noted (e ∷ q)) lent (senderNumber (receiver e)) (claimsOf (reply (e .claim) (keysBefore e p))) answers-fit .1
-      ∙ ap length written)
+  log-then : putRecords (s .log) (senderNumber (receiver e)) (claimsOf (reply (e .claim) (keysBefore e p)))
+      ≡ logOf ((done ++ (noted e ∷ [])) ++ map noted (q ++ answers e p)) lent
+  log-then =
+      ap (λ (l : Log). putRecords l (senderNumber (receiver e)) (claimsOf (reply (e .claim) (keysBefore e p)))) (laid .log-is)
+      ∙ (putRecords-append (done ++ map noted (e ∷ q)) lent (senderNumber (receiver e)) (claimsOf (reply (e .claim) (keysBefore e p))) answers-fit
+      ∙ ap (λ (t : List Delivery). logOf t lent) written)
 
   head-then : s .head + 1 ≡ length (done ++ (noted e ∷ []))
   head-then = ap (λ (n : ℕ). n + 1) (laid .head-is) ∙ sym (length-append done (noted e ∷ []))
@@ -150,33 +135,31 @@ laid-deliver : (lent u : List ℕ) (p : Pair) (x : End) (c : Claim) (held : List
 unfolding step
 laid-deliver lent u p leftEnd c held q done s fine laid room =
     let e : Entry = record { sender = leftEnd; claim = c; held = held } in
-    let told = told-is lent u p e q done s fine laid room (s .right) (s .rightCount) (laid .right-is) (laid .right-count) in
-    rw (eq-eqb (getD (s .words) (s .head * 5) 0) 0 (sender-is lent u p e q done s fine laid room), told)
+    rw (
+      eq-eqb (senderIn (s .log .words) (s .head)) 0 (sender-is lent u p e q done s fine laid room),
+      replied lent u p e q done s fine laid room (s .right) (laid .right-is),
+    )
     (record {
       left-is = laid .left-is;
-      left-count = laid .left-count;
-      right-is = keys-are lent u p e q done s fine laid room (s .right) (s .rightCount) (laid .right-is) (laid .right-count);
-      right-count = refl;
-      words-are = words-then lent u p e q done s fine laid room;
+      right-is = refl;
+      log-is = log-then lent u p e q done s fine laid room;
       head-is = head-then lent u p e q done s fine laid room;
-      tail-is = tail-then lent u p e q done s fine laid room;
     })
 laid-deliver lent u p rightEnd c held q done s fine laid room =
     let e : Entry = record { sender = rightEnd; claim = c; held = held } in
-    let told = told-is lent u p e q done s fine laid room (s .left) (s .leftCount) (laid .left-is) (laid .left-count) in
-    let one : getD (s .words) (s .head * 5) 0 ≡ 1 = sender-is lent u p e q done s fine laid room in
-    rw (ne-eqb (getD (s .words) (s .head * 5) 0) 0 (λ (z : getD (s .words) (s .head * 5) 0 ≡ 0). omega arith), told)
+    let one : senderIn (s .log .words) (s .head) ≡ 1 = sender-is lent u p e q done s fine laid room in
+    rw (
+      ne-eqb (senderIn (s .log .words) (s .head)) 0 (λ (z : senderIn (s .log .words) (s .head) ≡ 0). omega arith),
+      replied lent u p e q done s fine laid room (s .left) (laid .left-is),
+    )
     (record {
-      left-is = keys-are lent u p e q done s fine laid room (s .left) (s .leftCount) (laid .left-is) (laid .left-count);
-      left-count = refl;
+      left-is = refl;
       right-is = laid .right-is;
-      right-count = laid .right-count;
-      words-are = words-then lent u p e q done s fine laid room;
+      log-is = log-then lent u p e q done s fine laid room;
       head-is = head-then lent u p e q done s fine laid room;
-      tail-is = tail-then lent u p e q done s fine laid room;
     })
 
-pub laid-step : (lent u : List ℕ) (p : Pair) (e : Entry) (q : List Entry) (done : List Delivery) (s : Core)
+laid-step : (lent u : List ℕ) (p : Pair) (e : Entry) (q : List Entry) (done : List Delivery) (s : Core)
     → Fine u p (e ∷ q) → Laid lent p (e ∷ q) done s → length done + weights u p (e ∷ q) ≤ recordsIn lent
     → Laid lent (delivered e p) (q ++ answers e p) (done ++ (noted e ∷ [])) (step s)
 laid-step lent u p e q done s fine laid room = laid-deliver lent u p (e .sender) (e .claim) (e .held) q done s fine laid room
@@ -187,31 +170,35 @@ laid-none : (n : ℕ) (lent : List ℕ) (p : Pair) (done : List Delivery) (s : C
     → Laid lent (run n p [] .stores) [] (done ++ transcript (run n p [])) (steps n s)
 laid-none n lent p done s laid =
     let same : length (done ++ map noted []) ≡ length done = ap length (append-nil done) in
-    rw (run-nil n p, append-nil done, steps-off n s (omega (arith, laid .head-is, laid .tail-is))) laid
+    let tail-is : s .log .tail ≡ length (done ++ map noted []) = ap (λ (l : Log). l .tail) (laid .log-is) in
+    rw (run-nil n p, append-nil done, steps-off n s (omega (arith, laid .head-is, tail-is))) laid
 
-pub laid-steps : (n : ℕ) (lent u : List ℕ) (p : Pair) (q : List Entry) (done : List Delivery) (s : Core)
+laid-steps : (n : ℕ) (lent u : List ℕ) (p : Pair) (q : List Entry) (done : List Delivery) (s : Core)
     → Fine u p q → Laid lent p q done s → length done + weights u p q ≤ recordsIn lent → weights u p q ≤ n
     → Laid lent (run n p q .stores) [] (done ++ transcript (run n p q)) (steps n s)
 laid-steps zero lent u p [] done s fine laid room h = laid-none zero lent p done s laid
 laid-steps (suc n) lent u p [] done s fine laid room h = laid-none (suc n) lent p done s laid
 laid-steps zero lent u p (e ∷ q) done s fine laid room h = absurd (omega (arith, weights-step u p e q fine))
 laid-steps (suc n) lent u p (e ∷ q) done s fine laid room h =
-    let less : s .head < s .tail = omega (arith, laid .head-is, laid .tail-is, length-append done (map noted (e ∷ q))) in
+    let tail-is : s .log .tail ≡ length (done ++ map noted (e ∷ q)) = ap (λ (l : Log). l .tail) (laid .log-is) in
+    let less : s .head < s .log .tail = omega (arith, laid .head-is, length-append done (map noted (e ∷ q))) in
     let one : length (done ++ (noted e ∷ [])) ≡ length done + 1 = length-append done (noted e ∷ []) in
     let w : weights u (delivered e p) (q ++ answers e p) + 1 ≤ weights u p (e ∷ q) = weights-step u p e q fine in
-    let again = laid-steps n lent u (delivered e p) (q ++ answers e p) (done ++ (noted e ∷ [])) (step s) (fine-step u p e q fine) (laid-step lent u p e q done s fine laid room) (omega arith) (omega arith) in
+    let again = laid-steps n lent u (delivered e p) (q ++ answers e p) (done ++ (noted e ∷ [])) (step s) (fine-step u p e q fine)
+    (laid-step lent u p e q done s fine laid room) (omega arith) (omega arith) in
     let joined = append-assoc done (noted e ∷ []) (transcript (run n (delivered e p) (q ++ answers e p))) in
     rw (run-cons n p e q, steps-on n s less)
     (subst (λ (t : List Delivery). Laid lent (run n (delivered e p) (q ++ answers e p) .stores) [] t (steps n (step s))) joined again)
 
 -- whatever number of steps is enough
-pub laid-finish : (m : ℕ) (lent u : List ℕ) (p : Pair) (q : List Entry) (done : List Delivery) (s : Core)
+laid-finish : (m : ℕ) (lent u : List ℕ) (p : Pair) (q : List Entry) (done : List Delivery) (s : Core)
     → Fine u p q → Laid lent p q done s → length done + weights u p q ≤ recordsIn lent → weights u p q ≤ m
     → Laid lent (run m p q .stores) [] (done ++ transcript (run m p q)) (finish s)
 laid-finish m lent u p q done s fine laid room h =
-    let n : ℕ = recordsIn (s .words) - s .head in
-    let fits : length (done ++ map noted q) ≤ recordsIn lent = omega (arith, length-append done (map noted q), length-map q noted, fine-length u p q fine, room) in
-    let same : length (s .words) ≡ length lent = ap length (laid .words-are) ∙ length-over (done ++ map noted q) lent fits in
+    let n : ℕ = recordsIn (s .log .words) - s .head in
+    let fits : length (done ++ map noted q) ≤ recordsIn lent =
+    omega (arith, length-append done (map noted q), length-map q noted, fine-length u p q fine, room) in
+    let same : length (s .log .words) ≡ length lent = ap (λ (l : Log). length (l .words)) (laid .log-is) ∙ length-over (done ++ map noted q) lent fits in
     let enough : weights u p q ≤ n = omega (arith, laid .head-is, room) in
     subst (λ (r : Run). Laid lent (r .stores) [] (done ++ transcript r) (finish s)) (run-more n m u p q fine enough h)
     (laid-steps n lent u p q done s fine laid room enough)
@@ -219,19 +206,19 @@ laid-finish m lent u p q done s fine laid room h =
 -- ---- the whole claim
 
 whole-claim : (k : ℕ) (ks : List ℕ) → length (k ∷ ks) ≤ limit
-    → makeIn (storeOf (k ∷ ks) .keys) (length (k ∷ ks)) 0 (length (k ∷ ks) - 1) .claim ≡ claimOf 0 (length ks) (k ∷ ks)
+    → makeIn (storeOf (k ∷ ks)) 0 (storeOf (k ∷ ks) .count - 1) .claim ≡ claimOf 0 (length ks) (k ∷ ks)
 whole-claim k ks h =
     let l : List ℕ = k ∷ ks in
-    let e : length l - 1 ≡ length ks = omega arith in
-    rw (makeIn-store l h 0 (length l - 1), le-leb 0 (length l - 1) (omega arith), lt-ltb (length l - 1) (length l) (omega arith), e)
+    let e : storeOf l .count - 1 ≡ length ks = omega (arith, count-storeOf l) in
+    ap (λ (n : ℕ). makeIn (storeOf l) 0 n .claim) e
+    ∙ rw (makeIn-store l h 0 (length ks), le-leb 0 (length ks) (omega arith), lt-ltb (length ks) (length l) (omega arith))
 
 whole-put : (lent : List ℕ) (ds : List Delivery) (l : List ℕ) (sender : ℕ) → length l ≤ limit → length ds + length l ≤ recordsIn lent
-    → (wholeWords (storeOf l .keys) (length l) (writtenOver (deliveryWords ds) lent) (length ds) sender ≡ writtenOver (deliveryWords (ds ++ map (delivery sender) (wholeClaim l))) lent)
-    × (wholeNext (length l) (writtenOver (deliveryWords ds) lent) (length ds) ≡ length (ds ++ map (delivery sender) (wholeClaim l)))
-unfolding wholeWords wholeNext
-whole-put lent ds [] sender h room = (ap (λ (l : List Delivery). writtenOver (deliveryWords l) lent) (sym (append-nil ds)), ap length (sym (append-nil ds)))
+    → putWhole (storeOf l) (logOf ds lent) sender ≡ logOf (ds ++ map (delivery sender) (wholeClaim l)) lent
+unfolding putWhole
+whole-put lent ds [] sender h room = rw (count-storeOf []) (ap (λ (t : List Delivery). logOf t lent) (sym (append-nil ds)))
 whole-put lent ds (k ∷ ks) sender h room =
-    rw (ne-eqb (length (k ∷ ks)) 0 (λ (z : length (k ∷ ks) ≡ 0). omega arith), whole-claim k ks h)
+    rw (whole-claim k ks h, count-storeOf (k ∷ ks), ne-eqb (length (k ∷ ks)) 0 (λ (z : length (k ∷ ks) ≡ 0). omega arith))
     (putRecords-append ds lent sender (wholeClaim (k ∷ ks)) (omega arith))
 
 -- ---- both halves
@@ -240,59 +227,42 @@ module _ (lent l r : List ℕ) (rl : Rising l) (rr : Rising r) (fits : length (u
   left-le : length l ≤ length (union l r)
   left-le = length-left-union l r rl rr
 
-  laid-opened : Laid lent (pair l r) (opening leftEnd (pair l r)) [] (opened (storeOf l .keys) (length l) (storeOf r .keys) (length r) lent)
+  laid-opened : Laid lent (pair l r) (opening leftEnd (pair l r)) [] (opened (storeOf l) (storeOf r) lent)
   unfolding opened
   laid-opened =
       let w = whole-put lent [] l 0 (omega (arith, left-le)) (omega (arith, left-le)) in
       let e : map (delivery 0) (wholeClaim l) ≡ map noted (opening leftEnd (pair l r)) = sym (noted-waits leftEnd l (wholeClaim l)) in
-      record {
-        left-is = refl;
-        left-count = refl;
-        right-is = refl;
-        right-count = refl;
-        words-are = w .0 ∙ ap (λ (t : List Delivery). writtenOver (deliveryWords t) lent) e;
-        head-is = refl;
-        tail-is = w .1 ∙ ap length e;
-      }
+      record { left-is = refl; right-is = refl; log-is = w ∙ ap (λ (t : List Delivery). logOf t lent) e; head-is = refl }
 
   rises : Rises (pair l r)
   rises = rises-pair l r rl rr
 
-  laid-left : Laid lent (half leftEnd (pair l r) .stores) [] (transcript (half leftEnd (pair l r))) (finish (opened (storeOf l .keys) (length l) (storeOf r .keys) (length r) lent))
+  laid-left : Laid lent (half leftEnd (pair l r) .stores) [] (transcript (half leftEnd (pair l r))) (finish (opened (storeOf l) (storeOf r) lent))
   laid-left =
       let open-half = halfway-opening leftEnd (pair l r) rises fits in
       rw (half-run leftEnd (pair l r))
-      (laid-finish (length (unionOf (pair l r))) lent (unionOf (pair l r)) (pair l r) (opening leftEnd (pair l r)) [] (opened (storeOf l .keys) (length l) (storeOf r .keys) (length r) lent)
+      (laid-finish (length (unionOf (pair l r))) lent (unionOf (pair l r)) (pair l r) (opening leftEnd (pair l r)) [] (opened (storeOf l) (storeOf r) lent)
       (open-half .fine) laid-opened (omega (arith, open-half .light)) (open-half .light))
 
 -- the right end's whole claim put after what is delivered
-laid-reopened : (lent : List ℕ) (p : Pair) (done : List Delivery) (s : Core) → Laid lent p [] done s → length (p .right) ≤ limit → length done + length (p .right) ≤ recordsIn lent
-    → Laid lent p (opening rightEnd p) done (reopened s)
+laid-reopened : (lent : List ℕ) (p : Pair) (done : List Delivery) (s : Core) → Laid lent p [] done s
+    → length (p .right) ≤ limit → length done + length (p .right) ≤ recordsIn lent → Laid lent p (opening rightEnd p) done (reopened s)
 unfolding reopened
 laid-reopened lent p done s laid h room =
-    let w = whole-put lent done (p .right) 1 h room in
     let e : map (delivery 1) (wholeClaim (p .right)) ≡ map noted (opening rightEnd p) = sym (noted-waits rightEnd (p .right) (wholeClaim (p .right))) in
-    let words : s .words ≡ writtenOver (deliveryWords done) lent = laid .words-are ∙ ap (λ (t : List Delivery). writtenOver (deliveryWords t) lent) (append-nil done) in
-    let tail : s .tail ≡ length done = laid .tail-is ∙ ap length (append-nil done) in
+    let log : s .log ≡ logOf done lent = laid .log-is ∙ ap (λ (t : List Delivery). logOf t lent) (append-nil done) in
     record {
       left-is = laid .left-is;
-      left-count = laid .left-count;
       right-is = laid .right-is;
-      right-count = laid .right-count;
-      words-are =
-          ap₂ (λ (k : List ℕ) (n : ℕ). wholeWords k n (s .words) (s .tail) 1) (laid .right-is) (laid .right-count)
-          ∙ (ap₂ (λ (x : List ℕ) (n : ℕ). wholeWords (storeOf (p .right) .keys) (length (p .right)) x n 1) words tail
-          ∙ (w .0 ∙ ap (λ (t : List Delivery). writtenOver (deliveryWords (done ++ t)) lent) e));
-      head-is = tail;
-      tail-is =
-          ap (λ (n : ℕ). wholeNext n (s .words) (s .tail)) (laid .right-count)
-          ∙ (ap₂ (λ (x : List ℕ) (n : ℕ). wholeNext (length (p .right)) x n) words tail
-          ∙ (w .1 ∙ ap (λ (t : List Delivery). length (done ++ t)) e));
+      log-is =
+          ap₂ (λ (x : Store) (l : Log). putWhole x l 1) (laid .right-is) log
+          ∙ (whole-put lent done (p .right) 1 h room ∙ ap (λ (t : List Delivery). logOf (done ++ t) lent) e);
+      head-is = ap (λ (l : Log). l .tail) log;
     }
 
 -- The core is the round.
 pub laid-both : (lent l r : List ℕ) → Rising l → Rising r → length (union l r) ≤ limit → 2 * length (union l r) ≤ recordsIn lent
-    → Laid lent (roundOf l r .stores) [] (transcript (roundOf l r)) (both (storeOf l .keys) (length l) (storeOf r .keys) (length r) lent)
+    → Laid lent (roundOf l r .stores) [] (transcript (roundOf l r)) (both (storeOf l) (storeOf r) lent)
 unfolding both roundOf
 laid-both lent l r rl rr fits room =
     let p : Pair = pair l r in
@@ -307,9 +277,10 @@ laid-both lent l r rl rr fits room =
     let few : length (a .lines) ≤ length (union l r) = length-half leftEnd p rp fits in
     let open-half = halfway-opening rightEnd q rq (omega arith) in
     let first = laid-left lent l r rl rr fits room in
-    let first-half : Core = finish (opened (storeOf l .keys) (length l) (storeOf r .keys) (length r) lent) in
+    let first-half : Core = finish (opened (storeOf l) (storeOf r) lent) in
     let second = laid-finish (length (unionOf q)) lent (unionOf q) q (opening rightEnd q) (transcript a) (reopened first-half) (open-half .fine)
     (laid-reopened lent q (transcript a) first-half first (omega arith) (omega arith)) (omega (arith, open-half .light)) (open-half .light) in
-    let joined : transcript a ++ transcript (half rightEnd q) ≡ map (λ (x : Line). x .delivery) (a .lines ++ half rightEnd q .lines) = sym (map-append (λ (x : Line). x .delivery) (a .lines) (half rightEnd q .lines)) in
+    let joined : transcript a ++ transcript (half rightEnd q) ≡ map (λ (x : Line). x .delivery) (a .lines ++ half rightEnd q .lines) =
+    sym (map-append (λ (x : Line). x .delivery) (a .lines) (half rightEnd q .lines)) in
     subst (λ (t : List Delivery). Laid lent (half rightEnd q .stores) [] t (finish (reopened first-half))) joined
     (subst (λ (b : Run). Laid lent (b .stores) [] (transcript a ++ transcript b) (finish (reopened first-half))) (sym (half-run rightEnd q)) second)

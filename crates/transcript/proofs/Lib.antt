@@ -1,10 +1,9 @@
--- The laws of the code of a round on words, each way that it goes.
---   Records, Steps, UnionCount, Asking   the functions of src/record.rt and src/flat.rt
---   WordsLaws, CoreLaws, Meeting         the core of a round on flat words is the round
-mod Records
-mod Steps
-mod UnionCount
-mod Asking
+-- The laws of a round on words: what specs/Core means, and each way that the code goes.
+--   WordsLaws, StepLaws, CoreLaws        records in words; deliveries until none waits; the core of a round on flat words is the round
+--   RecordPaths, UnionCount, FlatPaths   the functions of src/record.rt and src/flat.rt
+mod RecordPaths
 pub mod WordsLaws
+mod StepLaws
 mod CoreLaws
-mod Meeting
+mod UnionCount
+mod FlatPaths

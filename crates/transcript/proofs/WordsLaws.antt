@@ -1,37 +1,32 @@
--- Records laid out as words (specs/Call, `deliveryWords`, `writtenOver`; specs/Core, `putRecord`, `claimIn`): how long they are, what is read at a record,
--- and that a record put after those that are written is one record more. Assumes nothing.
+-- Records laid out as words (specs/Core, `putRecord`, `claimIn`, against `deliveryWords` and `writtenOver` of `rule`, specs/Call): how long they are, what
+-- is read at a record, and that a record put after those that are written is one record more. Assumes nothing.
 use Prim.Native.Nat.{ℕ, _+_, _*_, _%_, _≤_, _<_}
 use mathlib.Core.List.{List, [], _∷_, _++_, map, append-assoc, append-nil}
-use mathlib.Core.Path.{_≡_, refl, sym, ap, ap₂, _∙_}
+use mathlib.Core.Path.{_≡_, sym, ap, ap₂, _∙_}
 use native.Mathlib.Omega.{arith}
 use borrow.Author.Tests.{lt-ltb}
 use lib.ListN.{length, take, drop, getD, length-append}
-use lib.Seq.{sets-eq, getD-append-add, take-append-seam, drop-append-add, drop-drop}
+use lib.Seq.{sets, sets-eq, getD-append-add, take-append-seam, drop-append-add, drop-drop}
 use Rattle.keys.specs.Store.{limit}
 use Rattle.claims.specs.declared.claim.Claim.{Claim}
 use Rattle.claims.proofs.ClaimLaws.{claim-ext}
 use Rattle.rule.specs.declared.delivery.Delivery.{Delivery}
 use Rattle.rule.specs.Call.{deliveryWords, writtenOver}
 use Rattle.rule.proofs.Words.{length-deliveryWords, deliveryWords-append, length-writtenOver}
-use Rattle.transcript.specs.Core.{recordWords, recordsIn, claimIn, putRecord, next, putRecords, nextAfter}
-use Rattle.transcript.proofs.Records.{claimIn-some, next-some, next-length}
+use Rattle.transcript.specs.Core.{recordSize, recordWords, recordsIn, senderIn, claimIn, Log, logWith, putRecord, putRecords}
+use Rattle.transcript.proofs.RecordPaths.{claimIn-some}
 
 -- the record of a claim from one end
 abbrev pub delivery : ℕ → Claim → Delivery
 delivery sender c = record { sender = sender; claim = c }
 
--- five words to a record
-words-of : (ds : List Delivery) → length (deliveryWords ds) ≡ length ds * 5
+-- so many words to a record
+words-of : (ds : List Delivery) → length (deliveryWords ds) ≡ length ds * recordSize
 words-of ds = omega (arith, length-deliveryWords ds)
 
 -- the words keep their number
 pub length-over : (ds : List Delivery) (lent : List ℕ) → length ds ≤ recordsIn lent → length (writtenOver (deliveryWords ds) lent) ≡ length lent
 length-over ds lent h = length-writtenOver (deliveryWords ds) lent (omega (arith, length-deliveryWords ds))
-
--- where the next record goes depends on how many records there are
-nextAfter-length : (w words : List ℕ) (at : ℕ) (cs : List Claim) → length w ≡ length words → nextAfter w at cs ≡ nextAfter words at cs
-nextAfter-length w words at [] e = refl
-nextAfter-length w words at (c ∷ cs) e = nextAfter-length w words (next w at) cs e ∙ ap (λ (n : ℕ). nextAfter words n cs) (next-length w words at e)
 
 -- ---- reading the record after those in front
 
@@ -46,64 +41,68 @@ module _ (done : List Delivery) (d : Delivery) (rest : List Delivery) (lent : Li
       ap (λ (l : List ℕ). l ++ drop (length (deliveryWords (done ++ (d ∷ rest)))) lent) (deliveryWords-append done (d ∷ rest))
       ∙ append-assoc (deliveryWords done) (deliveryWords (d ∷ rest)) (drop (length (deliveryWords (done ++ (d ∷ rest)))) lent)
 
-  word-at : (n : ℕ) → getD (writtenOver (deliveryWords (done ++ (d ∷ rest))) lent) (length done * 5 + n) 0 ≡ getD from n 0
+  word-at : (n : ℕ) → getD (writtenOver (deliveryWords (done ++ (d ∷ rest))) lent) (length done * recordSize + n) 0 ≡ getD from n 0
   word-at n =
-      ap (λ (l : List ℕ). getD l (length done * 5 + n) 0) in-front
+      ap (λ (l : List ℕ). getD l (length done * recordSize + n) 0) in-front
       ∙ (ap (λ (k : ℕ). getD (deliveryWords done ++ from) (k + n) 0) (sym (words-of done))
       ∙ getD-append-add (deliveryWords done) from n 0)
 
-  pub sender-at : getD (writtenOver (deliveryWords (done ++ (d ∷ rest))) lent) (length done * 5) 0 ≡ d .sender
+  pub sender-at : senderIn (writtenOver (deliveryWords (done ++ (d ∷ rest))) lent) (length done) ≡ d .sender
   unfolding from
-  sender-at = let e : length done * 5 ≡ length done * 5 + 0 = omega arith in ap (λ (k : ℕ). getD (writtenOver (deliveryWords (done ++ (d ∷ rest))) lent) k 0) e ∙ word-at 0
+  sender-at =
+      let e : length done * recordSize ≡ length done * recordSize + 0 = omega arith in
+      ap (λ (k : ℕ). getD (writtenOver (deliveryWords (done ++ (d ∷ rest))) lent) k 0) e ∙ word-at 0
 
-  pub claim-at : length (done ++ (d ∷ rest)) ≤ recordsIn lent → d .claim .cnt ≤ limit → claimIn (writtenOver (deliveryWords (done ++ (d ∷ rest))) lent) (length done) ≡ d .claim
+  pub claim-at : length (done ++ (d ∷ rest)) ≤ recordsIn lent → d .claim .cnt ≤ limit
+      → claimIn (writtenOver (deliveryWords (done ++ (d ∷ rest))) lent) (length done) ≡ d .claim
   unfolding from
   claim-at h g =
       let w : List ℕ = writtenOver (deliveryWords (done ++ (d ∷ rest))) lent in
       let same : length w ≡ length lent = length-over (done ++ (d ∷ rest)) lent h in
       let some : length done < recordsIn w = omega (arith, length-append done (d ∷ rest)) in
-      let cnt : getD w (length done * 5 + 4) 0 % 65536 ≡ d .claim .cnt =
-      let e : getD w (length done * 5 + 4) 0 ≡ d .claim .cnt = word-at 4 in omega arith in
+      let cnt : getD w (length done * recordSize + 4) 0 % 65536 ≡ d .claim .cnt =
+      let e : getD w (length done * recordSize + 4) 0 ≡ d .claim .cnt = word-at 4 in omega arith in
       sym (claimIn-some w (length done) some)
       ∙ claim-ext
-      (record { lo = getD w (length done * 5 + 1) 0; hi = getD w (length done * 5 + 2) 0; sum = getD w (length done * 5 + 3) 0; cnt = getD w (length done * 5 + 4) 0 % 65536 })
+      (record {
+        lo = getD w (length done * recordSize + 1) 0;
+        hi = getD w (length done * recordSize + 2) 0;
+        sum = getD w (length done * recordSize + 3) 0;
+        cnt = getD w (length done * recordSize + 4) 0 % 65536;
+      })
       (d .claim) (word-at 1) (word-at 2) (word-at 3) cnt
 
 -- ---- writing the record after those that are written
 
-pub putRecord-append : (ds : List Delivery) (lent : List ℕ) (sender : ℕ) (c : Claim) → length ds < recordsIn lent
-    → putRecord (writtenOver (deliveryWords ds) lent) (length ds) sender c ≡ writtenOver (deliveryWords (ds ++ (delivery sender c ∷ []))) lent
+-- the records ds, over the words `lent`
+abbrev pub logOf : List Delivery → List ℕ → Log
+logOf ds lent = logWith (writtenOver (deliveryWords ds) lent) (length ds)
+
+putRecord-append : (ds : List Delivery) (lent : List ℕ) (sender : ℕ) (c : Claim) → length ds < recordsIn lent
+    → putRecord (logOf ds lent) sender c ≡ logOf (ds ++ (delivery sender c ∷ [])) lent
 unfolding putRecord
 putRecord-append ds lent sender c h =
     let x : List ℕ = deliveryWords ds in
     let w : List ℕ = writtenOver x lent in
     let v : List ℕ = recordWords sender c in
-    let len : length x ≡ length ds * 5 = words-of ds in
+    let len : length x ≡ length ds * recordSize = words-of ds in
     let same : length w ≡ length lent = length-over ds lent (omega arith) in
     let some : length ds < recordsIn w = omega arith in
     let front : take (length x) w ≡ x = take-append-seam x (drop (length x) lent) in
-    let back : drop (length x + 5) w ≡ drop (length x + 5) lent = drop-append-add x (drop (length x) lent) 5 ∙ drop-drop 5 (length x) lent in
+    let back : drop (length x + recordSize) w ≡ drop (length x + recordSize) lent =
+    drop-append-add x (drop (length x) lent) recordSize ∙ drop-drop recordSize (length x) lent in
     let all : deliveryWords (ds ++ (delivery sender c ∷ [])) ≡ x ++ v = deliveryWords-append ds (delivery sender c ∷ []) in
-    let long : length (x ++ v) ≡ length x + 5 = length-append x v in
-    rw (lt-ltb (length ds) (recordsIn w) some, all, long, ← len)
-    (sets-eq v w (length x) (omega arith)
-    ∙ rw (front, back))
+    let long : length (x ++ v) ≡ length x + recordSize = length-append x v in
+    let put : sets w (length ds * recordSize) v ≡ writtenOver (deliveryWords (ds ++ (delivery sender c ∷ []))) lent =
+    rw (all, long, ← len) (sets-eq v w (length x) (omega arith) ∙ rw (front, back)) in
+    rw (lt-ltb (length ds) (recordsIn w) some) (ap₂ logWith put (sym (length-append ds (delivery sender c ∷ []))))
 
 pub putRecords-append : (ds : List Delivery) (lent : List ℕ) (sender : ℕ) (cs : List Claim) → length ds + length cs ≤ recordsIn lent
-    → (putRecords (writtenOver (deliveryWords ds) lent) (length ds) sender cs ≡ writtenOver (deliveryWords (ds ++ map (delivery sender) cs)) lent)
-    × (nextAfter (writtenOver (deliveryWords ds) lent) (length ds) cs ≡ length (ds ++ map (delivery sender) cs))
-putRecords-append ds lent sender [] h = (ap (λ (l : List Delivery). writtenOver (deliveryWords l) lent) (sym (append-nil ds)), ap length (sym (append-nil ds)))
+    → putRecords (logOf ds lent) sender cs ≡ logOf (ds ++ map (delivery sender) cs) lent
+putRecords-append ds lent sender [] h = ap (λ (l : List Delivery). logOf l lent) (sym (append-nil ds))
 putRecords-append ds lent sender (c ∷ cs) h =
     let d : Delivery = delivery sender c in
-    let w : List ℕ = writtenOver (deliveryWords ds) lent in
-    let w′ : List ℕ = writtenOver (deliveryWords (ds ++ (d ∷ []))) lent in
     let more : length (ds ++ (d ∷ [])) ≡ length ds + 1 = length-append ds (d ∷ []) in
-    let same : length w ≡ length lent = length-over ds lent (omega arith) in
-    let same′ : length w′ ≡ length lent = length-over (ds ++ (d ∷ [])) lent (omega arith) in
-    let e : putRecord w (length ds) sender c ≡ w′ = putRecord-append ds lent sender c (omega arith) in
-    let n : next w (length ds) ≡ length (ds ++ (d ∷ [])) = sym (next-some w (length ds) (omega arith)) ∙ sym more in
-    let joined : (ds ++ (d ∷ [])) ++ map (delivery sender) cs ≡ ds ++ (d ∷ map (delivery sender) cs) = append-assoc ds (d ∷ []) (map (delivery sender) cs) in
-    let again = putRecords-append (ds ++ (d ∷ [])) lent sender cs (omega arith) in (
-      ap₂ (λ (x : List ℕ) (k : ℕ). putRecords x k sender cs) e n ∙ (again .0 ∙ ap (λ (l : List Delivery). writtenOver (deliveryWords l) lent) joined),
-      ap (λ (k : ℕ). nextAfter w k cs) n ∙ (nextAfter-length w w′ (length (ds ++ (d ∷ []))) cs (same ∙ sym same′) ∙ (again .1 ∙ ap length joined)),
-    )
+    ap (λ (l : Log). putRecords l sender cs) (putRecord-append ds lent sender c (omega arith))
+    ∙ (putRecords-append (ds ++ (d ∷ [])) lent sender cs (omega arith)
+    ∙ ap (λ (l : List Delivery). logOf l lent) (append-assoc ds (d ∷ []) (map (delivery sender) cs)))

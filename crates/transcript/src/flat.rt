@@ -11,12 +11,13 @@ use keys::ordered_in;
 use rule::Met;
 ghost use mathlib.Core.Path.{_≡_};
 ghost use mathlib.Core.Bool.{true};
-ghost use Prim.Native.Nat.{_≤_, _<_, _/_, _*_};
+ghost use Prim.Native.Nat.{_≤_, _<_};
 ghost use lib.ListN.{length};
 ghost use Rattle.keys.specs.Store.{limit, rising};
+ghost use Rattle.keys.specs.Lent.{storeWith};
 ghost use Rattle.rule.specs.Round.{union};
 ghost use Rattle.rule.specs.Call.{met, metWords};
-ghost use Rattle.transcript.specs.Core.{recordsIn, wholeWords, wholeNext, step, finish, opened, reopened, both, Stepped, asked};
+ghost use Rattle.transcript.specs.Core.{recordsIn, logWith, putWhole, coreOf, step, finish, opened, reopened, both, Stepped, asked};
 
 // Where the core is: both counts, and where the next record goes.
 pub struct Reached {
@@ -51,7 +52,7 @@ fn union_count(left: &[u64], right: &[u64]) -> usize
 
 // The questions of a round, 1 (left, then right), 8 and 9: the number of the first answered no, or 0.
 fn ask(left: &[u64], left_count: usize, right: &[u64], right_count: usize, records: usize) -> u8
-    ensures { λ r. ⌜ r ≡ asked (now (left .entry)) «left_count» (now (right .entry)) «right_count» records ⌝ }
+    ensures { λ r. ⌜ r ≡ asked (storeWith (now (left .entry)) «left_count») (storeWith (now (right .entry)) «right_count») records ⌝ }
 {
     if !ordered_in(left, left_count) {
         return 1;
@@ -71,7 +72,7 @@ fn ask(left: &[u64], left_count: usize, right: &[u64], right_count: usize, recor
 
 // Puts one end's whole claim last, none if it has no keys, and says where the next record goes.
 fn put_whole(keys: &[u64], count: usize, words: &mut [u64], at: usize, sender: u64) -> usize
-    ensures { λ r. ⌜ (r ≡ wholeNext count (now (words .entry)) at) × (now (words .exit) ≡ wholeWords (now (keys .entry)) count (now (words .entry)) at sender) ⌝ }
+    ensures { λ r. ⌜ logWith (now (words .exit)) r ≡ putWhole (storeWith (now (keys .entry)) count) (logWith (now (words .entry)) at) sender ⌝ }
 {
     if count == 0 {
         return at;
@@ -93,7 +94,7 @@ fn deliver(
 ) -> Reached
     requires { ⌜ (head < tail) × (tail ≤ recordsIn (now words)) ⌝ }
     ensures { λ r. ⌜ Stepped r (now (left .exit)) (now (right .exit)) (now (words .exit))
-        (step (record { left = now (left .entry); leftCount = «left_count»; right = now (right .entry); rightCount = «right_count»; words = now (words .entry); head = head; tail = tail })) ⌝ }
+        (step (coreOf (storeWith (now (left .entry)) «left_count») (storeWith (now (right .entry)) «right_count») (logWith (now (words .entry)) tail) head)) ⌝ }
 {
     let at = head * RECORD;
     let sender = words[at];
@@ -130,22 +131,22 @@ fn deliver_all(
 ) -> Reached
     requires { ⌜ to ≤ recordsIn (now words) ⌝ }
     ensures { λ r. ⌜ Stepped r (now (left .exit)) (now (right .exit)) (now (words .exit))
-        (finish (record { left = now (left .entry); leftCount = «left_count»; right = now (right .entry); rightCount = «right_count»; words = now (words .entry); head = from; tail = to })) ⌝ }
+        (finish (coreOf (storeWith (now (left .entry)) «left_count») (storeWith (now (right .entry)) «right_count») (logWith (now (words .entry)) to) from)) ⌝ }
 {
     let mut head = from;
     let mut tail = to;
-    let mut lc = left_count;
-    let mut rc = right_count;
+    let mut left_held = left_count;
+    let mut right_held = right_count;
     while head < tail {
-        let reached = deliver(left, lc, right, rc, words, head, tail);
-        lc = reached.left;
-        rc = reached.right;
+        let reached = deliver(left, left_held, right, right_held, words, head, tail);
+        left_held = reached.left;
+        right_held = reached.right;
         tail = reached.tail;
         head += 1;
     }
     Reached {
-        left: lc,
-        right: rc,
+        left: left_held,
+        right: right_held,
         tail,
     }
 }
@@ -159,7 +160,7 @@ fn left_half(
     words: &mut [u64],
 ) -> Reached
     ensures { λ r. ⌜ Stepped r (now (left .exit)) (now (right .exit)) (now (words .exit))
-        (finish (opened (now (left .entry)) «left_count» (now (right .entry)) «right_count» (now (words .entry)))) ⌝ }
+        (finish (opened (storeWith (now (left .entry)) «left_count») (storeWith (now (right .entry)) «right_count») (now (words .entry)))) ⌝ }
 {
     let end = put_whole(&left[..], left_count, words, 0, 0);
     deliver_all(left, left_count, right, right_count, words, 0, end)
@@ -176,7 +177,8 @@ fn right_half(
 ) -> Reached
     requires { ⌜ done ≤ recordsIn (now words) ⌝ }
     ensures { λ r. ⌜ Stepped r (now (left .exit)) (now (right .exit)) (now (words .exit))
-        (finish (reopened (record { left = now (left .entry); leftCount = «left_count»; right = now (right .entry); rightCount = «right_count»; words = now (words .entry); head = done; tail = done }))) ⌝ }
+        (finish (reopened
+        (coreOf (storeWith (now (left .entry)) «left_count») (storeWith (now (right .entry)) «right_count») (logWith (now (words .entry)) done) done))) ⌝ }
 {
     let end = put_whole(&right[..], right_count, words, done, 1);
     deliver_all(left, left_count, right, right_count, words, done, end)
@@ -191,25 +193,25 @@ fn both_halves(
     words: &mut [u64],
 ) -> Reached
     ensures { λ r. ⌜ Stepped r (now (left .exit)) (now (right .exit)) (now (words .exit))
-        (both (now (left .entry)) «left_count» (now (right .entry)) «right_count» (now (words .entry))) ⌝ }
+        (both (storeWith (now (left .entry)) «left_count») (storeWith (now (right .entry)) «right_count») (now (words .entry))) ⌝ }
 {
-    let half = left_half(left, left_count, right, right_count, words);
-    let lc = half.left;
-    let rc = half.right;
-    let done = half.tail;
-    right_half(left, lc, right, rc, words, done)
+    let reached = left_half(left, left_count, right, right_count, words);
+    let left_held = reached.left;
+    let right_held = reached.right;
+    let done = reached.tail;
+    right_half(left, left_held, right, right_held, words, done)
 }
 
-// A round. Asks 1 (left, then right), 8 and 9, of a fifth of the words.
+// A round. Asks 1 (left, then right), 8 and 9, of as many records as the words have.
 pub fn round_words(left: Store, right: Store, words: &mut [u64]) -> Met
-    ensures { λ r. ⌜ (r ≡ met left right (length (now (words .entry)) / 5)) × (now (words .exit) ≡ metWords left right (now (words .entry))) ⌝ }
+    ensures { λ r. ⌜ (r ≡ met left right (recordsIn (now (words .entry)))) × (now (words .exit) ≡ metWords left right (now (words .entry))) ⌝ }
 {
     let mut l = left;
     let mut r = right;
-    let lc = l.count;
-    let rc = r.count;
+    let left_count = l.count;
+    let right_count = r.count;
     let records = words.len() / RECORD;
-    let number = ask(&l.keys, lc, &r.keys, rc, records);
+    let number = ask(&l.keys, left_count, &r.keys, right_count, records);
     if number != 0 {
         return Met {
             number,
@@ -218,7 +220,7 @@ pub fn round_words(left: Store, right: Store, words: &mut [u64]) -> Met
             deliveries: 0,
         };
     }
-    let reached = both_halves(&mut l.keys, lc, &mut r.keys, rc, words);
+    let reached = both_halves(&mut l.keys, left_count, &mut r.keys, right_count, words);
     l.count = reached.left;
     r.count = reached.right;
     Met {

@@ -4,7 +4,7 @@ use claims::Claim;
 ghost use mathlib.Core.Path.{_≡_};
 ghost use Prim.Native.Nat.{_<_, _/_};
 ghost use Rattle.claims.specs.Reply.{claimsOf};
-ghost use Rattle.transcript.specs.Core.{claimIn, putRecord, next, putRecords, nextAfter};
+ghost use Rattle.transcript.specs.Core.{claimIn, logWith, putRecord, putRecords};
 
 // The words of a record.
 pub const RECORD: usize = 5;
@@ -22,17 +22,12 @@ pub fn claim_in(words: &[u64], at: usize) -> Claim
             cnt: (words[base + 4] % 65536) as u16,
         };
     }
-    Claim {
-        lo: 0,
-        hi: 0,
-        sum: 0,
-        cnt: 0,
-    }
+    Claim::NONE
 }
 
 // Writes a record, and says where the next one goes; past the last record nothing changes.
 pub(crate) fn put_record(words: &mut [u64], at: usize, sender: u64, claim: Claim) -> usize
-    ensures { λ r. ⌜ (r ≡ next (now (words .entry)) at) × (now (words .exit) ≡ putRecord (now (words .entry)) at sender claim) ⌝ }
+    ensures { λ r. ⌜ logWith (now (words .exit)) r ≡ putRecord (logWith (now (words .entry)) at) sender claim ⌝ }
 {
     if at < words.len() / RECORD {
         let base = at * RECORD;
@@ -48,7 +43,7 @@ pub(crate) fn put_record(words: &mut [u64], at: usize, sender: u64, claim: Claim
 
 // Writes the claims of an answer.
 pub(crate) fn put_answer(words: &mut [u64], at: usize, sender: u64, answer: Answer) -> usize
-    ensures { λ r. ⌜ (r ≡ nextAfter (now (words .entry)) at (claimsOf answer)) × (now (words .exit) ≡ putRecords (now (words .entry)) at sender (claimsOf answer)) ⌝ }
+    ensures { λ r. ⌜ logWith (now (words .exit)) r ≡ putRecords (logWith (now (words .entry)) at) sender (claimsOf answer) ⌝ }
 {
     match answer {
         Answer::Ask(claim) => put_record(words, at, sender, claim),

@@ -1,12 +1,12 @@
 -- Laws of specs/Lent: what the calls on lent keys are by the definitions of Image. `readIn-refused`, `readImage-1` and `readImage-lent` say it of reading,
 -- `writeImageIn-writeImage` and `imageInLent-imageLent` of writing. Assumes nothing.
 use Prim.Native.Nat.{ℕ, _-_, _≤_}
-use mathlib.Core.Bool.{Bool, true, false, _&&_}
+use mathlib.Core.Bool.{Bool, true, false, not, _&&_}
 use mathlib.Core.List.{List, [], _∷_, _++_}
 use mathlib.Core.Path.{_≡_, refl, ap, sym, _∙_}
-use borrow.Author.Tests.{le-leb, leb-true, eqb-true, eq-eqb}
+use borrow.Author.Tests.{le-leb, leb-true, eqb-true, eq-eqb, not-true, not-false}
 use lib.Dec.{leb, eqb, lit<}
-use lib.ListN.{length, replicate}
+use lib.ListN.{length, take, drop, replicate}
 use Rattle.keys.specs.declared.store.Store.{Store}
 use Rattle.keys.specs.Store.{limit, zeros, storeOf, emptyStore}
 use Rattle.keys.proofs.Tests.{and-left, and-right}
@@ -15,14 +15,20 @@ use Rattle.claims.proofs.QuestionLaws.{firstNo-zero, settle-refused}
 use Rattle.rule.specs.declared.node.Node.{Node}
 use Rattle.rule.specs.declared.answer.Rest.{Rest}
 use Rattle.rule.specs.Table.{tableLimit}
-use Rattle.rule.specs.Node.{nodeOf, nodeInOrder}
+use Rattle.rule.specs.Node.{nodeKeys, pendingOf, nodeOf, nodeInOrder}
 use Rattle.rule.specs.Place.{putAt}
 use Rattle.rule.proofs.PlaceLaws.{putAt-replicate}
-use Rattle.nodes.specs.Lent.{nodeWith, lentInOrder}
-use Rattle.wire.specs.Image.{nodeBytes, parse, nodeFrom, question14, noImage, readImage, writeImage, imageLent}
+use Rattle.rule.proofs.NodeLaws.{nodeKeys-nodeOf, pendingOf-nodeOf}
+use Rattle.nodes.specs.Lent.{nodeWith, frontIn}
+use Rattle.wire.specs.Claim.{countWidth}
+use Rattle.wire.specs.Run.{key, claim}
+use Rattle.wire.specs.Told.{AsTold}
+use Rattle.wire.specs.Image.{nodeBytes, keySection, sections, countOf, behind, countsFit, toldLength, parse, nodeFrom, question14, noImage, readImage, writeImage, imageLent}
 use Rattle.wire.specs.Lent.{restOf, noRest, readIn, readInLent, withinLimits, writeImageIn, imageInLent}
 use Rattle.wire.proofs.QuestionLaws.{settle-number}
+use Rattle.wire.proofs.RunLaws.{length-readRun}
 use Rattle.wire.proofs.ImageLaws.{ordered-counts}
+use Rattle.wire.proofs.ToldLaws.{told-room}
 
 -- ---- reading
 
@@ -66,18 +72,43 @@ module _ (bs : List ℕ) {r : Rest} (e : r ≡ readIn bs) where
         let p : ks ≡ l ++ replicate (limit - length l) 0 = k ∙ rw passed (putAt-replicate l limit 0) in
         λ i. record { store = record { keys = p i; count = rest i .held }; pending = rest i .table; count = rest i .count }
 
-    -- what question 1 then decides
-    module _ (long : length ks ≡ limit) where
-      tested : nodeInOrder (nodeFrom (parse bs)) ≡ lentInOrder ks (r .held) (r .table) (r .count)
-      tested = rw (eq-eqb (length ks) limit long) (ap nodeInOrder (sym readIn-node))
+    -- the counts are those that the image tells: so many keys are there, and not too many claims
+    told : AsTold bs (countOf bs) (countOf (behind keySection bs))
+    told =
+        let yes = passed in
+        record {
+          counts = and-left (countsFit sections bs) (eqb (length bs) (toldLength sections bs)) yes;
+          whole = eqb-true (length bs) (toldLength sections bs) (and-right (countsFit sections bs) (eqb (length bs) (toldLength sections bs)) yes);
+          keys = refl;
+          pending = refl;
+        }
 
-      pub readImage-1 : lentInOrder ks (r .held) (r .table) (r .count) ≡ false → noImage 1 ≡ readImage bs
-      unfolding readImage
-      readImage-1 t = rw (passed, tested ∙ t)
+    counted : (r .held ≡ countOf bs) × (r .count ≡ countOf (behind keySection bs))
+    unfolding readIn nodeOf storeOf parse
+    counted =
+        let rest : r ≡ restOf (nodeFrom (parse bs)) = e ∙ rw passed in (
+          ap (λ (x : Rest). x .held) rest ∙ length-readRun key (countOf bs) (drop countWidth bs),
+          ap (λ (x : Rest). x .count) rest ∙ length-readRun claim (countOf (behind keySection bs)) (drop countWidth (behind keySection bs)),
+        )
 
-      pub readImage-lent : lentInOrder ks (r .held) (r .table) (r .count) ≡ true → record { number = 0; node = readNode } ≡ readImage bs
+    pub readIn-few : (r .held ≤ limit) × (r .count ≤ tableLimit)
+    readIn-few = let (n, m) = counted in let (f, g, room) = told-room told in (rw n f, rw m g)
+
+    -- what question 1 of these keys and claims then decides
+    module _ (ordered : Bool) (tested : ordered ≡ frontIn (take (r .held) ks) (r .table) (r .count)) where
+      in-order : nodeInOrder (nodeFrom (parse bs)) ≡ ordered
+      in-order =
+          let keys : take (r .held) ks ≡ parse bs .keys = ap nodeKeys readIn-node ∙ nodeKeys-nodeOf (parse bs .keys) (parse bs .pending) in
+          let claims : take (r .count) (r .table) ≡ parse bs .pending = ap pendingOf readIn-node ∙ pendingOf-nodeOf (parse bs .keys) (parse bs .pending) in
+          sym (tested ∙ rw (le-leb (r .count) tableLimit (readIn-few .1), keys, claims))
+
+      pub readImage-1 : not ordered ≡ true → noImage 1 ≡ readImage bs
       unfolding readImage
-      readImage-lent t = (λ i. record { number = 0; node = readIn-node i }) ∙ rw (passed, tested ∙ t)
+      readImage-1 t = rw (passed, in-order ∙ not-true ordered t)
+
+      pub readImage-lent : not ordered ≡ false → record { number = 0; node = readNode } ≡ readImage bs
+      unfolding readImage
+      readImage-lent t = (λ i. record { number = 0; node = readIn-node i }) ∙ rw (passed, in-order ∙ not-false ordered t)
 
 -- ---- writing
 

@@ -1,4 +1,4 @@
--- Calls between our own crates: an image read and written where a node's keys are lent, so that none is copied, and where question 1 is put by `ordered_lent`
+-- Calls between our own crates: an image read and written where a node's keys are lent, so that none is copied, and where question 1 is put by `front_in`
 -- of `nodes`, so that a host call pays it once. They are total, and no rule of document 01. What they are by the definitions of Image is said by
 -- laws (proofs/LentLaws): `readIn-node`, `writeImageIn-writeImage`, `imageInLent-imageLent`. Assumes nothing.
 use Prim.Native.Nat.{ℕ}

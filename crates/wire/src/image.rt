@@ -5,8 +5,8 @@ use crate::claim;
 use crate::number;
 use claims::Claim;
 use keys::Store;
+use nodes::front_in;
 use nodes::ordered;
-use nodes::ordered_lent;
 use rule::Node;
 use rule::Rest;
 ghost use mathlib.Core.Path.{_≡_};
@@ -202,7 +202,7 @@ fn contents(bytes: &[u8], n: usize, m: usize, keys: &mut [u64; Store::LIMIT]) ->
     }
 }
 
-// Reads an image: its keys into the first places of a lent run, and the rest. Asks 14; question 1 is left to `ordered_lent`.
+// Reads an image: its keys into the first places of a lent run, and the rest. Asks 14; question 1 is left to `front_in`.
 pub fn read_image_in(bytes: &[u8], keys: &mut [u64; Store::LIMIT]) -> Rest
     ensures { λ r. ⌜ (r ≡ readIn (now (bytes .entry)))
         × (now (keys .exit) ≡ readInLent (now (bytes .entry)) (now (keys .entry))) ⌝ }
@@ -249,10 +249,12 @@ pub fn read_image(bytes: &[u8]) -> Imaged
         return refused(read.number);
     }
     let pending = read.table;
-    if !ordered_lent(&store.keys, read.held, pending, read.count) {
+    let held = read.held;
+    let places = &store.keys[..];
+    if !front_in(&places[..held], pending, read.count) {
         return refused(1);
     }
-    store.count = read.held;
+    store.count = held;
     Imaged {
         number: 0,
         node: Node {

@@ -1,9 +1,6 @@
 -- `beats::beats::write_answer` meets its contract. Assumes nothing.
 use borrow.Author.Needs.{needs}
-use denote.Ref.{now}
-use mathlib.Core.Path.{ap}
-use Rattle.claims.specs.Reply.{claimsOf}
-use Rattle.beats.proofs.Writing.{wrote-none, wrote-one, wrote-two}
+use Rattle.beats.proofs.BeatsPaths.{wrote-none, wrote-one, wrote-two}
 use Rattle.beats.proofs.beats.write_answer.Statement.{statement}
 use Rattle.beats.proofs.beats.write_answer.Tie as tie
 
@@ -47,28 +44,28 @@ add-result-3 : tie.Need-add-result-3
 add-result-3 c = search needs
 
 returns : tie.Need-returns
-returns c = let s = c .before .before .before in wrote-none (s .args .answer) (s .args .at) (now (s .args .lent)) (ap claimsOf (c .enum-told .given .1))
+returns c = search (needs, wrote-none)
 
 returns-2 : tie.Need-returns-2
-returns-2 c = let s = c .before .before .before in wrote-none (s .args .answer) (s .args .at) (now (s .args .lent)) (ap claimsOf (c .enum-told2 .given .1))
+returns-2 c = search (needs, wrote-none)
 
 same-length : tie.Need-same-length
 same-length c = search needs
 
 returns-3 : tie.Need-returns-3
-returns-3 c = let s = c .before .before .before .before .before .before .before .before in wrote-one (s .args .answer) (s .args .at) (now (s .args .lent)) _ (ap claimsOf (c .before .before .before .before .before .answer .given .1)) (c .before .before .write-claim .last .0) (c .before .before .write-claim .ensures)
+returns-3 c = search (needs, wrote-one)
 
 same-length-2 : tie.Need-same-length-2
 same-length-2 c = search needs
 
 returns-4 : tie.Need-returns-4
-returns-4 c = let s = c .before .before .before .before .before .before .before .before in wrote-one (s .args .answer) (s .args .at) (now (s .args .lent)) _ (ap claimsOf (c .before .before .before .before .before .answer2 .given .1)) (c .before .before .write-claim2 .last .0) (c .before .before .write-claim2 .ensures)
+returns-4 c = search (needs, wrote-one)
 
 same-length-3 : tie.Need-same-length-3
 same-length-3 c = search needs
 
 returns-5 : tie.Need-returns-5
-returns-5 c = let s = c .before .before .before .before .before .before .before .before .before .before .before .before in wrote-two (s .args .answer) (s .args .at) (now (s .args .lent)) _ _ (ap claimsOf (c .before .before .before .before .before .before .before .before .before .answer3 .given .1)) (c .before .before .before .before .before .before .write-claim3 .last .0) (c .before .before .write-claim4 .last .0) (c .before .before .before .before .before .before .write-claim3 .ensures) (c .before .before .write-claim4 .ensures)
+returns-5 c = search (needs, wrote-two)
 
 pub write-answer-spec : {M : Type 1} → statement M
 write-answer-spec =

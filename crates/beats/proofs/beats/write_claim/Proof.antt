@@ -1,10 +1,8 @@
 -- `beats::beats::write_claim` meets its contract. Assumes nothing.
 use native.Mathlib.Omega.{arith}
 use borrow.Author.Needs.{needs}
-use denote.Ref.{now}
-use Prim.Native.Nat.{_*_}
 use lib.ListN.{length-set}
-use Rattle.beats.proofs.Writing.{write-words}
+use Rattle.beats.proofs.BeatsPaths.{wrote-claim}
 use Rattle.beats.proofs.beats.write_claim.Statement.{statement}
 use Rattle.beats.proofs.beats.write_claim.Tie as tie
 
@@ -51,7 +49,7 @@ same-length : tie.Need-same-length
 same-length c = search needs
 
 returns : tie.Need-returns
-returns c = write-words (now (c .before .args .lent)) (4 * c .before .args .at) (c .before .args .claim)
+returns c = search (needs, wrote-claim)
 
 pub write-claim-spec : {M : Type 1} → statement M
 write-claim-spec =

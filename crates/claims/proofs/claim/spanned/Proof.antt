@@ -5,10 +5,10 @@ use Rattle.claims.proofs.claim.spanned.Statement.{statement}
 use Rattle.claims.proofs.claim.spanned.Tie as tie
 
 returns : tie.Need-returns
-returns c = spans-one (c .before .before .before .args .claim) (c .before .if1 .taken)
+returns c = search (needs, spans-one)
 
 returns-2 : tie.Need-returns-2
-returns-2 c = spans-few (c .before .before .before .before .args .claim) (c .before .before .if1 .left) (c .if2 .taken)
+returns-2 c = search (needs, spans-few)
 
 cast-result : tie.Need-cast-result
 cast-result c = search needs
@@ -20,7 +20,7 @@ sub-result-2 : tie.Need-sub-result-2
 sub-result-2 c = search needs
 
 returns-3 : tie.Need-returns-3
-returns-3 c = spans-many (c .before .before .before .before .before .before .args .claim) (c .before .before .before .before .if1 .left) (c .before .before .if2 .left)
+returns-3 c = search (needs, spans-many)
 
 pub spanned-spec : {M : Type 1} → statement M
 spanned-spec = tie.close (tie.spec returns returns-2 cast-result sub-result sub-result-2 returns-3)

@@ -27,7 +27,7 @@ shared-slice-read-t11 : tie.Need-shared-slice-read-t11
 shared-slice-read-t11 c = search needs
 
 returns : tie.Need-returns
-returns c = let s = c .before .before in claim-summed (now (s .args .keys)) (s .args .first) (s .args .last) (s .args .sum) (s .pre .1)
+returns c = search (needs, claim-summed)
 
 pub claim-with-spec : {M : Type 1} → statement M
 claim-with-spec = tie.close (tie.spec sub-cnt add-cnt cast-cnt mul-t6 shared-slice-read-t9 mul-t7 shared-slice-read-t11 returns)

@@ -10,7 +10,7 @@ add-if1 : tie.Need-add-if1
 add-if1 c = search needs
 
 returns : tie.Need-returns
-returns c = help-none (now (c .before .before .args .keys)) (c .before .before .args .first) (c .before .before .args .last) (c .if1 .taken)
+returns c = search (needs, help-none)
 
 add-a : tie.Need-add-a
 add-a c = search needs
@@ -41,10 +41,7 @@ claim-with-requires c κs =
     (record { rise = omega (arith, apart .if1 .left); short = omega arith; inside = omega arith }, one-sum (now (s .args .keys)) (s .args .first) (s .args .last) (s .args .left) (s .args .right) (s .pre) (apart .if1 .left))
 
 returns-2 : tie.Need-returns-2
-returns-2 c =
-    let apart = c .before .before .before .before in
-    let s = apart .before .before in
-    help-one (now (s .args .keys)) (s .args .first) (s .args .last) (apart .if1 .left) (c .before .if2 .taken) (c .claim-with .result) (c .claim-with .ensures)
+returns-2 c = search (needs, help-one)
 
 add-mid : tie.Need-add-mid
 add-mid c = search needs
@@ -62,24 +59,13 @@ sub-claim-with : tie.Need-sub-claim-with
 sub-claim-with c = search needs
 
 claim-with-requires-2 : tie.Need-claim-with-requires-2
-claim-with-requires-2 c κs =
-    let apart = c .before .before .before in
-    let s = apart .before .before in
-    let places = s .pre .places in
-    (record { rise = omega arith; short = omega arith; inside = omega arith }, left-sum (now (s .args .keys)) (s .args .first) (s .args .last) (s .args .left) (s .args .right) (s .pre) (apart .if1 .left))
+claim-with-requires-2 c κs = search (needs, left-sum)
 
 claim-with-requires-3 : tie.Need-claim-with-requires-3
-claim-with-requires-3 c κs =
-    let s = c .before .before .before .before .before .before in
-    let places = s .pre .places in
-    let below = middle-lt (s .args .first) (s .args .last) (c .before .if2 .left) in
-    (record { rise = omega arith; short = omega arith; inside = omega arith }, right-sum (now (s .args .keys)) (s .args .first) (s .args .last) (s .args .left) (s .args .right) (s .pre) below)
+claim-with-requires-3 c κs = search (needs, right-sum, middle-lt)
 
 returns-3 : tie.Need-returns-3
-returns-3 c =
-    let apart = c .before .before .before .before .before in
-    let s = apart .before .before in
-    help-two (now (s .args .keys)) (s .args .first) (s .args .last) (apart .if1 .left) (c .before .before .if2 .left) (c .before .claim-with2 .result) (c .claim-with3 .result) (c .before .claim-with2 .ensures) (c .claim-with3 .ensures)
+returns-3 c = search (needs, help-two)
 
 pub help-with-spec : {M : Type 1} → statement M
 help-with-spec =

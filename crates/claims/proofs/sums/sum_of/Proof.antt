@@ -33,14 +33,10 @@ loop-less : tie.Need-loop-less Inv-loop μ-loop
 loop-less c = search needs
 
 loop-again : tie.Need-loop-again Inv-loop μ-loop
-loop-again c =
-    let s = c .before .before in
-    (search needs, xor-on (now (s .before .args .keys)) (s .loop .sum) (s .loop .i) (s .loop .inv .1) (omega arith))
+loop-again c = search (needs, xor-on)
 
 returns : tie.Need-returns Inv-loop μ-loop
-returns c =
-    let s = c .before in
-    xor-all (now (s .before .args .keys)) (s .loop .sum) (s .loop .i) (s .loop .inv .1) (c .loop-test .left)
+returns c = search (needs, xor-all)
 
 pub sum-of-spec : {M : Type 1} → statement M
 sum-of-spec =

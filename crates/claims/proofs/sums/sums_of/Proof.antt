@@ -57,7 +57,7 @@ loop-again c =
     )
 
 loop2-holds : tie.Need-loop2-holds Inv-loop μ-loop Inv-loop2 μ-loop2
-loop2-holds c = let p = c .before .before .pre in (omega arith, c .before .loop .inv .1)
+loop2-holds c = search (needs)
 
 mul-a-2 : tie.Need-mul-a-2 Inv-loop μ-loop Inv-loop2 μ-loop2
 mul-a-2 c = search needs
@@ -72,20 +72,10 @@ loop2-less : tie.Need-loop2-less Inv-loop μ-loop Inv-loop2 μ-loop2
 loop2-less c = search needs
 
 loop2-again : tie.Need-loop2-again Inv-loop μ-loop Inv-loop2 μ-loop2
-loop2-again c =
-    let t = c .before in
-    let s = t .before in
-    let h = t .loop2-test .taken in
-    (search needs, xor-on (now (s .before .before .before .args .one)) (s .loop2 .a) (s .loop2 .i) (s .loop2 .inv .1) (omega arith))
+loop2-again c = search (needs, xor-on)
 
 returns : tie.Need-returns Inv-loop μ-loop Inv-loop2 μ-loop2
-returns c =
-    let t = c .before in
-    let l = t .before in
-    let s = l .before in (
-      xor-all (now (s .before .args .one)) (t .loop2 .a) (t .loop2 .i) (t .loop2 .inv .1) (c .loop2-test .left),
-      xor-all (now (s .before .args .other)) (s .loop .b) (s .loop .i) (s .loop .inv .2) (l .loop-test .left),
-    )
+returns c = search (needs, xor-all)
 
 pub sums-of-spec : {M : Type 1} → statement M
 sums-of-spec =

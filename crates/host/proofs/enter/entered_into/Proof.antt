@@ -1,6 +1,6 @@
 -- `enter::entered_into` meets its contract: one law for each way. Assumes nothing.
 use borrow.Author.Needs.{needs}
-use Rattle.host.proofs.Answers.{loaded-refused, enteredInto-added}
+use Rattle.host.proofs.Answers.{loaded-refused, enteredInto-unfit, enteredInto-fit}
 use Rattle.host.proofs.enter.entered_into.Statement.{statement}
 use Rattle.host.proofs.enter.entered_into.Tie as tie
 
@@ -14,7 +14,10 @@ add-in-requires : tie.Need-add-in-requires
 add-in-requires c κs = search needs
 
 returns-2 : tie.Need-returns-2
-returns-2 c = search (needs, enteredInto-added)
+returns-2 c = search (needs, enteredInto-unfit)
+
+returns-3 : tie.Need-returns-3
+returns-3 c = search (needs, enteredInto-fit)
 
 pub entered-into-spec : {M : Type 1} → statement M
-entered-into-spec = tie.close (tie.spec load-requires returns add-in-requires returns-2)
+entered-into-spec = tie.close (tie.spec load-requires returns add-in-requires returns-2 returns-3)

@@ -12,7 +12,7 @@ use Rattle.rule.specs.Call.{writtenOver}
 use Rattle.rule.specs.declared.node.Node.{Node}
 use Rattle.rule.proofs.NodeLaws.{length-mapped}
 use Rattle.nodes.specs.Lent.{nodeWith}
-use Rattle.beats.specs.Serving.{beatenWith}
+use Rattle.beats.specs.Lent.{beatenWith}
 use Rattle.wire.specs.Image.{nodeBytes, Shaped}
 use Rattle.host.specs.Frames.{framesBytes}
 use Rattle.host.proofs.Beats.{Ran, nodeServed-ordered, length-framesSent, beat-ran}
@@ -39,7 +39,7 @@ ran : (b : tie.After-beat-in) → let a = given b .args in
     Ran (node b) (beatenWith (a .keys .now) (a .held) (b .beat-in .result)) (b .beat-in .last .1 .1 .1 .1 .0)
 ran b =
     let s = given b in
-    beat-ran (node b) (s .pre .ordered) (s .pre .long) blank (length-replicate {A = ℕ} (4 * beatLimit) 0) (b .beat-in .ensures .0) (b .beat-in .ensures .1)
+    beat-ran (node b) (s .pre .ordered) (s .pre .long) blank (length-replicate {A = ℕ} (4 * beatLimit) 0) (b .beat-in .ensures .result) (b .beat-in .ensures .words)
 
 -- where the image was written, and the beat before it
 abbrev image : tie.After-write-frames-arg → tie.After-write-image-in

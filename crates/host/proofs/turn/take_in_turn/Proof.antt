@@ -43,11 +43,11 @@ counted s =
     length-take-le (s .args .n) (s .args .t5) (omega (arith, s .pre .few))
 
 -- the turn of a claim, from the test on
-abbrev tested : tie.After-take-next Inv-loop μ-loop → tie.In-loop Inv-loop μ-loop
+abbrev tested : tie.After-take-in Inv-loop μ-loop → tie.In-loop Inv-loop μ-loop
 tested c = c .before .before .before .before
 
-turn : (c : tie.After-take-next Inv-loop μ-loop) → let l = tested c .before in
-    Turn (node (l .loop .keys) (l .loop .taken)) (given (l .before)) (l .loop .i) (takenWith (c .take-next .last .0) (c .take-next .result))
+turn : (c : tie.After-take-in Inv-loop μ-loop) → let l = tested c .before in
+    Turn (node (l .loop .keys) (l .loop .taken)) (given (l .before)) (l .loop .i) (takenWith (c .take-in .last .0) (c .take-in .result))
 turn c =
     let l = tested c .before in
     let a = l .before .args in
@@ -56,24 +56,23 @@ turn c =
       below = rw (counted (l .before)) (tested c .loop-test .taken);
       shaped = shaped;
       ordered = ordered;
-      pass = l .before .pre .pass;
-      next = rw (getD-take (a .n) (a .t5) (l .loop .i) noClaim (tested c .loop-test .taken)) (c .take-next .ensures);
+      next = rw (getD-take (a .n) (a .t5) (l .loop .i) noClaim (tested c .loop-test .taken)) (c .take-in .ensures);
     }
 
-places-next : (c : tie.After-struct-known Inv-loop μ-loop) → length (c .before .take-next .result .table) ≡ tableLimit
+places-next : (c : tie.After-struct-known Inv-loop μ-loop) → length (c .before .take-in .result .table) ≡ tableLimit
 places-next c = search (needs, length-mapped)
 
 loop-holds : tie.Need-loop-holds Inv-loop μ-loop
 loop-holds c = (search needs, record { keys = c .pre .long; pending = search (needs, length-mapped) }, c .pre .ordered, refl, refl)
 
-mul-take-next : tie.Need-mul-take-next Inv-loop μ-loop
-mul-take-next c = search needs
+mul-take-in : tie.Need-mul-take-in Inv-loop μ-loop
+mul-take-in c = search needs
 
-array-copy-out-take-next : tie.Need-array-copy-out-take-next Inv-loop μ-loop
-array-copy-out-take-next c = search needs
+array-copy-out-take-in : tie.Need-array-copy-out-take-in Inv-loop μ-loop
+array-copy-out-take-in c = search needs
 
-take-next-requires : tie.Need-take-next-requires Inv-loop μ-loop
-take-next-requires c κs = search needs
+take-in-requires : tie.Need-take-in-requires Inv-loop μ-loop
+take-in-requires c κs = search needs
 
 returns : tie.Need-returns Inv-loop μ-loop
 returns c =
@@ -112,9 +111,9 @@ take-in-turn-spec =
     Inv-loop
     μ-loop
     loop-holds
-    mul-take-next
-    array-copy-out-take-next
-    take-next-requires
+    mul-take-in
+    array-copy-out-take-in
+    take-in-requires
     returns
     add-i
     loop-less

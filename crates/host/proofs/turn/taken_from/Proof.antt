@@ -41,7 +41,7 @@ take-in-turn-requires c κs =
     let e = framed t .before in
     let l = e .before .before .load .ensures in
     let a = accepted t in
-    record { long = l .sound .long; ordered = l .sound .ordered (e .if1 .left); few = a .few; pass = rw (a .claims) (a .pass) }
+    record { long = l .sound .long; ordered = l .sound .ordered (e .if1 .left); few = a .few }
 
 returns-3 : tie.Need-returns-3
 returns-3 c =

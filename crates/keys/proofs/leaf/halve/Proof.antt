@@ -1,5 +1,5 @@
 -- `keys::leaf::halve` meets its contract. The invariant: halving what is left gives what halving all of it gives. Assumes nothing.
-use mathlib.Core.Path.{_≡_, refl, sym, _∙_}
+use mathlib.Core.Path.{_≡_, refl, sym, _∙_, ap}
 use mathlib.Core.Bool.{Bool, true, false, cond}
 use lib.Dec.{leb}
 use Prim.Native.Nat.{ℕ, _≤_, _<_, _+_, _*_, _/_}
@@ -20,27 +20,34 @@ abbrev μ-loop : tie.MeasureT-loop
 μ-loop keys first count key base₀ size₀ base size = size
 
 -- a bit times half of what is left is where the half begins that is kept
-stepped : (t : Bool) (base half : ℕ) → base + half * cond t 1 0 ≡ cond t (base + half) base
-stepped true base half = omega arith
-stepped false base half = omega arith
+stepped : (t : Bool) (base half up step : ℕ) → up ≡ cond t 1 0 → step ≡ half * up → base + step ≡ cond t (base + half) base
+stepped t base half up step e f = ap (λ (n : ℕ). base + n) (f ∙ ap (λ (n : ℕ). half * n) e) ∙ go t
+  where
+    go : (u : Bool) → base + half * cond u 1 0 ≡ cond u (base + half) base
+    go true = omega arith
+    go false = omega arith
 
 stepped-le : (t : Bool) (base half : ℕ) → cond t (base + half) base ≤ base + half
 stepped-le true base half = omega arith
 stepped-le false base half = omega arith
 
-abbrev found : tie.After-times Inv-loop μ-loop → Bool
-found c = let s = c .before .before .before .before in leb (getD (now (s .before .before .args .keys)) (s .loop .base + s .loop .size / 2) 0) (s .before .before .args .key)
+-- the loop's head, from where the step is known
+abbrev turn : tie.After-times Inv-loop μ-loop → tie.At-loop Inv-loop μ-loop
+turn c = c .before .before .before .before
 
-moved : (c : tie.After-times Inv-loop μ-loop) → let s = c .before .before .before .before in
+abbrev found : tie.After-times Inv-loop μ-loop → Bool
+found c = let s = turn c in leb (getD (now (s .before .before .args .keys)) (s .loop .base + s .loop .size / 2) 0) (s .before .before .args .key)
+
+moved : (c : tie.After-times Inv-loop μ-loop) → let s = turn c in
     s .loop .base + c .times .result ≡ cond (found c) (s .loop .base + s .loop .size / 2) (s .loop .base)
 moved c =
-    let s = c .before .before .before .before in
-    rw (c .times .ensures) (rw (c .before .bit .ensures .0) (stepped (found c) (s .loop .base) (s .loop .size / 2)))
+    let s = turn c in
+    stepped (found c) (s .loop .base) (s .loop .size / 2) (c .before .bit .result) (c .times .result) (c .before .bit .ensures .0) (c .times .ensures)
 
-moved-le : (c : tie.After-times Inv-loop μ-loop) → let s = c .before .before .before .before in
+moved-le : (c : tie.After-times Inv-loop μ-loop) → let s = turn c in
     s .loop .base + c .times .result ≤ s .loop .base + s .loop .size / 2
 moved-le c =
-    let s = c .before .before .before .before in
+    let s = turn c in
     rw (moved c) (stepped-le (found c) (s .loop .base) (s .loop .size / 2))
 
 loop-holds : tie.Need-loop-holds Inv-loop μ-loop
@@ -72,7 +79,7 @@ loop-less c = search needs
 
 loop-again : tie.Need-loop-again Inv-loop μ-loop
 loop-again c =
-    let s = c .before .before .before .before in (
+    let s = turn c in (
       omega arith,
       omega (arith, moved-le c),
       rw (moved c) (s .loop .inv .2 ∙ halved-turn (now (s .before .before .args .keys)) (s .before .before .args .key) (s .loop .base) (s .loop .size) (omega arith)),

@@ -1,49 +1,41 @@
 -- `keys::lent::place_in` meets its contract. Assumes nothing.
 use Prim.Native.Nat.{_<_}
 use borrow.Author.Needs.{needs}
-use denote.Ref.{now}
 use Rattle.keys.proofs.Lending.{place-none, place-short, place-lt, place-after, place-at}
 use Rattle.keys.proofs.lent.place_in.Statement.{statement}
 use Rattle.keys.proofs.lent.place_in.Tie as tie
 
-found-lt : (c : tie.After-quarter) → c .quarter .result < c .before .before .before .before .args .count
-found-lt c =
-    let s = c .before .before .before .before in
-    place-lt (now (s .args .keys)) (s .args .count) (s .args .key) (c .before .before .if1 .left) (c .before .if2 .left) (c .quarter .result) (c .quarter .ensures)
+-- what the function was given, from where the place is found
+abbrev given : tie.After-quarter → tie.Start
+given c = c .before .before .before .before
+
+-- the place found is below the count
+found-lt : (c : tie.After-quarter) → c .quarter .result < given c .args .count
+found-lt c = search (needs, place-lt)
 
 returns : tie.Need-returns
-returns c = place-none (now (c .before .before .args .keys)) (c .before .before .args .count) (c .before .before .args .key) (c .if1 .taken)
+returns c = search (needs, place-none)
 
 returns-2 : tie.Need-returns-2
-returns-2 c = place-short (now (c .before .before .before .args .keys)) (c .before .before .before .args .count) (c .before .before .before .args .key) (c .before .if1 .left) (c .if2 .taken)
+returns-2 c = search (needs, place-short)
 
 quarter-requires : tie.Need-quarter-requires
 quarter-requires c κs = search needs
 
 mul-found : tie.Need-mul-found
-mul-found c =
-    let h = found-lt c in
-    search needs
+mul-found c = let h = found-lt c in search needs
 
 shared-slice-read-found : tie.Need-shared-slice-read-found
-shared-slice-read-found c =
-    let h = found-lt (c .before) in
-    search needs
+shared-slice-read-found c = let h = found-lt (c .before) in search needs
 
 add-t11 : tie.Need-add-t11
-add-t11 c =
-    let h = found-lt (c .before .before) in
-    search needs
+add-t11 c = let h = found-lt (c .before .before) in search needs
 
 returns-3 : tie.Need-returns-3
-returns-3 c =
-    let s = c .before .before .before .before .before .before in
-    place-after (now (s .args .keys)) (s .args .count) (s .args .key) (c .before .before .before .before .if1 .left) (c .before .before .before .if2 .left) (c .before .before .quarter .result) (c .before .before .quarter .ensures) (c .if3 .taken)
+returns-3 c = search (needs, place-after)
 
 returns-4 : tie.Need-returns-4
-returns-4 c =
-    let s = c .before .before .before .before .before .before in
-    place-at (now (s .args .keys)) (s .args .count) (s .args .key) (c .before .before .before .before .if1 .left) (c .before .before .before .if2 .left) (c .before .before .quarter .result) (c .before .before .quarter .ensures) (c .if3 .left)
+returns-4 c = search (needs, place-at)
 
 pub place-in-spec : {M : Type 1} → statement M
 place-in-spec =

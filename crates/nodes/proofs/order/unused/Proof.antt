@@ -1,12 +1,12 @@
 -- `nodes::order::unused` meets its contract. The invariant: every place from the count on is unused exactly if those from i on are. Assumes nothing.
-use mathlib.Core.Path.{_≡_, refl, sym, _∙_, ap}
-use mathlib.Core.List.{List, _∷_}
-use Prim.Native.Nat.{_+_, _-_}
+use mathlib.Core.Path.{_≡_, refl}
+use mathlib.Core.List.{List}
+use Prim.Native.Nat.{_-_}
 use borrow.Author.Needs.{needs}
 use lib.ListN.{drop, getD}
 use Rattle.claims.specs.declared.claim.Claim.{Claim}
 use Rattle.claims.specs.Claim.{noClaim}
-use Rattle.rule.specs.Table.{tableLimit, before}
+use Rattle.rule.specs.Table.{tableLimit}
 use Rattle.rule.specs.Node.{allUnused}
 use Rattle.nodes.proofs.Ordering.{drop-next, unused-not, unused-on, unused-all}
 use Rattle.nodes.proofs.order.unused.Statement.{statement}
@@ -25,14 +25,8 @@ table s = s .before .args .t1
 abbrev at : tie.At-loop Inv-loop μ-loop → Claim
 at s = getD (table s) (s .loop .i) noClaim
 
-next : (c : tie.In-loop Inv-loop μ-loop) → drop (c .before .loop .i) (table (c .before)) ≡ at (c .before) ∷ drop (c .before .loop .i + 1) (table (c .before))
-next c = drop-next (table (c .before)) (c .before .loop .i) noClaim (search needs)
-
 loop-holds : tie.Need-loop-holds Inv-loop μ-loop
 loop-holds c = refl
-
-none-requires : tie.Need-none-requires Inv-loop μ-loop
-none-requires c κs = search needs
 
 mul-precedes : tie.Need-mul-precedes Inv-loop μ-loop
 mul-precedes c = search needs
@@ -43,15 +37,12 @@ array-copy-out-precedes c = search needs
 precedes-requires : tie.Need-precedes-requires Inv-loop μ-loop
 precedes-requires c κs = search needs
 
--- what the comparison says of the claim at i
-compared : (c : tie.After-precedes Inv-loop μ-loop) → before noClaim (at (c .before .before .before .before)) ≡ c .precedes .result
-compared c = ap (λ (x : Claim). before x (at (c .before .before .before .before))) (sym (c .before .before .none .ensures)) ∙ sym (c .precedes .ensures)
-
 returns : tie.Need-returns Inv-loop μ-loop
 returns c =
-    let w = c .before .before .before .before in
-    let s = w .before in
-    unused-not (table s) (s .before .args .count) (s .loop .i) (s .loop .inv) (at s) (next w) (compared (c .before) ∙ c .if1 .taken)
+    let compared = c .before in
+    let s = compared .before .before .before in
+    unused-not (table s) (s .before .args .count) (s .loop .i) (s .loop .inv) (at s) (drop-next (table s) (s .loop .i) noClaim (search needs))
+    _ (compared .precedes .ensures) (c .if1 .taken)
 
 add-i : tie.Need-add-i Inv-loop μ-loop
 add-i c = search needs
@@ -61,9 +52,10 @@ loop-less c = search needs
 
 loop-again : tie.Need-loop-again Inv-loop μ-loop
 loop-again c =
-    let w = c .before .before .before .before in
-    let s = w .before in
-    unused-on (table s) (s .before .args .count) (s .loop .i) (s .loop .inv) (at s) (next w) (compared (c .before) ∙ c .if1 .left)
+    let compared = c .before in
+    let s = compared .before .before .before in
+    unused-on (table s) (s .before .args .count) (s .loop .i) (s .loop .inv) (at s) (drop-next (table s) (s .loop .i) noClaim (search needs))
+    _ (compared .precedes .ensures) (c .if1 .left)
 
 returns-2 : tie.Need-returns-2 Inv-loop μ-loop
 returns-2 c =
@@ -77,7 +69,6 @@ unused-spec =
     Inv-loop
     μ-loop
     loop-holds
-    none-requires
     mul-precedes
     array-copy-out-precedes
     precedes-requires

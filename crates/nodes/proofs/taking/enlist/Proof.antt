@@ -1,5 +1,6 @@
 -- `nodes::taking::enlist` meets its contract. Assumes nothing.
 use borrow.Author.Needs.{needs}
+use Rattle.rule.proofs.NodeLaws.{length-mapped}
 use Rattle.nodes.proofs.TakeLaws.{enlisted-found}
 use Rattle.nodes.proofs.taking.enlist.Statement.{statement}
 use Rattle.nodes.proofs.taking.enlist.Tie as tie
@@ -14,8 +15,7 @@ enlist-at-requires : tie.Need-enlist-at-requires
 enlist-at-requires c κs = search needs
 
 returns : tie.Need-returns
-returns c =
-    enlisted-found (c .before .before .before .args .table) (c .before .before .before .args .count) (c .before .before .capped .result) (c .before .find .result) (c .before .before .before .args .claim) (c .enlist-at .result .table) (c .enlist-at .result .count) (search needs) (c .before .before .capped .ensures) (c .before .find .ensures .0) (c .enlist-at .ensures)
+returns c = search (needs, enlisted-found, length-mapped)
 
 pub enlist-spec : {M : Type 1} → statement M
 enlist-spec = tie.close (tie.spec capped-requires find-requires enlist-at-requires returns)

@@ -24,13 +24,18 @@ abbrev μ-loop : tie.MeasureT-loop
 abbrev claims : tie.At-loop Inv-loop μ-loop → List Claim
 claims s = take (s .before .args .count) (s .before .args .t1)
 
+-- the loop's head, from where the claim in the middle is compared
+abbrev turn : tie.After-precedes Inv-loop μ-loop → tie.At-loop Inv-loop μ-loop
+turn c = c .before .before .before
+
 -- what the comparison says of the claim in the middle
 compared : (c : tie.After-precedes Inv-loop μ-loop)
-    → let s = c .before .before .before in
+    → let s = turn c in
     before (getD (claims s) (s .loop .base + s .loop .size / 2) noClaim) (s .before .args .claim) ≡ c .precedes .result
 compared c =
-    let s = c .before .before .before in
-    ap (λ (x : Claim). before x (s .before .args .claim)) (getD-take (s .before .args .count) (s .before .args .t1) (s .loop .base + s .loop .size / 2) noClaim (omega arith))
+    let s = turn c in
+    let a = s .before .args in
+    ap (λ (x : Claim). before x (a .claim)) (getD-take (a .count) (a .t1) (s .loop .base + s .loop .size / 2) noClaim (omega arith))
     ∙ sym (c .precedes .ensures)
 
 loop-holds : tie.Need-loop-holds Inv-loop μ-loop
@@ -62,7 +67,7 @@ loop-less c = search needs
 
 loop-again : tie.Need-loop-again Inv-loop μ-loop
 loop-again c =
-    let s = c .before .before .before .before in
+    let s = turn (c .before) in
     (omega arith, s .loop .inv .1 ∙ halvedTo-up (claims s) (s .before .args .claim) (s .loop .base) (s .loop .size) (omega arith) (compared (c .before) ∙ c .if1 .taken))
 
 loop-less-2 : tie.Need-loop-less-2 Inv-loop μ-loop
@@ -70,7 +75,7 @@ loop-less-2 c = search needs
 
 loop-again-2 : tie.Need-loop-again-2 Inv-loop μ-loop
 loop-again-2 c =
-    let s = c .before .before .before .before in
+    let s = turn (c .before) in
     (omega arith, s .loop .inv .1 ∙ halvedTo-down (claims s) (s .before .args .claim) (s .loop .base) (s .loop .size) (omega arith) (compared (c .before) ∙ c .if1 .left))
 
 returns : tie.Need-returns Inv-loop μ-loop

@@ -5,7 +5,7 @@ use Rattle.nodes.proofs.taking.stands.Statement.{statement}
 use Rattle.nodes.proofs.taking.stands.Tie as tie
 
 returns : tie.Need-returns
-returns c = isAt-past (c .before .args .t1) (c .before .args .count) (c .before .args .at) (c .before .args .claim) (search needs) (c .if1 .taken)
+returns c = let a = c .before .args in isAt-past (a .t1) (a .count) (a .at) (a .claim) (search needs) (c .if1 .taken)
 
 mul-precedes : tie.Need-mul-precedes
 mul-precedes c = search needs
@@ -17,7 +17,10 @@ precedes-requires : tie.Need-precedes-requires
 precedes-requires c κs = search needs
 
 returns-2 : tie.Need-returns-2
-returns-2 c = isAt-before (c .before .before .before .args .t1) (c .before .before .before .args .count) (c .before .before .before .args .at) (c .before .before .before .args .claim) (search needs) (c .before .before .if1 .left) (c .precedes .result) (c .precedes .ensures)
+returns-2 c =
+    let below = c .before .before in
+    let a = below .before .args in
+    isAt-before (a .t1) (a .count) (a .at) (a .claim) (search needs) (below .if1 .left) _ (c .precedes .ensures)
 
 pub stands-spec : {M : Type 1} → statement M
 stands-spec =

@@ -1,7 +1,6 @@
 -- `transcript::flat::round_words` meets its contract. Assumes nothing.
 use borrow.Author.Needs.{needs}
-use denote.Ref.{now}
-use Rattle.transcript.proofs.Meeting.{round-refused, round-met}
+use Rattle.transcript.proofs.FlatPaths.{met-not, words-not, met-round, words-round}
 use Rattle.transcript.proofs.flat.round_words.Statement.{statement}
 use Rattle.transcript.proofs.flat.round_words.Tie as tie
 
@@ -9,9 +8,7 @@ ask-requires : tie.Need-ask-requires
 ask-requires c κs = search needs
 
 returns : tie.Need-returns
-returns c =
-    let s = c .before .before .before .before .before .before .before .before .before in
-    round-refused (s .args .left) (s .args .right) (search needs) (search needs) (now (s .args .words)) (c .before .ask .result) (c .before .ask .ensures) (c .if1 .taken)
+returns c = search (needs, met-not, words-not)
 
 both-halves-requires : tie.Need-both-halves-requires
 both-halves-requires c κs = search needs
@@ -20,10 +17,7 @@ same-length : tie.Need-same-length
 same-length c = search needs
 
 returns-2 : tie.Need-returns-2
-returns-2 c =
-    let s = c .before .before .before .before .before .before .before .before .before .before .before .before .before .before .before in
-    round-met (s .args .left) (s .args .right) (search needs) (search needs) (now (s .args .words)) (c .before .before .before .before .before .before .before .ask .result) (c .before .before .before .before .before .before .before .ask .ensures) (c .before .before .before .before .before .before .if1 .left)
-    (c .before .before .both-halves .result) (c .before .before .both-halves .last .0) (c .before .before .both-halves .last .1 .1 .0) (c .before .before .both-halves .last .1 .1 .1 .1 .0) (c .before .before .both-halves .ensures)
+returns-2 c = search (needs, met-round, words-round)
 
 pub round-words-spec : {M : Type 1} → statement M
 round-words-spec =

@@ -1,16 +1,14 @@
 -- `transcript::flat::union_count` meets its contract. The invariant: the keys counted and those of the union of what is left are those of the union.
 -- Assumes nothing.
-use mathlib.Core.Logic.{inl, inr, ⊎-elim}
+use mathlib.Core.Logic.{⊎-elim}
 use mathlib.Core.Path.{_≡_}
-use Prim.Native.Nat.{_≤_, _<_, _+_, _-_}
+use Prim.Native.Nat.{_≤_, _+_, _-_}
 use native.Mathlib.Omega.{arith}
 use borrow.Author.Needs.{needs}
-use borrow.Author.Tests.{ltb-true, ltb-false}
 use denote.Ref.{now}
 use lib.ListN.{length, drop}
-use Rattle.keys.proofs.Rising.{rising-true}
 use Rattle.rule.specs.Round.{union}
-use Rattle.transcript.proofs.UnionCount.{count-less, count-more, count-both, count-end}
+use Rattle.transcript.proofs.UnionCount.{Passed, count-less, count-more, count-both, count-end-left, count-end-right}
 use Rattle.transcript.proofs.flat.union_count.Statement.{statement}
 use Rattle.transcript.proofs.flat.union_count.Tie as tie
 use Rattle.transcript.proofs.flat.union_count.Reads as reads
@@ -23,28 +21,18 @@ Inv-loop left right i₀ j₀ n₀ i j n =
 abbrev μ-loop : tie.MeasureT-loop
 μ-loop left right i₀ j₀ n₀ i j n = length left - i + (length right - j)
 
+-- the loop's head before a turn
+abbrev turn-of : tie.Joined2 Inv-loop μ-loop → tie.At-loop Inv-loop μ-loop
+turn-of c = c .before .before .before .before .before
+
 -- a turn: the keys are equal, or one is less
-moved : (c : tie.Joined2 Inv-loop μ-loop) → let s = c .before .before .before .before .before in
-    (c .if2 .i ≤ length (now (s .before .args .left))) × (c .if2 .j ≤ length (now (s .before .args .right))) × (s .loop .i + s .loop .j + 1 ≤ c .if2 .i + c .if2 .j)
-    × (s .loop .n + 1 + length (union (drop (c .if2 .i) (now (s .before .args .left))) (drop (c .if2 .j) (now (s .before .args .right)))) ≡ length (union (now (s .before .args .left)) (now (s .before .args .right))))
+moved : (c : tie.Joined2 Inv-loop μ-loop) → let s = turn-of c in
+    Passed (now (s .before .args .left)) (now (s .before .args .right)) (s .loop .i) (s .loop .j) (s .loop .n) (c .if2 .i) (c .if2 .j)
 moved c =
-    let t = c .before .before .before in
-    let s = t .before .before in
-    let l = now (s .before .args .left) in
-    let m = now (s .before .args .right) in
-    let rl = rising-true l (s .before .pre .0) in
-    let rm = rising-true m (s .before .pre .1) in
-    let h = t .before .loop-test .taken in
-    let g : s .loop .j < length m = ltb-true (s .loop .j) (length m) (t .if1 .taken) in
-    ⊎-elim
-    (λ w. rw (w .1, w .2) (omega arith, omega arith, omega arith, count-both l m rl rm (s .loop .i) (s .loop .j) (s .loop .n) (s .loop .inv .3) h g (w .0 .taken)))
-    (⊎-elim
-    (λ w. rw (w .2, w .3) (omega arith, omega arith, omega arith, count-less l m rl rm (s .loop .i) (s .loop .j) (s .loop .n) (s .loop .inv .3) h g (w .1 .taken)))
-    (λ w. rw (w .2, w .3) (omega arith, omega arith, omega arith, count-more l m rl rm (s .loop .i) (s .loop .j) (s .loop .n) (s .loop .inv .3) h g (let p = w .0 .left in let q = w .1 .left in omega arith))))
-    (c .if2 .came)
+    ⊎-elim (λ w. search (needs, count-both)) (⊎-elim (λ w. search (needs, count-less)) (λ w. search (needs, count-more))) (c .if2 .came)
 
 loop-holds : tie.Need-loop-holds Inv-loop μ-loop
-loop-holds c = (omega arith, omega arith, omega arith, omega arith)
+loop-holds c = search needs
 
 mul-a : tie.Need-mul-a Inv-loop μ-loop
 mul-a c = search needs
@@ -74,16 +62,10 @@ add-n : tie.Need-add-n Inv-loop μ-loop
 add-n c = search needs
 
 loop-less : tie.Need-loop-less Inv-loop μ-loop
-loop-less c =
-    let t = moved c in
-    let h = c .before .before .before .before .loop-test .taken in
-    omega arith
+loop-less c = let t = moved c in omega (arith, t .left-in, t .right-in, t .on)
 
 loop-again : tie.Need-loop-again Inv-loop μ-loop
-loop-again c =
-    let t = moved c in
-    let n = c .before .before .before .before .before .loop .inv .2 in
-    (t .0, t .1, omega arith, t .3)
+loop-again c = let t = moved c in (t .left-in, t .right-in, omega (arith, t .on, turn-of c .loop .inv .2), t .counted)
 
 sub-result : tie.Need-sub-result Inv-loop μ-loop
 sub-result c = search needs
@@ -98,12 +80,7 @@ add-result-2 : tie.Need-add-result-2 Inv-loop μ-loop
 add-result-2 c = search needs
 
 returns : tie.Need-returns Inv-loop μ-loop
-returns c =
-    let s = c .before in
-    let l = now (s .before .args .left) in
-    let m = now (s .before .args .right) in
-    count-end l m (rising-true l (s .before .pre .0)) (rising-true m (s .before .pre .1)) (s .loop .i) (s .loop .j) (s .loop .n) (s .loop .inv .3)
-    (⊎-elim (λ w. inr (ltb-false (s .loop .j) (length m) (w .1 .left))) (λ w. inl (w .left)) (c .loop-test .came))
+returns c = ⊎-elim (λ w. search (needs, count-end-right)) (λ w. search (needs, count-end-left)) (c .loop-test .came)
 
 pub union-count-spec : {M : Type 1} → statement M
 union-count-spec =

@@ -1,7 +1,6 @@
 -- `transcript::record::claim_in` meets its contract. Assumes nothing.
 use borrow.Author.Needs.{needs}
-use denote.Ref.{now}
-use Rattle.transcript.proofs.Records.{claimIn-some, claimIn-none}
+use Rattle.transcript.proofs.RecordPaths.{claimIn-some, claimIn-none}
 use Rattle.transcript.proofs.record.claim_in.Statement.{statement}
 use Rattle.transcript.proofs.record.claim_in.Tie as tie
 
@@ -48,10 +47,10 @@ cast-t24 : tie.Need-cast-t24
 cast-t24 c = search needs
 
 returns : tie.Need-returns
-returns c = claimIn-some (now (c .before .before .before .before .before .args .words)) (c .before .before .before .before .before .args .at) (c .before .before .before .before .if1 .taken)
+returns c = search (needs, claimIn-some)
 
 returns-2 : tie.Need-returns-2
-returns-2 c = claimIn-none (now (c .before .args .words)) (c .before .args .at) (c .if1 .left)
+returns-2 c = search (needs, claimIn-none)
 
 pub claim-in-spec : {M : Type 1} → statement M
 claim-in-spec =

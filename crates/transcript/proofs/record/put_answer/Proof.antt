@@ -1,8 +1,6 @@
 -- `transcript::record::put_answer` meets its contract. Assumes nothing.
-use mathlib.Core.Path.{refl}
 use borrow.Author.Needs.{needs}
-use denote.Ref.{now}
-use Rattle.transcript.proofs.Records.{put-two}
+use Rattle.transcript.proofs.RecordPaths.{put-ask, put-one, put-two, put-match, put-refused}
 use Rattle.transcript.proofs.record.put_answer.Statement.{statement}
 use Rattle.transcript.proofs.record.put_answer.Tie as tie
 
@@ -37,30 +35,25 @@ same-length : tie.Need-same-length
 same-length c = search needs
 
 returns : tie.Need-returns
-returns c = rw (c .before .before .before .before .before .answer .given .1) (c .before .before .put-record .ensures)
+returns c = search (needs, put-ask)
 
 same-length-2 : tie.Need-same-length-2
 same-length-2 c = search needs
 
 returns-2 : tie.Need-returns-2
-returns-2 c = rw (c .before .before .before .before .before .answer2 .given .1) (c .before .before .put-record2 .ensures)
+returns-2 c = search (needs, put-one)
 
 same-length-3 : tie.Need-same-length-3
 same-length-3 c = search needs
 
 returns-3 : tie.Need-returns-3
-returns-3 c =
-    let s = c .before .before .before .before .before .before .before .before .before .before .before .before in
-    let answer = c .before .before .before .before .before .before .before .before .before .answer3 .given in
-    rw (answer .1)
-    (put-two (now (s .args .words)) (s .args .at) (s .args .sender) (answer .0 .0) (answer .0 .1 .0) (c .before .before .before .before .before .before .put-record3 .result) (c .before .before .put-record4 .result)
-    (c .before .before .before .before .before .before .put-record3 .last .0) (c .before .before .put-record4 .last .0) (c .before .before .before .before .before .before .put-record3 .ensures) (c .before .before .put-record4 .ensures))
+returns-3 c = search (needs, put-two)
 
 returns-4 : tie.Need-returns-4
-returns-4 c = rw (c .enum-told .given .1) (refl, refl)
+returns-4 c = search (needs, put-match)
 
 returns-5 : tie.Need-returns-5
-returns-5 c = rw (c .enum-told2 .given .1) (refl, refl)
+returns-5 c = search (needs, put-refused)
 
 pub put-answer-spec : {M : Type 1} → statement M
 put-answer-spec =

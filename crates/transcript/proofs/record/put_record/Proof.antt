@@ -1,9 +1,8 @@
 -- `transcript::record::put_record` meets its contract. Assumes nothing.
 use native.Mathlib.Omega.{arith}
 use borrow.Author.Needs.{needs}
-use denote.Ref.{now}
 use lib.ListN.{length-set}
-use Rattle.transcript.proofs.Records.{next-some, next-none, putRecord-some, putRecord-none}
+use Rattle.transcript.proofs.RecordPaths.{put-some, put-past}
 use Rattle.transcript.proofs.record.put_record.Statement.{statement}
 use Rattle.transcript.proofs.record.put_record.Tie as tie
 
@@ -62,16 +61,10 @@ same-length : tie.Need-same-length
 same-length c = search needs
 
 returns : tie.Need-returns
-returns c =
-    let s = c .before .before in
-    let words = now (s .args .words) in
-    (next-some words (s .args .at) (c .before .if1 .taken), putRecord-some words (s .args .at) (s .args .sender) (s .args .claim) (c .before .if1 .taken))
+returns c = search (needs, put-some)
 
 returns-2 : tie.Need-returns-2
-returns-2 c =
-    let s = c .before in
-    let words = now (s .args .words) in
-    (next-none words (s .args .at) (c .if1 .left), putRecord-none words (s .args .at) (s .args .sender) (s .args .claim) (c .if1 .left))
+returns-2 c = search (needs, put-past)
 
 pub put-record-spec : {M : Type 1} → statement M
 put-record-spec =

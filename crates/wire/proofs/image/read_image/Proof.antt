@@ -1,25 +1,23 @@
 -- `image::read_image` meets its contract: one law for each way. Assumes nothing.
 use mathlib.Core.Path.{_≡_, sym, _∙_}
 use borrow.Author.Needs.{needs}
-use borrow.Author.Tests.{not-true, not-false}
 use lib.ListN.{length}
+use lib.Seq.{length-take-le}
 use Rattle.keys.specs.Store.{limit}
-use Rattle.wire.proofs.LentLaws.{readIn-fresh, readIn-refused, readImage-1, readImage-lent}
+use Rattle.wire.proofs.LentLaws.{readIn-fresh, readIn-few, readIn-refused, readImage-1, readImage-lent}
 use Rattle.wire.proofs.image.read_image.Statement.{statement}
 use Rattle.wire.proofs.image.read_image.Tie as tie
 
--- the image is taken, was read, and into the places of the empty store
-abbrev taken : tie.After-ordered-lent → tie.Else1
-taken c = c .before .before .before .before .before
+-- the image was read, into the places of the empty store
+abbrev read : tie.Else1 → tie.After-read-image-in
+read c = c .before .before
 
-abbrev read : tie.After-ordered-lent → tie.After-read-image-in
-read c = taken c .before .before
+abbrev fresh : tie.After-read-image-in → tie.After-empty
+fresh c = c .before .before
 
-abbrev fresh : tie.After-ordered-lent → tie.After-empty
-fresh c = read c .before .before
-
-long : (c : tie.After-ordered-lent) → length (read c .read-image-in .last .1 .0) ≡ limit
-long c = search needs
+-- the image is taken, from where its order is tested
+abbrev taken : tie.After-front-in → tie.Else1
+taken c = c .before .before .before .before .before .before
 
 empty-requires : tie.Need-empty-requires
 empty-requires c κs = search needs
@@ -35,8 +33,18 @@ returns c =
     let read = c .before .before .before in
     c .refused .ensures ∙ readIn-refused _ (read .read-image-in .ensures .0) (c .before .if1 .taken)
 
-ordered-lent-requires : tie.Need-ordered-lent-requires
-ordered-lent-requires c κs = search needs
+slice-aggregate-front-in : tie.Need-slice-aggregate-front-in
+slice-aggregate-front-in c =
+    let places = c .before .before in
+    let e = places .before .before .before in
+    let r = read e in
+    let k = readIn-fresh _ (fresh r .empty .ensures .0) (r .read-image-in .ensures .1) in
+    let few = readIn-few _ (r .read-image-in .ensures .0) (e .if1 .left) k .0 in
+    let long : length (r .read-image-in .last .1 .0) ≡ limit = search needs in
+    sym (length-take-le _ _ (rw long few))
+
+front-in-requires : tie.Need-front-in-requires
+front-in-requires c κs = search needs
 
 refused-requires-2 : tie.Need-refused-requires-2
 refused-requires-2 c κs = search needs
@@ -44,16 +52,16 @@ refused-requires-2 c κs = search needs
 returns-2 : tie.Need-returns-2
 returns-2 c =
     let tested = c .before .before in
-    let (rest, keys) = read tested .read-image-in .ensures in
-    let lost = sym (tested .ordered-lent .ensures) ∙ not-true _ (c .before .if2 .taken) in
-    c .refused2 .ensures ∙ readImage-1 _ rest (taken tested .if1 .left) (readIn-fresh _ (fresh tested .empty .ensures .0) keys) (long tested) lost
+    let r = read (taken tested) in
+    let k = readIn-fresh _ (fresh r .empty .ensures .0) (r .read-image-in .ensures .1) in
+    c .refused2 .ensures ∙ readImage-1 _ (r .read-image-in .ensures .0) (taken tested .if1 .left) k _ (tested .front-in .ensures) (c .before .if2 .taken)
 
 returns-3 : tie.Need-returns-3
 returns-3 c =
     let tested = c .before in
-    let (rest, keys) = read tested .read-image-in .ensures in
-    let kept = sym (tested .ordered-lent .ensures) ∙ not-false _ (c .if2 .left) in
-    readImage-lent _ rest (taken tested .if1 .left) (readIn-fresh _ (fresh tested .empty .ensures .0) keys) (long tested) kept
+    let r = read (taken tested) in
+    let k = readIn-fresh _ (fresh r .empty .ensures .0) (r .read-image-in .ensures .1) in
+    readImage-lent _ (r .read-image-in .ensures .0) (taken tested .if1 .left) k _ (tested .front-in .ensures) (c .if2 .left)
 
 pub read-image-spec : {M : Type 1} → statement M
 read-image-spec =
@@ -63,7 +71,8 @@ read-image-spec =
     read-image-in-requires
     refused-requires
     returns
-    ordered-lent-requires
+    slice-aggregate-front-in
+    front-in-requires
     refused-requires-2
     returns-2
     returns-3)

@@ -1,0 +1,247 @@
+-- The beat (src/beats.rt): one law for each way that the code goes, over the definitions of specs/Lent. What these mean is in LentLaws. In order:
+-- `write_claim`, `write_answer`, the loop of `serve_table`, `write_whole`, `beat_in`, `beat`. Assumes nothing.
+use mathlib.Core.Path.{_≡_, refl, sym, _∙_, ap}
+use mathlib.Core.Bool.{Bool, true, false, cond, not}
+use mathlib.Core.List.{List, [], _∷_, _++_}
+use Prim.Native.Nat.{ℕ, zero, suc, _+_, _*_, _-_, _/_, _≤_, _<_}
+use native.Mathlib.Nat.{sub-zero, zero-sub, suc-sub-suc, add-zero}
+use native.Mathlib.Numerals.{add-one}
+use native.Mathlib.Omega.{arith}
+use borrow.Author.Tests.{le-leb, lt-leb, eq-eqb, ne-eqb, not-true, not-false}
+use lib.ListN.{length, take, drop, getD, set, length-append, length-take, drop-of-length-le}
+use lib.Seq.{sets, length-sets, drop-cons, length-take-le, getD-take}
+use Rattle.keys.specs.declared.store.Store.{Store}
+use Rattle.keys.specs.Store.{limit}
+use Rattle.keys.specs.Lent.{storeWith}
+use Rattle.claims.specs.declared.claim.Claim.{Claim}
+use Rattle.claims.specs.declared.answer.Answer.{Answer}
+use Rattle.claims.specs.declared.answer.Made.{Made}
+use Rattle.claims.specs.Claim.{noClaim}
+use Rattle.claims.specs.Reply.{claimsOf}
+use Rattle.claims.specs.Lent.{makeIn, answerIn}
+use Rattle.rule.specs.declared.node.Node.{Node}
+use Rattle.rule.specs.declared.answer.Beaten.{Beaten}
+use Rattle.rule.specs.Table.{tableLimit, beatLimit, remains, Served}
+use Rattle.rule.specs.Node.{blanks, nodeInOrder}
+use Rattle.rule.specs.Call.{claimWords, beaten, beatenLent}
+use Rattle.rule.proofs.TableLaws.{length-claimsOf}
+use Rattle.rule.proofs.NodeLaws.{length-blanks, nodeInOrder-ordered}
+use Rattle.rule.proofs.Words.{length-claimWords}
+use Rattle.nodes.specs.Lent.{nodeWith}
+use Rattle.beats.specs.declared.beats.Kept.{Kept}
+use Rattle.beats.specs.Lent.{serveIn, wholeIn, sendingIn, claimSize, wroteAt, Wrote, keptWith, ServedAt}
+use Rattle.beats.specs.Lent.{beatenWith, unbeaten, beatIn, beatInLent, BeatsIn}
+use Rattle.beats.proofs.LentLaws.{sets-writtenOver, wroteAt-append, length-wholeIn, length-sendingIn, length-keptIn}
+use Rattle.beats.proofs.LentLaws.{beatIn-beaten, beatInLent-beatenLent}
+
+-- ---- `write_claim`
+
+pub wrote-claim : (lent : List ℕ) (i : ℕ) (c : Claim)
+    → set (set (set (set lent i (c .lo)) (i + 1) (c .hi)) (i + 2) (c .sum)) (i + 3) (c .cnt) ≡ sets lent i (claimWords (c ∷ []))
+wrote-claim lent i c =
+    let two : i + 2 ≡ suc (suc i) = omega arith in
+    let three : i + 3 ≡ suc (suc (suc i)) = omega arith in
+    rw (add-one i, two, three)
+
+-- ---- `write_answer`
+
+-- by what the answer is found to be
+module _ (a b : Answer) (is : a ≡ b) (at : ℕ) (lent : List ℕ) where
+  pub wrote-none : claimsOf b ≡ [] → Wrote at (claimsOf a) lent at lent
+  wrote-none e = rw (is, e) (record { place = sym (add-zero at); words = refl })
+
+  pub wrote-one : (c : Claim) → claimsOf b ≡ c ∷ [] → (after : List ℕ) → after ≡ wroteAt at (c ∷ []) lent → Wrote at (claimsOf a) lent (at + 1) after
+  wrote-one c e after f = rw (is, e) (record { place = refl; words = f })
+
+  pub wrote-two : (c d : Claim) → claimsOf b ≡ c ∷ d ∷ [] → (half after : List ℕ)
+      → half ≡ wroteAt at (c ∷ []) lent → after ≡ wroteAt (at + 1) (d ∷ []) half → Wrote at (claimsOf a) lent (at + 2) after
+  wrote-two c d e half after f g =
+      rw (is, e) (record { place = refl; words = g ∙ (ap (λ (l : List ℕ). wroteAt (at + 1) (d ∷ []) l) f ∙ sym (wroteAt-append at (c ∷ []) (d ∷ []) lent)) })
+
+-- ---- `serve_table`
+
+-- a table written over blanks
+
+drop-blanks : (k n : ℕ) → drop k (blanks n) ≡ blanks (n - k)
+unfolding blanks
+drop-blanks zero n = rw sub-zero
+drop-blanks (suc k) zero = rw zero-sub
+drop-blanks (suc k) (suc n) = rw suc-sub-suc (drop-blanks k n)
+
+sets-blanks : (t : List Claim) → length t ≤ tableLimit → sets (blanks tableLimit) 0 t ≡ t ++ blanks (tableLimit - length t)
+sets-blanks t h =
+    sets-writtenOver (blanks tableLimit) t (omega (arith, length-blanks tableLimit))
+    ∙ ap (λ (l : List Claim). t ++ l) (drop-blanks (length t) tableLimit)
+
+-- A store serves the first `pending` claims of a table, and writes what is sent from the place `at` on.
+module _ (s : Store) (table : List Claim) (pending at : ℕ) (lent₀ : List ℕ) where
+  -- the claims that are left from i on, served
+  abbrev rest : ℕ → Served
+  rest i = serveIn s (drop i (take pending table))
+
+  -- Before claim i, with n claims kept and the place `next` to write to: what is left computes what comes out, and there are words for it.
+  pub record Left (i next : ℕ) (lent : List ℕ) (n : ℕ) (kept : List Claim) : Type 0 where
+    pub passed : i ≤ pending
+    pub few : n ≤ i
+    pub long : length lent ≡ length lent₀
+    pub room : claimSize * (next + 2 * (pending - i)) ≤ length lent
+    pub words : wroteAt next (rest i .sent) lent ≡ wroteAt at (rest 0 .sent) lent₀
+    pub written : next + length (rest i .sent) ≡ at + length (rest 0 .sent)
+    pub places : sets kept n (rest i .kept) ≡ sets (blanks tableLimit) 0 (rest 0 .kept)
+    pub stayed : n + length (rest i .kept) ≡ length (rest 0 .kept)
+
+  pub left-all : claimSize * (at + 2 * pending) ≤ length lent₀ → Left 0 at lent₀ 0 (blanks tableLimit)
+  left-all h = record {
+    passed = omega arith;
+    few = omega arith;
+    long = refl;
+    room = omega arith;
+    words = refl;
+    written = refl;
+    places = refl;
+    stayed = omega arith;
+  }
+
+  module _ (full : length table ≡ tableLimit) (small : pending ≤ tableLimit) {i next : ℕ} {lent : List ℕ} {n : ℕ} {kept : List Claim}
+      (left : Left i next lent n kept) where
+    all : length (take pending table) ≡ pending
+    all = length-take-le pending table (omega arith)
+
+    -- a turn: claim i gets its answer, whose claims are written
+    module _ (inside : i < pending) {a : Answer} (answered : a ≡ answerIn s (getD table i noClaim)) {next′ : ℕ} {lent′ : List ℕ}
+        (wrote : Wrote next (claimsOf a) lent next′ lent′) where
+      abbrev c : Claim
+      c = getD table i noClaim
+
+      more : rest i ≡ record {
+        sent = claimsOf a ++ rest (i + 1) .sent;
+        kept = cond (remains a) (c ∷ rest (i + 1) .kept) (rest (i + 1) .kept);
+      }
+      more =
+          let got : getD (take pending table) i noClaim ≡ c = getD-take pending table i noClaim inside in
+          let e : drop i (take pending table) ≡ c ∷ drop (i + 1) (take pending table)
+          = rw (add-one i, ← got) (drop-cons (take pending table) i noClaim (omega (arith, all))) in
+          rw (e, answered)
+
+      sent-is : rest i .sent ≡ claimsOf a ++ rest (i + 1) .sent
+      sent-is = ap (λ (x : Served). x .sent) more
+
+      -- whichever way claim i goes
+      on : {n′ : ℕ} {kept′ : List Claim} → n′ ≤ i + 1 → sets kept′ n′ (rest (i + 1) .kept) ≡ sets kept n (rest i .kept)
+          → n′ + length (rest (i + 1) .kept) ≡ n + length (rest i .kept) → Left (i + 1) next′ lent′ n′ kept′
+      on m t k =
+          let same : length lent′ ≡ length lent = ap length (wrote .words) ∙ length-sets lent (claimSize * next) (claimWords (claimsOf a)) in
+          let two : length (claimsOf a) ≤ 2 = length-claimsOf a in
+          let place = wrote .place in
+          record {
+            passed = omega arith;
+            few = m;
+            long = same ∙ left .long;
+            room = omega (arith, left .room);
+            words = rw (wrote .place, wrote .words)
+                (sym (wroteAt-append next (claimsOf a) (rest (i + 1) .sent) lent)
+                ∙ (ap (λ (cs : List Claim). wroteAt next cs lent) (sym sent-is)
+                ∙ left .words));
+            written = omega (arith, left .written, ap length sent-is, length-append (claimsOf a) (rest (i + 1) .sent));
+            places = t ∙ left .places;
+            stayed = k ∙ left .stayed;
+          }
+
+      module _ {stays : Bool} (told : stays ≡ remains a) where
+        kept-is : {t : Bool} → stays ≡ t → rest i .kept ≡ cond t (c ∷ rest (i + 1) .kept) (rest (i + 1) .kept)
+        kept-is e = ap (λ (x : Served). x .kept) more ∙ ap (λ (b : Bool). cond b (c ∷ rest (i + 1) .kept) (rest (i + 1) .kept)) (sym told ∙ e)
+
+        pub left-stays : stays ≡ true → Left (i + 1) next′ lent′ (n + 1) (set kept n c)
+        left-stays e =
+            let k = kept-is e in
+            on (omega (arith, left .few)) (rw (add-one n) (ap (λ (l : List Claim). sets kept n l) (sym k))) (omega (arith, ap length k))
+
+        pub left-leaves : stays ≡ false → Left (i + 1) next′ lent′ n kept
+        left-leaves e =
+            let k = kept-is e in
+            on (omega (arith, left .few)) (ap (λ (l : List Claim). sets kept n l) (sym k)) (omega (arith, ap length k))
+
+    -- the end
+    pub left-none : pending ≤ i → ServedAt at (serveIn s (take pending table)) lent₀ (record { number = 0; table = kept; count = n; written = next }) lent
+    unfolding keptWith
+    left-none h =
+        let past : length (take pending table) ≤ i = omega (arith, all) in
+        let none : drop i (take pending table) ≡ [] = drop-of-length-le (take pending table) past in
+        let places : kept ≡ rest 0 .kept ++ blanks (tableLimit - length (rest 0 .kept))
+        = (rw none at (left .places)) ∙ sets-blanks (rest 0 .kept) (omega (arith, length-keptIn s (take pending table), all)) in
+        let count-is : n ≡ length (rest 0 .kept) = omega (arith, rw none at (left .stayed)) in
+        let written-is : next ≡ at + length (rest 0 .sent) = omega (arith, rw none at (left .written)) in
+        record { result = λ j. record { number = 0; table = places j; count = count-is j; written = written-is j }; words = rw none at (left .words) }
+
+-- ---- `write_whole`
+
+module _ (keys : List ℕ) (count : ℕ) (lent : List ℕ) where
+  pub whole-none : count ≡ 0 → Wrote 0 (wholeIn (storeWith keys count)) lent 0 lent
+  unfolding wholeIn
+  whole-none e = rw (eq-eqb count 0 e) (record { place = refl; words = refl })
+
+  pub whole-one : (count ≡ 0 → ⊥) → (made : Made) → made ≡ makeIn (storeWith keys count) 0 (count - 1)
+      → (after : List ℕ) → after ≡ wroteAt 0 (made .claim ∷ []) lent → Wrote 0 (wholeIn (storeWith keys count)) lent 1 after
+  unfolding wholeIn
+  whole-one f made e after g = rw (ne-eqb count 0 f, ← e) (record { place = refl; words = g })
+
+-- ---- `beat_in`
+
+module _ (keys : List ℕ) (held : ℕ) (table : List Claim) (count : ℕ) (lent : List ℕ) where
+  -- the node that beats
+  abbrev node : Node
+  node = nodeWith keys held table count
+
+  pub beat-many : tableLimit < count → BeatsIn node lent (unbeaten node 1) lent
+  unfolding beatIn beatInLent
+  beat-many h = record { result = rw (lt-leb count tableLimit h); words = rw (lt-leb count tableLimit h) }
+
+  pub beat-short : count ≤ tableLimit → length lent / claimSize < beatLimit → BeatsIn node lent (unbeaten node 15) lent
+  unfolding beatIn beatInLent
+  beat-short h g = record {
+    result = rw (le-leb count tableLimit h, lt-leb beatLimit (length lent / claimSize) g);
+    words = rw (le-leb count tableLimit h, lt-leb beatLimit (length lent / claimSize) g);
+  }
+
+  module _ (h : count ≤ tableLimit) (g : beatLimit ≤ length lent / claimSize) {at : ℕ} {half : List ℕ}
+      (whole : Wrote 0 (wholeIn (storeWith keys held)) lent at half) where
+    abbrev s : Store
+    s = storeWith keys held
+
+    abbrev served : Served
+    served = serveIn s (take count table)
+
+    -- there are words for the table, after the whole claim
+    pub beat-room : claimSize * (at + 2 * count) ≤ length half
+    beat-room =
+        let same : length half ≡ length lent = ap length (whole .words) ∙ length-sets lent (claimSize * 0) (claimWords (wholeIn s)) in
+        omega (arith, whole .place, length-wholeIn s)
+
+    fits : length (claimWords (sendingIn s (take count table))) ≤ length lent
+    fits = omega (arith, length-claimWords (sendingIn s (take count table)), length-sendingIn s (take count table), length-take count table)
+
+    pub beat-done : {kept : Kept} {after : List ℕ} → ServedAt at served half kept after → BeatsIn node lent (beatenWith keys held kept) after
+    unfolding beatIn beatInLent
+    beat-done {kept} {after} done =
+        let place : at ≡ length (wholeIn s) = omega (arith, whole .place) in
+        let joined : wroteAt at (served .sent) half ≡ wroteAt 0 (sendingIn s (take count table)) lent
+        = rw (whole .place, whole .words) (sym (wroteAt-append 0 (wholeIn s) (served .sent) lent)) in
+        let kept-is : kept ≡ keptWith (length (wholeIn s)) served = done .result ∙ ap (λ (m : ℕ). keptWith m served) place in
+        record {
+          result = rw (le-leb count tableLimit h, le-leb beatLimit (length lent / claimSize) g) (ap (beatenWith keys held) kept-is);
+          words = rw (le-leb count tableLimit h, le-leb beatLimit (length lent / claimSize) g)
+              (done .words ∙ (joined ∙ sets-writtenOver lent (claimWords (sendingIn s (take count table))) fits));
+        }
+
+-- ---- `beat`
+
+module _ (n : Node) (lent : List ℕ) {ordered : Bool} (told : ordered ≡ nodeInOrder n) where
+  pub beat-1 : not ordered ≡ true → (unbeaten n 1 ≡ beaten n lent) × (lent ≡ beatenLent n lent)
+  unfolding beaten beatenLent
+  beat-1 e = rw (← told, not-true ordered e) (refl, refl)
+
+  pub beat-ordered : not ordered ≡ false → length (n .store .keys) ≡ limit → {r : Beaten} {after : List ℕ} → BeatsIn n lent r after
+      → (r ≡ beaten n lent) × (after ≡ beatenLent n lent)
+  beat-ordered e long beats =
+      let o = nodeInOrder-ordered n (sym told ∙ not-false ordered e) in
+      (beats .result ∙ beatIn-beaten n lent long o, beats .words ∙ beatInLent-beatenLent n lent long o)

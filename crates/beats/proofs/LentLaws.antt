@@ -1,0 +1,173 @@
+-- What the beat of a node whose keys are lent means (specs/Lent): of any content, what a refusal leaves; of a node in order, the rule (Table and Call of
+-- `rule`). In order: claims in lent words; how many claims are sent and kept; the table served by a store in order; the beat. Assumes nothing.
+use mathlib.Core.Path.{_≡_, refl, sym, _∙_, ap, ap₂}
+use mathlib.Core.Bool.{Bool, true, false, cond}
+use mathlib.Core.List.{List, [], _∷_, _++_, List·Memᴰ, List·Memᴰ·head, List·Memᴰ·tail}
+use Prim.Native.Nat.{ℕ, suc, _+_, _*_, _-_, _/_, _≤_}
+use native.Mathlib.Nat.{zero-add, add-zero}
+use native.Mathlib.Omega.{arith}
+use borrow.Author.Tests.{le-leb, lt-ltb, ne-eqb}
+use lib.Dec.{leb, eqb}
+use lib.ListN.{length, drop, set, length-append}
+use lib.Seq.{sets, sets-eq}
+use Rattle.keys.specs.declared.store.Store.{Store}
+use Rattle.keys.specs.Store.{limit, storeOf}
+use Rattle.keys.proofs.Rising.{Rising}
+use Rattle.keys.proofs.Order.{inOrder-count, inOrder-rising, length-keysOf, storeOf-keysOf, count-storeOf}
+use Rattle.claims.specs.declared.claim.Claim.{Claim}
+use Rattle.claims.specs.Claim.{claimOf, wholeClaim}
+use Rattle.claims.specs.Question.{firstNo, settle}
+use Rattle.claims.specs.Reply.{answer, reply, claimsOf}
+use Rattle.claims.specs.Lent.{makeIn, answerIn}
+use Rattle.claims.proofs.QuestionLaws.{passes, judged-firstNo, settle-kept}
+use Rattle.claims.proofs.ReplyLaws.{hear-held}
+use Rattle.claims.proofs.LentLaws.{makeIn-store, answerIn-store}
+use Rattle.rule.specs.declared.node.Node.{Node}
+use Rattle.rule.specs.declared.answer.Beaten.{Beaten}
+use Rattle.rule.specs.Table.{tableLimit, beatLimit, remains, Served, serve, sending}
+use Rattle.rule.specs.Node.{blanks, pendingOf, nodeKeys, nodeOf}
+use Rattle.rule.specs.Call.{writtenOver, claimWords, beaten, beatenLent}
+use Rattle.rule.proofs.TableLaws.{length-claimsOf}
+use Rattle.rule.proofs.NodeLaws.{Fits, Ordered, ordered-nodeInOrder}
+use Rattle.rule.proofs.Words.{length-claimWords, claimWords-append}
+use Rattle.beats.specs.Lent.{serveIn, wholeIn, sendingIn, claimSize, wroteAt, keptWith, unbeaten, beatInQuestions, beatIn, beatInLent}
+
+-- ---- claims in lent words
+
+module _ {A : Type 0} where
+  sets-append : (l : List A) (i : ℕ) (xs ys : List A) → sets l i (xs ++ ys) ≡ sets (sets l i xs) (i + length xs) ys
+  sets-append l i [] ys = ap (λ (n : ℕ). sets l n ys) (sym (add-zero i))
+  sets-append l i (x ∷ xs) ys =
+      let e : suc i + length xs ≡ i + length (x ∷ xs) = omega arith in
+      sets-append (set l i x) (suc i) xs ys ∙ ap (λ (n : ℕ). sets (sets (set l i x) (suc i) xs) n ys) e
+
+  -- from the beginning on, that is what `writtenOver` says
+  pub sets-writtenOver : (l xs : List A) → length xs ≤ length l → sets l 0 xs ≡ writtenOver xs l
+  sets-writtenOver l xs h = sets-eq xs l 0 (omega arith) ∙ ap (λ (n : ℕ). xs ++ drop n l) (zero-add (length xs))
+
+-- claims right after claims
+pub wroteAt-append : (at : ℕ) (cs ds : List Claim) (lent : List ℕ) → wroteAt at (cs ++ ds) lent ≡ wroteAt (at + length cs) ds (wroteAt at cs lent)
+wroteAt-append at cs ds lent =
+    let e : claimSize * at + length (claimWords cs) ≡ claimSize * (at + length cs) = omega (arith, length-claimWords cs) in
+    ap (λ (ws : List ℕ). sets lent (claimSize * at) ws) (claimWords-append cs ds)
+    ∙ (sets-append lent (claimSize * at) (claimWords cs) (claimWords ds)
+    ∙ ap (λ (n : ℕ). sets (wroteAt at cs lent) n (claimWords ds)) e)
+
+-- ---- how many claims are sent and kept
+
+-- at most one whole claim
+pub length-wholeIn : (s : Store) → length (wholeIn s) ≤ 1
+unfolding wholeIn
+length-wholeIn s = go (eqb (s .count) 0)
+  where
+    go : (t : Bool) → length (cond t [] (makeIn s 0 (s .count - 1) .claim ∷ [])) ≤ 1
+    go true = omega arith
+    go false = omega arith
+
+length-sentIn : (s : Store) (t : List Claim) → length (serveIn s t .sent) ≤ 2 * length t
+length-sentIn s [] = omega arith
+length-sentIn s (c ∷ cs) =
+    rw (length-append (claimsOf (answerIn s c)) (serveIn s cs .sent)) (omega (arith, length-claimsOf (answerIn s c), length-sentIn s cs))
+
+pub length-sendingIn : (s : Store) (t : List Claim) → length (sendingIn s t) ≤ 1 + 2 * length t
+length-sendingIn s t = omega (arith, length-append (wholeIn s) (serveIn s t .sent), length-wholeIn s, length-sentIn s t)
+
+pub length-keptIn : (s : Store) (t : List Claim) → length (serveIn s t .kept) ≤ length t
+length-keptIn s [] = omega arith
+length-keptIn s (c ∷ cs) = go (remains (answerIn s c)) (length-keptIn s cs)
+  where
+    go : (b : Bool) → length (serveIn s cs .kept) ≤ length cs → length (cond b (c ∷ serveIn s cs .kept) (serveIn s cs .kept)) ≤ length (c ∷ cs)
+    go true h = omega arith
+    go false h = omega arith
+
+-- ---- the table served by a store in order
+
+wholeIn-store : (l : List ℕ) → length l ≤ limit → wholeIn (storeOf l) ≡ wholeClaim l
+unfolding wholeIn
+wholeIn-store [] h = rw (count-storeOf [])
+wholeIn-store (k ∷ ks) h =
+    let count = count-storeOf (k ∷ ks) in
+    let some : storeOf (k ∷ ks) .count ≡ 0 → ⊥ = λ e. omega arith in
+    let last : storeOf (k ∷ ks) .count - 1 ≡ length ks = omega arith in
+    let made : makeIn (storeOf (k ∷ ks)) 0 (length ks) .claim ≡ claimOf 0 (length ks) (k ∷ ks)
+    = rw (makeIn-store (k ∷ ks) h 0 (length ks), le-leb 0 (length ks) (omega arith), lt-ltb (length ks) (suc (length ks)) (omega arith)) in
+    rw (ne-eqb (storeOf (k ∷ ks) .count) 0 some, last, made)
+
+module _ (l : List ℕ) (rise : Rising l) (short : length l ≤ limit) where
+  -- a claim whose lo and hi are held adds nothing, so its answer is the reply
+  answerIn-reply : (c : Claim) → Fits c l → answerIn (storeOf l) c ≡ reply c l
+  answerIn-reply c f =
+      let held = f .held in
+      let good = passes c (sym (judged-firstNo c) ∙ f .passes) in
+      answerIn-store l short rise c good (held (c .lo) (List·Memᴰ·head refl)) (held (c .hi) (List·Memᴰ·tail (List·Memᴰ·head refl)))
+      ∙ ap (λ (m : List ℕ). answer c m) (sym (hear-held c l rise held))
+
+  serveIn-store : (t : List Claim) → ((c : Claim) → List·Memᴰ c t → Fits c l) → serveIn (storeOf l) t ≡ serve l t
+  serveIn-store [] f = refl
+  serveIn-store (c ∷ cs) f =
+      let a : answerIn (storeOf l) c ≡ reply c l = answerIn-reply c (f c (List·Memᴰ·head refl)) in
+      let r : serveIn (storeOf l) cs ≡ serve l cs = serveIn-store cs (λ d m. f d (List·Memᴰ·tail m)) in
+      λ i. record { sent = claimsOf (a i) ++ r i .sent; kept = cond (remains (a i)) (c ∷ r i .kept) (r i .kept) }
+
+  sendingIn-store : (t : List Claim) → ((c : Claim) → List·Memᴰ c t → Fits c l) → sendingIn (storeOf l) t ≡ sending l t
+  sendingIn-store t f = ap₂ (λ (w : List Claim) (s : Served). w ++ s .sent) (wholeIn-store l short) (serveIn-store t f)
+
+-- ---- the beat, of any content
+
+module _ (n : Node) (lent : List ℕ) where
+  -- refused: the node is what it was ..
+  pub beatIn-kept : (beatIn n lent .number ≡ 0 → ⊥) → beatIn n lent .node ≡ n
+  unfolding beatIn keptWith
+  beatIn-kept = settle-kept (λ (b : Beaten). b .number) (λ (b : Beaten). b .node) _ (unbeaten n) refl (λ x. refl) (firstNo (beatInQuestions n lent))
+
+  -- .. and so are the words
+  pub beatInLent-kept : (beatIn n lent .number ≡ 0 → ⊥) → beatInLent n lent ≡ lent
+  unfolding beatIn beatInLent keptWith
+  beatInLent-kept f = rw (ne-eqb (firstNo (beatInQuestions n lent)) 0 (λ z. f (rw z)))
+
+-- ---- the beat of a node in order
+
+module _ (n : Node) (lent : List ℕ) (long : length (n .store .keys) ≡ limit) (o : Ordered n) where
+  -- its keys
+  abbrev l : List ℕ
+  l = nodeKeys n
+
+  store-is : n .store ≡ storeOf l
+  store-is = storeOf-keysOf (n .store) long (o .store)
+
+  short : length l ≤ limit
+  short = omega (arith, length-keysOf (n .store) long (o .store), inOrder-count (n .store) (o .store))
+
+  rise : Rising l
+  rise = inOrder-rising (n .store) (o .store)
+
+  served-is : serveIn (n .store) (pendingOf n) ≡ serve l (pendingOf n)
+  served-is = ap (λ (s : Store). serveIn s (pendingOf n)) store-is ∙ serveIn-store l rise short (pendingOf n) (o .fit)
+
+  sent-is : sendingIn (n .store) (pendingOf n) ≡ sending l (pendingOf n)
+  sent-is = ap (λ (s : Store). sendingIn s (pendingOf n)) store-is ∙ sendingIn-store l rise short (pendingOf n) (o .fit)
+
+  written-is : length (wholeIn (n .store)) + length (serveIn (n .store) (pendingOf n) .sent) ≡ length (sending l (pendingOf n))
+  written-is = sym (length-append (wholeIn (n .store)) (serveIn (n .store) (pendingOf n) .sent)) ∙ ap length sent-is
+
+  pub beatIn-beaten : beatIn n lent ≡ beaten n lent
+  unfolding beatIn keptWith beaten nodeOf
+  beatIn-beaten =
+      rw (le-leb (n .count) tableLimit (o .count), ordered-nodeInOrder n o)
+      (λ i. settle (cond (leb beatLimit (length lent / claimSize)) 0 15)
+      (record {
+        number = 0;
+        node = record {
+          store = store-is i;
+          pending = served-is i .kept ++ blanks (tableLimit - length (served-is i .kept));
+          count = length (served-is i .kept);
+        };
+        written = written-is i;
+      })
+      (unbeaten n))
+
+  pub beatInLent-beatenLent : beatInLent n lent ≡ beatenLent n lent
+  unfolding beatInLent beatenLent
+  beatInLent-beatenLent =
+      rw (le-leb (n .count) tableLimit (o .count), ordered-nodeInOrder n o)
+      (λ i. settle (cond (leb beatLimit (length lent / claimSize)) 0 15) (writtenOver (claimWords (sent-is i)) lent) (λ x. lent))

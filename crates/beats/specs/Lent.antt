@@ -1,0 +1,96 @@
+-- The beat of a node whose keys are lent, for any content: by one equation over the node that its parts make up (`nodeWith` of `nodes`), as the code
+-- carries it out. No store is copied for a claim, and it is no rule of document 01. Question 1 is not its own; where the table cannot be read it says 1.
+-- Whatever can be refused is asked before the first write, so a number other than 0 means that node and words are what they were (`beatIn-kept`,
+-- `beatInLent-kept` of proofs/LentLaws). What it means where the node is in order is said by laws (proofs/LentLaws), by Table and Call of `rule`.
+-- In order: the table served; claims in lent words; the beat. Assumes nothing.
+use mathlib.Core.Path.{_≡_}
+use Prim.Native.Nat.{ℕ, _+_, _*_, _-_, _/_}
+use mathlib.Core.Bool.{cond}
+use mathlib.Core.List.{List, [], _∷_, _++_}
+use lib.Dec.{leb, eqb}
+use lib.ListN.{length}
+use lib.Seq.{sets}
+use Rattle.keys.specs.declared.store.Store.{Store}
+use Rattle.claims.specs.declared.claim.Claim.{Claim}
+use Rattle.claims.specs.Question.{Question, firstNo, settle, question}
+use Rattle.claims.specs.Reply.{claimsOf}
+use Rattle.claims.specs.Lent.{makeIn, answerIn}
+use Rattle.rule.specs.declared.node.Node.{Node}
+use Rattle.rule.specs.declared.answer.Beaten.{Beaten}
+use Rattle.rule.specs.Table.{tableLimit, beatLimit, Served, remains}
+use Rattle.rule.specs.Node.{blanks, pendingOf}
+use Rattle.rule.specs.Question.{question15}
+use Rattle.rule.specs.Call.{claimWords, writtenOver}
+use Rattle.nodes.specs.Lent.{nodeWith}
+use Rattle.beats.specs.declared.beats.Kept.{Kept}
+
+-- ---- the table served
+
+-- what a store answers to the claims of a table, and which of them stay: it adds none of their ends
+abbrev pub serveIn : Store → List Claim → Served
+serveIn s [] = record { sent = []; kept = [] }
+serveIn s (c ∷ cs) = record {
+  sent = claimsOf (answerIn s c) ++ serveIn s cs .sent;
+  kept = cond (remains (answerIn s c)) (c ∷ serveIn s cs .kept) (serveIn s cs .kept);
+}
+
+-- the whole claim of a store, none where the count is 0
+unfoldable pub wholeIn : Store → List Claim
+wholeIn s = cond (eqb (s .count) 0) [] (makeIn s 0 (s .count - 1) .claim ∷ [])
+
+-- what is written: the whole claim, then the claims of the answers
+abbrev pub sendingIn : Store → List Claim → List Claim
+sendingIn s t = wholeIn s ++ serveIn s t .sent
+
+-- ---- claims in lent words
+
+-- the words of a claim: lo, hi, sum, cnt
+abbrev pub claimSize : ℕ
+claimSize = 4
+
+-- lent words once some claims are written from the place `at` on
+abbrev pub wroteAt : ℕ → List Claim → List ℕ → List ℕ
+wroteAt at cs lent = sets lent (claimSize * at) (claimWords cs)
+
+-- some claims are written from the place `at` on: `next` is the place after them, `after` the words then
+pub record Wrote (at : ℕ) (cs : List Claim) (lent : List ℕ) (next : ℕ) (after : List ℕ) : Type 0 where
+  pub place : next ≡ at + length cs
+  pub words : after ≡ wroteAt at cs lent
+
+-- what is kept of a served table, then zeros; how many claims that is; and the place after those sent, if they are written from the place `at` on
+unfoldable pub keptWith : ℕ → Served → Kept
+keptWith at s = record { number = 0; table = s .kept ++ blanks (tableLimit - length (s .kept)); count = length (s .kept); written = at + length (s .sent) }
+
+-- a table is served, and what is sent is written from the place `at` on: `kept` is what is kept, `after` the words then
+pub record ServedAt (at : ℕ) (s : Served) (lent : List ℕ) (kept : Kept) (after : List ℕ) : Type 0 where
+  pub result : kept ≡ keptWith at s
+  pub words : after ≡ wroteAt at (s .sent) lent
+
+-- ---- the beat
+
+-- what a beat gives, by the run of keys and what the call returns; and what it gives where it is refused
+abbrev pub beatenWith : List ℕ → ℕ → Kept → Beaten
+beatenWith keys held k = record { number = k .number; node = nodeWith keys held (k .table) (k .count); written = k .written }
+
+abbrev pub unbeaten : Node → ℕ → Beaten
+unbeaten n x = record { number = x; node = n; written = 0 }
+
+-- asked is whether the count of pending claims is that of a table, which is a part of question 1; and 15
+abbrev pub beatInQuestions : Node → List ℕ → List Question
+beatInQuestions n lent = question 1 (leb (n .count) tableLimit) ∷ question15 (length lent / claimSize) beatLimit ∷ []
+
+-- `beat_in`: what it returns ..
+unfoldable pub beatIn : Node → List ℕ → Beaten
+beatIn n lent =
+    settle (firstNo (beatInQuestions n lent))
+    (beatenWith (n .store .keys) (n .store .count) (keptWith (length (wholeIn (n .store))) (serveIn (n .store) (pendingOf n))))
+    (unbeaten n)
+
+-- .. and what the lent words hold afterwards
+unfoldable pub beatInLent : Node → List ℕ → List ℕ
+beatInLent n lent = settle (firstNo (beatInQuestions n lent)) (writtenOver (claimWords (sendingIn (n .store) (pendingOf n))) lent) (λ x. lent)
+
+-- both
+pub record BeatsIn (n : Node) (lent : List ℕ) (r : Beaten) (after : List ℕ) : Type 0 where
+  pub result : r ≡ beatIn n lent
+  pub words : after ≡ beatInLent n lent

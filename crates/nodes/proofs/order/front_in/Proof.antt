@@ -1,0 +1,23 @@
+-- `nodes::order::front_in` meets its contract. Assumes nothing.
+use borrow.Author.Needs.{needs}
+use Rattle.nodes.proofs.Ordering.{tested-yes, front-count, front-store, front-pending}
+use Rattle.nodes.proofs.order.front_in.Statement.{statement}
+use Rattle.nodes.proofs.order.front_in.Tie as tie
+
+returns : tie.Need-returns
+returns c = search (needs, front-count)
+
+ordered-in-requires : tie.Need-ordered-in-requires
+ordered-in-requires c κs = search needs
+
+returns-2 : tie.Need-returns-2
+returns-2 c = search (needs, front-store)
+
+pends-requires : tie.Need-pends-requires
+pends-requires c κs = search (needs, tested-yes)
+
+returns-3 : tie.Need-returns-3
+returns-3 c = search (needs, front-pending)
+
+pub front-in-spec : {M : Type 1} → statement M
+front-in-spec = tie.close (tie.spec returns ordered-in-requires returns-2 pends-requires returns-3)

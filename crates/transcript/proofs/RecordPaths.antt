@@ -1,0 +1,73 @@
+-- Records in a lent run of words (src/record.rt): one law for each way that the code goes, over the definitions of specs/Core. Assumes nothing.
+use Prim.Native.Nat.{ℕ, _+_, _*_, _%_, _≤_, _<_}
+use mathlib.Core.List.{List}
+use mathlib.Core.Path.{_≡_, ap, _∙_}
+use native.Mathlib.Numerals.{add-one, add-two, add-three, add-four}
+use borrow.Author.Tests.{lt-ltb, le-ltb}
+use lib.ListN.{getD, set}
+use Rattle.claims.specs.declared.answer.Answer.{Answer}
+use Rattle.claims.specs.declared.answer.Answer.the-variants.{Refused, Match, Ask, One, Two}
+use Rattle.claims.specs.declared.claim.Claim.{Claim}
+use Rattle.claims.specs.Claim.{noClaim}
+use Rattle.claims.specs.Reply.{claimsOf}
+use Rattle.transcript.specs.Core.{recordSize, recordsIn, claimIn, Log, logWith, putRecord, putRecords}
+
+module _ (words : List ℕ) (at : ℕ) where
+  -- `claim_in`
+
+  pub claimIn-some : at < recordsIn words
+      → record {
+        lo = getD words (at * recordSize + 1) 0;
+        hi = getD words (at * recordSize + 2) 0;
+        sum = getD words (at * recordSize + 3) 0;
+        cnt = getD words (at * recordSize + 4) 0 % 65536;
+      }
+      ≡ claimIn words at
+  unfolding claimIn
+  claimIn-some h = rw (lt-ltb at (recordsIn words) h)
+
+  pub claimIn-none : recordsIn words ≤ at → noClaim ≡ claimIn words at
+  unfolding claimIn
+  claimIn-none h = rw (le-ltb at (recordsIn words) h)
+
+  -- `put_record`
+
+  module _ (sender : ℕ) (c : Claim) where
+    pub put-some : at < recordsIn words
+        → logWith
+        (set
+        (set
+        (set (set (set words (at * recordSize) sender) (at * recordSize + 1) (c .lo)) (at * recordSize + 2) (c .hi))
+        (at * recordSize + 3) (c .sum))
+        (at * recordSize + 4) (c .cnt))
+        (at + 1)
+        ≡ putRecord (logWith words at) sender c
+    unfolding putRecord
+    put-some h = rw (lt-ltb at (recordsIn words) h, add-one, add-two, add-three, add-four)
+
+    pub put-past : recordsIn words ≤ at → logWith words at ≡ putRecord (logWith words at) sender c
+    unfolding putRecord
+    put-past h = rw (le-ltb at (recordsIn words) h)
+
+-- `put_answer`, by what the answer is
+
+module _ (words : List ℕ) (at sender : ℕ) (a : Answer) (w : List ℕ) (end : ℕ) where
+  pub put-ask : (c : Claim) → a ≡ Ask c → logWith w end ≡ putRecord (logWith words at) sender c
+      → logWith w end ≡ putRecords (logWith words at) sender (claimsOf a)
+  put-ask c e h = rw e h
+
+  pub put-one : (c : Claim) → a ≡ One c → logWith w end ≡ putRecord (logWith words at) sender c
+      → logWith w end ≡ putRecords (logWith words at) sender (claimsOf a)
+  put-one c e h = rw e h
+
+  pub put-two : (c d : Claim) → a ≡ Two c d → (once : List ℕ) (then : ℕ) → logWith once then ≡ putRecord (logWith words at) sender c
+      → logWith w end ≡ putRecord (logWith once then) sender d
+      → logWith w end ≡ putRecords (logWith words at) sender (claimsOf a)
+  put-two c d e once then first second = rw e (second ∙ ap (λ (l : Log). putRecord l sender d) first)
+
+module _ (words : List ℕ) (at sender : ℕ) (a : Answer) where
+  pub put-match : a ≡ Match → logWith words at ≡ putRecords (logWith words at) sender (claimsOf a)
+  put-match e = rw e
+
+  pub put-refused : (n : ℕ) → a ≡ Refused n → logWith words at ≡ putRecords (logWith words at) sender (claimsOf a)
+  put-refused n e = rw e
