@@ -27,7 +27,7 @@ firstNo (q ∷ qs) = cond (q .yes) (firstNo qs) (q .number)
 abbrev pub settle : {A : Type 0} → ℕ → A → (ℕ → A) → A
 settle n done refused = cond (eqb n 0) done (refused n)
 
--- 1. Is every store or node given in order? (Of a store; a node's is in `rounds`.)
+-- 1. Is every store or node given in order? (Of a store; a node's is in `rule`.)
 abbrev pub question1 : Store → Question
 question1 s = question 1 (inOrder s)
 

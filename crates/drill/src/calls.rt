@@ -134,12 +134,7 @@ fn make(words: &mut [u64; MOST]) -> Said {
 struct Parts(u8, usize, Claim, Claim);
 
 fn parts_of(answer: Answer) -> Parts {
-    let none = Claim {
-        lo: 0,
-        hi: 0,
-        sum: 0,
-        cnt: 0,
-    };
+    let none = Claim::NONE;
     match answer {
         Answer::Refused(number) => Parts(number, 0, none, none),
         Answer::Match => Parts(0, 0, none, none),

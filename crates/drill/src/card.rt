@@ -111,12 +111,7 @@ pub fn put_store(words: &mut [u64; MOST], at: usize, store: Store)
 
 // The claims of a table.
 fn table_in(words: &[u64; MOST]) -> [Claim; Node::TABLE] {
-    let mut table = [Claim {
-        lo: 0,
-        hi: 0,
-        sum: 0,
-        cnt: 0,
-    }; Node::TABLE];
+    let mut table = [Claim::NONE; Node::TABLE];
     let mut i: usize = 0;
     while i < Node::TABLE {
         table[i] = claim_at(words, TABLE + 4 * i);

@@ -1,7 +1,7 @@
 -- Rising lists of keys, as facts and not as tests. In order: `Above`, `Rising` and `Sub`; the tests `rising` and `risesFrom` of Store are these
 -- facts; membership; parts of a rising list; a rising list is known by its members (the three laws of counting); its keys by their index;
 -- the test `holds` of Store is membership.
--- Membership is `List·Memᴰ`. Not here: what `insert`, `position` and `between` make of a rising list (Insert, Position, Between). Assumes nothing.
+-- Membership is `List·Memᴰ`. Not here: what `insert` and `position` make of a rising list (Insert, Position). Assumes nothing.
 use Prim.Native.Nat.{ℕ, zero, suc, _≤_, _<_, suc-le-suc}
 use mathlib.Core.Bool.{Bool, true, false, cond, false≢true}
 use mathlib.Core.List.{List, [], _∷_, _++_, Memᴰ·append-left, Memᴰ·append-right}

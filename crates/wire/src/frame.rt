@@ -97,12 +97,7 @@ fn four(bytes: &[u8], n: usize) -> [Claim; Framed::CLAIMS]
     requires { ⌜ (n ≤ frameLimit) × (headSize + claimSize * n ≤ length (now bytes)) ⌝ }
     ensures { λ r. ⌜ r ≡ fourOf (readRun claim-layout n (drop headSize (now (bytes .entry)))) ⌝ }
 {
-    let mut claims = [Claim {
-        lo: 0,
-        hi: 0,
-        sum: 0,
-        cnt: 0,
-    }; Framed::CLAIMS];
+    let mut claims = [Claim::NONE; Framed::CLAIMS];
     let mut i: usize = 0;
     while i < n {
         claims[i] = claim::read(bytes, HEAD + claim::SIZE * i);
@@ -116,12 +111,7 @@ fn refused(number: u8) -> Framed
 {
     Framed {
         number,
-        claims: [Claim {
-            lo: 0,
-            hi: 0,
-            sum: 0,
-            cnt: 0,
-        }; Framed::CLAIMS],
+        claims: [Claim::NONE; Framed::CLAIMS],
         count: 0,
     }
 }

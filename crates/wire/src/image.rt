@@ -141,12 +141,7 @@ fn read_claims(bytes: &[u8], at: usize, n: usize) -> [Claim; Node::TABLE]
 fn no_claims() -> [Claim; Node::TABLE]
     ensures { λ r. ⌜ r ≡ blanks tableLimit ⌝ }
 {
-    [Claim {
-        lo: 0,
-        hi: 0,
-        sum: 0,
-        cnt: 0,
-    }; Node::TABLE]
+    [Claim::NONE; Node::TABLE]
 }
 
 // The first n of some keys, written at a place.
