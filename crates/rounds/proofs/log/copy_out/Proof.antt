@@ -152,22 +152,27 @@ module _ {M : Type 1} (𝓤 : URA M) (H : Heap 𝓤) (A : Atoms 𝓤) (W : Given
   asks-put δ ν l i d fits gd =
       qed W (‵ (flft (ν ∷ []) fullShare) ∷ ‵ (MutSlice (named 0) (ν ∷ []) D.the-row .own (y δ l) (sliceVal (b, o) (length l) ∷ [])) ∷ []) ∵
       suffices ! (onEntry 𝓤 H A put.signature (ν ∷ [], tt) (fullShare, tt) (y δ l, (i, (d, tt))) (sliceVal (b, o) (length l) ∷ [], (vint w64 i ∷ [], (mach d ∷ [], tt)))) (∗emp 𝓤 _) $
-      nothing ! $ move ! (1 ∷ 0 ∷ []) $ join ! $ frame ! $ nothing ! $ owned ! D.the-row (Is D.the-row) (LL.makes D.the-type D′.the-plain 𝓤 H A) d _ gd $ fjoin ! $
+      nothing ! $ move ! (1 ∷ 0 ∷ []) $ join ! $ frame ! $ nothing ! $
+      owned ! D.the-row (Is D.the-row) (LL.makes D.the-type D′.the-plain 𝓤 H A) d _ gd $ fjoin ! $
       owned ! usize (Is usize) (uint-makes 𝓤 H A W w64) i _ (refl, fits) $ fjoin ! $ move ! (1 ∷ 0 ∷ []) $ fjoin ! $ done !
 
   asks : (i : ℕ) → i < 2 ^ 64 → ent 𝓤 (sep 𝓤 (A .lft κ′ q′) (sem 𝓤 H A Own)) (DeliveryIn 𝓤 H A mem′ run .pre (to i))
   asks i fits =
       qed W (‵ (flft κ′ q′) ∷ ‵ Own ∷ []) ∵ suffices ! (onEntry 𝓤 H A delivery-in.signature (κ′, tt) (q′, tt) (w, (i, tt)) (s′ ∷ [], (vint w64 i ∷ [], tt))) (∗emp 𝓤 _) $
-      nothing ! $ move ! (1 ∷ 0 ∷ []) $ join ! $ frame ! $ nothing ! $ owned ! usize (Is usize) (uint-makes 𝓤 H A W w64) i _ (refl, fits) $ fjoin ! $ move ! (1 ∷ 0 ∷ []) $ fjoin ! $ done !
+      nothing ! $ move ! (1 ∷ 0 ∷ []) $ join ! $ frame ! $ nothing ! $ owned ! usize (Is usize) (uint-makes 𝓤 H A W w64) i _ (refl, fits) $ fjoin ! $
+      move ! (1 ∷ 0 ∷ []) $ fjoin ! $ done !
 
   module _ (gn : Room D.the-row (length ys)) (gw : Room u64 (length ws)) (fits : n < 2 ^ 64) where
     exits : ent 𝓤 (⋆ 𝓤 H A (‵ (fobs γ (codedHoleys D.the-row .code (heres D.the-row (copied n ws ys)))) ∷ ‵ (fbor κ (Held D.the-row (length (copied n ws ys)) b o γ)) ∷ ‵ (flft κ q) ∷ ‵ (flft κ′ q′) ∷ ‵ Own ∷ [])) (Post vunit)
     exits =
         qed W (‵ (fobs γ (codedHoleys D.the-row .code (heres D.the-row (copied n ws ys)))) ∷ ‵ (fbor κ (Held D.the-row (length (copied n ws ys)) b o γ)) ∷ ‵ (flft κ q) ∷ ‵ (flft κ′ q′) ∷ ‵ Own ∷ []) ∵
-        suffices ! _ (ends-at 𝓤 H A copy-out.ended stayed (copy-out.clauses 𝓤 H A mem′ run) W (((κ, (κ′, tt)), (q, (q′, tt)), bounds, a, vals), tt) vunit tt (copied n ws ys, (tt, (tt, tt))) (length-copied n ws ys, (tt, (tt, tt)))) $ says ! refl $
+        suffices ! _ (ends-at 𝓤 H A copy-out.ended stayed (copy-out.clauses 𝓤 H A mem′ run) W (((κ, (κ′, tt)), (q, (q′, tt)), bounds, a, vals), tt) vunit tt (copied n ws ys, (tt, (tt, tt))) (length-copied n ws ys, (tt, (tt, tt)))) $
+        says ! refl $
         nothing ! $ move ! (4 ∷ 0 ∷ []) $ join ! $ move ! (3 ∷ 0 ∷ []) $ join ! $ frame ! $ fjoin ! $
-        pureI ! (at-slice D.the-row (x (copied n ws ys)) (s ∷ [])) (tt, (tt, tt)) (ap (λ (m : ℕ). sliceVal (b, o) m ∷ []) (sym (length-copied n ws ys)), subst (Room D.the-row) (sym (length-copied n ws ys)) gn) $ fjoin ! $
-        nothing ! $ owned ! usize (Is usize) (uint-makes 𝓤 H A W w64) n _ (refl, fits) $ fjoin ! $ move ! (2 ∷ 0 ∷ []) $ fjoin ! $ move ! (1 ∷ 0 ∷ []) $ fjoin ! $
+        pureI ! (at-slice D.the-row (x (copied n ws ys)) (s ∷ [])) (tt, (tt, tt)) (ap (λ (m : ℕ). sliceVal (b, o) m ∷ []) (sym (length-copied n ws ys)), subst (Room D.the-row) (sym (length-copied n ws ys)) gn) $
+        fjoin ! $
+        nothing ! $ owned ! usize (Is usize) (uint-makes 𝓤 H A W w64) n _ (refl, fits) $ fjoin ! $ move ! (2 ∷ 0 ∷ []) $ fjoin ! $
+        move ! (1 ∷ 0 ∷ []) $ fjoin ! $
         feqI ! (List Val) (vunit ∷ []) (vunit ∷ []) refl $ move ! (1 ∷ 0 ∷ []) $ done !
 
     module _ (𝓣 : Tables 𝓤 H) (known : Triple 𝓤 (𝓣 .C #delivery-in) (DeliveryIn 𝓤 H A mem′ run)) (stores : Triple 𝓤 (𝓣 .C #put) (Put 𝓤 H A mem′ run)) where
@@ -208,17 +213,24 @@ module _ {M : Type 1} (𝓤 : URA M) (H : Heap 𝓤) (A : Atoms 𝓤) (W : Given
             move ! (1 ∷ []) $ use1 W (‵ Own ⊛ ‵ Own) (shr-slice-copy 𝓤 H A W (named 1) κ′ u64 .twice w (s′ ∷ [])) $ split ! $ move ! (2 ∷ 0 ∷ []) $
             use2 W (raw (DeliveryIn 𝓤 H A mem′ run .pre (to i))) (asks i i-fits) $
             calls-at ! (fmOf 𝓤 H (W .laws) 𝓣) (DeliveryIn 𝓤 H A mem′ run) known (to i) (and-then ! (load ! (from ! (stop !)) (look ! 20 refl)) (and-then ! (load ! (from ! (stop !)) (look ! 3 refl)) (no-more !))) (λ v.
-            use1 W (later (some (λ (r : Delivery). ((‵ (flft κ′ q′) ⊛ ‵ ftrue) ⊛ ‵ (D.the-row .own r (v ∷ []))) ⊛ raw (ensured 𝓤 H A delivery-in.ended (delivery-in.clauses 𝓤 H A mem′ run) (κ′, tt) (w, (i, tt)) tt r)))) (id⊢ 𝓤 _) $ await ! tt $ pick ! (λ r.
-            split ! $ move ! (1 ∷ []) $ use1 W (some (λ (zs : Unit {0} × (Unit {0} × Unit {0})). ‵ (lasts delivery-in.ended (κ′, tt) (w, (i, tt)) zs) ⊛ raw (fact 𝓤 (r ≡ deliveryIn ws i)))) (id⊢ 𝓤 _) $ pick ! (λ zs.
-            split ! $ move ! (1 ∷ []) $ heard ! (r ≡ deliveryIn ws i) (λ e. drop ! $ split ! $ move ! (1 ∷ []) $ rewrite ! 0 (λ (d : Delivery). ‵ (D.the-row .own d (v ∷ []))) e refl $
+            use1 W (later (some (λ (r : Delivery). ((‵ (flft κ′ q′) ⊛ ‵ ftrue) ⊛ ‵ (D.the-row .own r (v ∷ []))) ⊛ raw (ensured 𝓤 H A delivery-in.ended (delivery-in.clauses 𝓤 H A mem′ run) (κ′, tt) (w, (i, tt)) tt r)))) (id⊢ 𝓤 _) $
+            await ! tt $ pick ! (λ r.
+            split ! $ move ! (1 ∷ []) $
+            use1 W (some (λ (zs : Unit {0} × (Unit {0} × Unit {0})). ‵ (lasts delivery-in.ended (κ′, tt) (w, (i, tt)) zs) ⊛ raw (fact 𝓤 (r ≡ deliveryIn ws i)))) (id⊢ 𝓤 _) $
+            pick ! (λ zs.
+            split ! $ move ! (1 ∷ []) $
+            heard ! (r ≡ deliveryIn ws i) (λ e. drop ! $ split ! $ move ! (1 ∷ []) $ rewrite ! 0 (λ (d : Delivery). ‵ (D.the-row .own d (v ∷ []))) e refl $
             peeks ! D.the-row (Is D.the-row) (shows 𝓤 H A D.the-row) (deliveryIn ws i) (v ∷ []) (λ is.
             land ! (from ! (stop !)) (init ! 8 refl (LL.lawful D.the-type D′.the-laws 𝓤 H A W .typed (deliveryIn ws i) (v ∷ []) is .0)) $
-            rewrite ! 8 (λ (u : Val). ‵ (fat fullShare D′.mir l₉ 0 u)) (ap only (LL.tells D.the-type D′.the-laws (deliveryIn ws i) (v ∷ []) is)) refl $ drop ! $ split ! $ move ! (1 ∷ []) $ drop ! $
+            rewrite ! 8 (λ (u : Val). ‵ (fat fullShare D′.mir l₉ 0 u)) (ap only (LL.tells D.the-type D′.the-laws (deliveryIn ws i) (v ∷ []) is)) refl $
+            drop ! $ split ! $ move ! (1 ∷ []) $ drop ! $
             -- the row is lent for a lifetime ν of the call
             lft-new ! tt (λ ν. move ! (3 ∷ []) $ use1 W (‵ (cells (mem D.the-row) (copied i ws ys) b o)) (whole-in 𝓤 H A W D.the-row (copied i ws ys) b o) $
             use1 W (later (some (λ (δ : GName). ‵ (MutSlice (named 0) (ν ∷ []) D.the-row .own (y δ (copied i ws ys)) (sliceVal (b, o) (length (copied i ws ys)) ∷ [])) ⊛ ‵ (flent (ν ∷ []) (Held D.the-row (length (copied i ws ys)) b o δ)))))
-            (lends-slice 𝓤 H A W D.the-row (named 0) (ν ∷ []) (copied i ws ys) b o (subst (Room D.the-row) (sym (length-copied i ws ys)) gn)) $ await ! tt $ pick ! (λ δ. split ! $
-            move ! (2 ∷ 0 ∷ []) $ use2 W (raw (Put 𝓤 H A mem′ run .pre (to-put δ ν (copied i ws ys) i (deliveryIn ws i)))) (asks-put δ ν (copied i ws ys) i (deliveryIn ws i) i-fits (made is)) $
+            (lends-slice 𝓤 H A W D.the-row (named 0) (ν ∷ []) (copied i ws ys) b o (subst (Room D.the-row) (sym (length-copied i ws ys)) gn)) $
+            await ! tt $ pick ! (λ δ. split ! $
+            move ! (2 ∷ 0 ∷ []) $
+            use2 W (raw (Put 𝓤 H A mem′ run .pre (to-put δ ν (copied i ws ys) i (deliveryIn ws i)))) (asks-put δ ν (copied i ws ys) i (deliveryIn ws i) i-fits (made is)) $
             -- [what `put` asks; the loan; the words' token; what they own; _4; the open borrow; obs; auth; _9; …; _8; …; _7; …; _6; …; _5; …]
             calls-at ! (fmOf 𝓤 H (W .laws) 𝓣) (Put 𝓤 H A mem′ run) stores (to-put δ ν (copied i ws ys) i (deliveryIn ws i))
             (and-then ! (load ! (from ! (stop !)) (look ! 10 refl)) (and-then ! (load ! (from ! (stop !)) (look ! 4 refl)) (and-then ! (load ! (from ! (stop !)) (look ! 8 refl)) (no-more !)))) (λ u.
@@ -230,10 +242,12 @@ module _ {M : Type 1} (𝓤 : URA M) (H : Heap 𝓤) (A : Atoms 𝓤) (W : Given
             land ! (from ! (stop !)) (init ! 15 refl (subst (λ (u : Val). Holds (hasTy tyUnit u) × WT u) (sym (ap only is-unit)) (tt, tt))) $
             -- the lifetime is ended, and the row comes back with one more record
             split ! $ move ! (1 ∷ []) $ drop ! $ lft-end ! tt $ move ! (0 ∷ 2 ∷ 1 ∷ []) $
-            use3 W (later (‵ (Arr (mem D.the-row) (length (copied i ws ys)) .lies (copied (suc i) ws ys) b o))) (slice-back 𝓤 H A W D.the-row (ν ∷ []) δ (copied (suc i) ws ys) (length (copied i ws ys)) b o) $ await ! tt $ fsplit ! $ drop ! $
+            use3 W (later (‵ (Arr (mem D.the-row) (length (copied i ws ys)) .lies (copied (suc i) ws ys) b o))) (slice-back 𝓤 H A W D.the-row (ν ∷ []) δ (copied (suc i) ws ys) (length (copied i ws ys)) b o) $
+            await ! tt $ fsplit ! $ drop ! $
             use1 W (‵ (row D.the-row fullShare (copied (suc i) ws ys) b o)) (whole-out 𝓤 H A W D.the-row (copied (suc i) ws ys) b o) $
             assigns-last ! (bin ! (load ! (from ! (stop !)) (look ! 3 refl)) (lit ! tt) (record { fits = next-fits })) (from ! (stop !)) (store ! 3 refl (tt, record { fits = next-fits })) $
-            forget ! 7 refl $ forget ! 9 refl $ forget ! 11 refl $ forget ! 13 refl $ forget ! 15 refl $ rewrite ! 3 (λ (m : ℕ). ‵ (fat fullShare word l₄ 0 (vint w64 m))) (add-one i) refl $ move ! (1 ∷ 2 ∷ []) $ by ! k)))))))))))))
+            forget ! 7 refl $ forget ! 9 refl $ forget ! 11 refl $ forget ! 13 refl $ forget ! 15 refl $
+            rewrite ! 3 (λ (m : ℕ). ‵ (fat fullShare word l₄ 0 (vint w64 m))) (add-one i) refl $ move ! (1 ∷ 2 ∷ []) $ by ! k)))))))))))))
           where
             made : {v : Val} → Is D.the-row (deliveryIn ws i) (v ∷ []) → Is D.the-row (deliveryIn ws i) (mach (deliveryIn ws i) ∷ [])
             made {v} is = subst (Is D.the-row (deliveryIn ws i)) (LL.tells D.the-type D′.the-laws (deliveryIn ws i) (v ∷ []) is) is
@@ -250,15 +264,18 @@ module _ {M : Type 1} (𝓤 : URA M) (H : Heap 𝓤) (A : Atoms 𝓤) (W : Given
             move ! (2 ∷ 4 ∷ 5 ∷ 6 ∷ []) $ closes-slice ! tt D.the-row ys (copied n ws ys) (length-copied n ws ys) b o $
             -- [obs; the borrow; its token; the words' token; what they own; _4; _9; …; _8; …; _7; …; _6; …; _5; …; that _4 dies; _3; …; _2; …; _1; …; _0; …]
             returns ! (look ! 23 refl) $ forget ! 5 refl $ forget ! 14 refl $ forget ! 17 refl $ forget ! 19 refl $ forget ! 21 refl $ forget ! 23 refl $
-            move ! (23 ∷ 24 ∷ []) $ free1 ! $ move ! (21 ∷ 22 ∷ []) $ free1 ! $ move ! (19 ∷ 20 ∷ []) $ free1 ! $ move ! (17 ∷ 18 ∷ []) $ free1 ! $ move ! (5 ∷ 16 ∷ []) $ free1 ! $
-            move ! (13 ∷ 14 ∷ []) $ free1 ! $ move ! (11 ∷ 12 ∷ []) $ free1 ! $ move ! (9 ∷ 10 ∷ []) $ free1 ! $ move ! (7 ∷ 8 ∷ []) $ free1 ! $ move ! (5 ∷ 6 ∷ []) $ free1 ! $ free0 ! $ by ! exits
+            move ! (23 ∷ 24 ∷ []) $ free1 ! $ move ! (21 ∷ 22 ∷ []) $ free1 ! $ move ! (19 ∷ 20 ∷ []) $ free1 ! $ move ! (17 ∷ 18 ∷ []) $ free1 ! $
+            move ! (5 ∷ 16 ∷ []) $ free1 ! $
+            move ! (13 ∷ 14 ∷ []) $ free1 ! $ move ! (11 ∷ 12 ∷ []) $ free1 ! $ move ! (9 ∷ 10 ∷ []) $ free1 ! $ move ! (7 ∷ 8 ∷ []) $ free1 ! $
+            move ! (5 ∷ 6 ∷ []) $ free1 ! $ free0 ! $ by ! exits
 
         -- the invariant, where t records are left
         abbrev Inv : ℕ → List (Item 𝓤)
         Inv t = ‵ (flt t (suc n)) ∷ At (n - t)
 
         turns : (t : ℕ) → Sq W (Inv t) (runs C Λ En parts.turn-1 (anyQ (afterTurn 𝓤 H (Below 𝓤 H A _<_ Inv t) Left)))
-        turns zero = drop ! $ by ! (subst (λ (m : ℕ). ent 𝓤 (⋆ 𝓤 H A (At m)) (Wp 𝓤 H C Λ En parts.turn-1 (afterTurn 𝓤 H (Below 𝓤 H A _<_ Inv zero) Left))) (sym (sub-zero n)) (ends (Below 𝓤 H A _<_ Inv zero)))
+        turns zero = drop ! $
+            by ! (subst (λ (m : ℕ). ent 𝓤 (⋆ 𝓤 H A (At m)) (Wp 𝓤 H C Λ En parts.turn-1 (afterTurn 𝓤 H (Below 𝓤 H A _<_ Inv zero) Left))) (sym (sub-zero n)) (ends (Below 𝓤 H A _<_ Inv zero)))
         turns (suc t) = fltL ! (λ left.
             let e : n - t ≡ suc (n - suc t) = omega arith in
             by ! (more (n - suc t) (Below 𝓤 H A _<_ Inv (suc t)) (omega arith) (subst (λ (m : ℕ). ent 𝓤 (⋆ 𝓤 H A (At m)) (Below 𝓤 H A _<_ Inv (suc t))) e
@@ -274,9 +291,11 @@ module _ {M : Type 1} (𝓤 : URA M) (H : Heap 𝓤) (A : Atoms 𝓤) (W : Given
       walk =
           qed W ((‵ (flft κ q) ⊛ ‵ (flft κ′ q′) ⊛ ‵ ftrue) ∷ ‵ (owns (MutSlice (named 0) κ D.the-row ∷ ShrSlice (named 1) κ′ u64 ∷ usize ∷ []) a vals) ∷ []) ∵ enter ! C Λ spelled (s ∷ s′ ∷ vint w64 n ∷ []) _ $
           alloc1 ! (λ l₀. alloc1 ! (λ l₁. alloc1 ! (λ l₂. alloc1 ! (λ l₃. alloc1 ! (λ l₄. alloc1 ! (λ l₅. alloc1 ! (λ l₆. alloc1 ! (λ l₇. alloc1 ! (λ l₈. alloc1 ! (λ l₉. alloc0 ! $ params1 ! $
-          pass1 ! (init ! 16 refl (tt, (tt, (record { fits = gn .0 }, tt)))) $ pass1 ! (init ! 14 refl (tt, (tt, (record { fits = gw .0 }, tt)))) $ pass1 ! (init ! 12 refl (tt, record { fits = fits })) $ pass0 ! $
+          pass1 ! (init ! 16 refl (tt, (tt, (record { fits = gn .0 }, tt)))) $ pass1 ! (init ! 14 refl (tt, (tt, (record { fits = gw .0 }, tt)))) $
+          pass1 ! (init ! 12 refl (tt, record { fits = fits })) $ pass0 ! $
           assigns ! (of-opd ! (lit ! tt)) (from ! (stop !)) (init ! 10 refl (tt, record { fits = lit< tt })) $
-          move ! (21 ∷ []) $ fsplit ! $ fsplit ! $ drop ! $ fsplit ! $ move ! (2 ∷ []) $ fsplit ! $ move ! (1 ∷ []) $ drop ! $ move ! (23 ∷ []) $ split ! $ move ! (1 ∷ []) $ split ! $ move ! (1 ∷ []) $ drop ! $ move ! (3 ∷ 4 ∷ 1 ∷ []) $
+          move ! (21 ∷ []) $ fsplit ! $ fsplit ! $ drop ! $ fsplit ! $ move ! (2 ∷ []) $ fsplit ! $ move ! (1 ∷ []) $ drop ! $ move ! (23 ∷ []) $
+          split ! $ move ! (1 ∷ []) $ split ! $ move ! (1 ∷ []) $ drop ! $ move ! (3 ∷ 4 ∷ 1 ∷ []) $
           opens-slice ! tt D.the-row ys b o $ move ! (4 ∷ 5 ∷ 0 ∷ 16 ∷ 1 ∷ 2 ∷ 3 ∷ []) $
           by ! (starts l₀ l₁ l₂ l₃ l₄ l₅ l₆ l₇ l₈ l₉)))))))))))
 

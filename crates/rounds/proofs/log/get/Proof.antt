@@ -101,9 +101,12 @@ module _ {M : Type 1} (𝓤 : URA M) (H : Heap 𝓤) (A : Atoms 𝓤) (W : Given
   module _ (gn : Room D.the-row (length ys)) (gi : i < 2 ^ 64) where
     exits : (d : Delivery) → Is D.the-row d (mach d ∷ []) → d ≡ getD ys i noDelivery → ent 𝓤 (⋆ 𝓤 H A Kept) (Post (mach d))
     exits d gd e =
-        qed W Kept ∵ suffices ! _ (ends-at 𝓤 H A get.ended stayed (get.clauses 𝓤 H A mem run) W (((κ, tt), (q, tt), tt, a, vals), tt) (mach d) d (tt, (tt, tt)) (tt, (tt, tt))) $ says ! e $
-        move ! (2 ∷ 1 ∷ []) $ fjoin ! $ pureI ! (at-slice D.the-row x (s ∷ [])) (tt, (tt, tt)) (refl, gn) $ fjoin ! $ nothing ! $ move ! (2 ∷ 0 ∷ []) $ join ! $ frame ! $
-        nothing ! $ owned ! usize (Is usize) (uint-makes 𝓤 H A W w64) i _ (refl, gi) $ fjoin ! $ move ! (1 ∷ 0 ∷ []) $ fjoin ! $ frame ! $ owned ! D.the-row (Is D.the-row) (LL.makes D.the-type D′.the-plain 𝓤 H A) d _ gd $ done !
+        qed W Kept ∵ suffices ! _ (ends-at 𝓤 H A get.ended stayed (get.clauses 𝓤 H A mem run) W (((κ, tt), (q, tt), tt, a, vals), tt) (mach d) d (tt, (tt, tt)) (tt, (tt, tt))) $
+        says ! e $
+        move ! (2 ∷ 1 ∷ []) $ fjoin ! $ pureI ! (at-slice D.the-row x (s ∷ [])) (tt, (tt, tt)) (refl, gn) $ fjoin ! $ nothing ! $
+        move ! (2 ∷ 0 ∷ []) $ join ! $ frame ! $
+        nothing ! $ owned ! usize (Is usize) (uint-makes 𝓤 H A W w64) i _ (refl, gi) $ fjoin ! $ move ! (1 ∷ 0 ∷ []) $ fjoin ! $ frame ! $
+        owned ! D.the-row (Is D.the-row) (LL.makes D.the-type D′.the-plain 𝓤 H A) d _ gd $ done !
 
     module _ (C : Calls 𝓤 H) (Λ : Loops 𝓤 H) where
       module _ (l₀ l₁ l₂ l₃ l₄ l₅ l₆ l₇ l₈ l₉ : ℕ) where
@@ -120,17 +123,21 @@ module _ {M : Type 1} (𝓤 : URA M) (H : Heap 𝓤) (A : Atoms 𝓤) (W : Given
         -- what follows the branch
         tail : (d : Delivery) (t : Bool) → Is D.the-row d (mach d ∷ []) → d ≡ getD ys i noDelivery → ent 𝓤 (⋆ 𝓤 H A (At d t)) (Wp 𝓤 H C Λ En parts.t-4 (atReturn 𝓤 H En Post))
         tail d t gd e =
-            qed W (At d t) ∵ exec ! C Λ En parts.t-4 (atRet En Post) $ assigns ! (of-opd ! (load ! (from ! (stop !)) (look ! 11 refl))) (from ! (stop !)) (init ! 21 refl (typed d gd)) $
+            qed W (At d t) ∵ exec ! C Λ En parts.t-4 (atRet En Post) $
+            assigns ! (of-opd ! (load ! (from ! (stop !)) (look ! 11 refl))) (from ! (stop !)) (init ! 21 refl (typed d gd)) $
             returns ! (look ! 21 refl) $ forget ! 11 refl $ forget ! 13 refl $ forget ! 15 refl $ forget ! 17 refl $ forget ! 19 refl $ forget ! 21 refl $
-            move ! (21 ∷ 22 ∷ []) $ free1 ! $ move ! (19 ∷ 20 ∷ []) $ free1 ! $ move ! (17 ∷ 18 ∷ []) $ free1 ! $ move ! (15 ∷ 16 ∷ []) $ free1 ! $ move ! (13 ∷ 14 ∷ []) $ free1 ! $
-            move ! (11 ∷ 12 ∷ []) $ free1 ! $ move ! (9 ∷ 10 ∷ []) $ free1 ! $ move ! (7 ∷ 8 ∷ []) $ free1 ! $ move ! (5 ∷ 6 ∷ []) $ free1 ! $ move ! (3 ∷ 4 ∷ []) $ free1 ! $ free0 ! $ by ! (exits d gd e)
+            move ! (21 ∷ 22 ∷ []) $ free1 ! $ move ! (19 ∷ 20 ∷ []) $ free1 ! $ move ! (17 ∷ 18 ∷ []) $ free1 ! $ move ! (15 ∷ 16 ∷ []) $ free1 ! $
+            move ! (13 ∷ 14 ∷ []) $ free1 ! $
+            move ! (11 ∷ 12 ∷ []) $ free1 ! $ move ! (9 ∷ 10 ∷ []) $ free1 ! $ move ! (7 ∷ 8 ∷ []) $ free1 ! $ move ! (5 ∷ 6 ∷ []) $ free1 ! $
+            move ! (3 ∷ 4 ∷ []) $ free1 ! $ free0 ! $ by ! (exits d gd e)
 
       walk : ent 𝓤 (onEntry 𝓤 H A get.signature (κ, tt) (q, tt) a vals) (WpFn 𝓤 H C Λ spelled (s ∷ vint w64 i ∷ []) Post)
       walk =
           qed W ((‵ (flft κ q) ⊛ ‵ ftrue) ∷ ‵ (owns (ShrSlice (named 0) κ D.the-row ∷ usize ∷ []) a vals) ∷ []) ∵ enter ! C Λ spelled (s ∷ vint w64 i ∷ []) _ $
           alloc1 ! (λ l₀. alloc1 ! (λ l₁. alloc1 ! (λ l₂. alloc1 ! (λ l₃. alloc1 ! (λ l₄. alloc1 ! (λ l₅. alloc1 ! (λ l₆. alloc1 ! (λ l₇. alloc1 ! (λ l₈. alloc1 ! (λ l₉. alloc0 ! $ params1 ! $
           pass1 ! (init ! 16 refl (tt, (tt, (record { fits = gn .0 }, tt)))) $ pass1 ! (init ! 14 refl (tt, record { fits = gi })) $ pass0 ! $
-          move ! (21 ∷ []) $ fsplit ! $ fsplit ! $ drop ! $ fsplit ! $ move ! (2 ∷ []) $ drop ! $ move ! (22 ∷ []) $ split ! $ move ! (1 ∷ []) $ drop ! $ move ! (2 ∷ 0 ∷ 1 ∷ []) $
+          move ! (21 ∷ []) $ fsplit ! $ fsplit ! $ drop ! $ fsplit ! $ move ! (2 ∷ []) $ drop ! $ move ! (22 ∷ []) $ split ! $ move ! (1 ∷ []) $
+          drop ! $ move ! (2 ∷ 0 ∷ 1 ∷ []) $
           -- [the fractured borrow; the token; res; _9; …; _8; …; _7; …; _6; …; _5; …; _4; …; _3; …; _2; …; _1; …; _0; …]
           assigns ! (of-opd ! (load ! (from ! (fld ! refl (stop !))) (look-in ! 19 (sub ! 1 refl (whole !))))) (from ! (stop !)) (init ! 15 refl (tt, record { fits = gn .0 })) $
           assigns ! (bin ! (load ! (from ! (stop !)) (look ! 17 refl)) (load ! (from ! (stop !)) (look ! 15 refl)) tt) (from ! (stop !)) (init ! 13 refl (tt, tt)) $
@@ -144,10 +151,12 @@ module _ {M : Type 1} (𝓤 : URA M) (H : Heap 𝓤) (A : Atoms 𝓤) (W : Given
           -- [log[at]; what it owns; the others; what shuts; the fractured borrow; res; _9; …]
           assigns ! (of-opd ! (load ! (from ! (hop ! (look ! 10 refl) (stop !))) (look-raw ! 0 refl))) (from ! (stop !)) (init ! 8 refl (typed (getD ys i noDelivery) gd)) $
           elem-back ! D.the-row q′ ys i noDelivery (mach (getD ys i noDelivery) ∷ []) b o within $ shuts-slice ! tt D.the-row q′ ys b o $
-          assigns-last ! (of-opd ! (load ! (from ! (stop !)) (look ! 5 refl))) (from ! (stop !)) (init ! 11 refl (typed (getD ys i noDelivery) gd)) $ forget ! 5 refl $ forget ! 7 refl $ forget ! 9 refl $
+          assigns-last ! (of-opd ! (load ! (from ! (stop !)) (look ! 5 refl))) (from ! (stop !)) (init ! 11 refl (typed (getD ys i noDelivery) gd)) $
+          forget ! 5 refl $ forget ! 7 refl $ forget ! 9 refl $
           by ! (tail l₀ l₁ l₂ l₃ l₄ l₅ l₆ l₇ l₈ l₉ (getD ys i noDelivery) (ltb i (length ys)) gd refl))))
           (λ past. assigns ! (agg ! (and-then ! (lit ! tt) (and-then ! (lit ! tt) (and-then ! (lit ! tt) (and-then ! (lit ! tt) (no-more !)))))) (from ! (stop !)) (init ! 3 refl (LL.lawful K.the-type K′.the-laws 𝓤 H A W .typed noClaim _ none-claim .0)) $
-          assigns-last ! (agg ! (and-then ! (lit ! tt) (and-then ! (load ! (from ! (stop !)) (look ! 3 refl)) (no-more !)))) (from ! (stop !)) (init ! 11 refl (typed noDelivery none-delivery)) $ forget ! 3 refl $ move ! (1 ∷ 0 ∷ []) $
+          assigns-last ! (agg ! (and-then ! (lit ! tt) (and-then ! (load ! (from ! (stop !)) (look ! 3 refl)) (no-more !)))) (from ! (stop !)) (init ! 11 refl (typed noDelivery none-delivery)) $
+          forget ! 3 refl $ move ! (1 ∷ 0 ∷ []) $
           by ! (tail l₀ l₁ l₂ l₃ l₄ l₅ l₆ l₇ l₈ l₉ noDelivery (ltb i (length ys)) none-delivery (sym (List·getD-eq-default ys noDelivery (nltb→le i (length ys) past)))))))))))))))
 
 module _ {M : Type 1} (𝓤 : URA M) (H : Heap 𝓤) (A : Atoms 𝓤) (W : Given 𝓤 H A) (mem : Memory → SProp 𝓤) (run : Routine → Fun 𝓤) where

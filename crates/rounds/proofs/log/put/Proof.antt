@@ -84,9 +84,13 @@ module _ {M : Type 1} (𝓤 : URA M) (H : Heap 𝓤) (A : Atoms 𝓤) (W : Given
   module _ (gn : Room D.the-row (length ys)) (gi : i < 2 ^ 64) (gd : Is D.the-row d (mach ∷ [])) where
     exits : (zs : List Delivery) → zs ≡ set ys i d → length zs ≡ length ys → ent 𝓤 (⋆ 𝓤 H A (Kept zs)) (Post vunit)
     exits zs e l =
-        qed W (Kept zs) ∵ suffices ! _ (ends-at 𝓤 H A put.ended stayed (put.clauses 𝓤 H A mem run) W (((κ, tt), (q, tt), tt, a, vals), tt) vunit tt (zs, (tt, (tt, tt))) (l, (tt, (tt, tt)))) $ says ! e $
-        nothing ! $ move ! (3 ∷ 0 ∷ []) $ join ! $ frame ! $ fjoin ! $ pureI ! (at-slice D.the-row (x zs) (s ∷ [])) (tt, (tt, tt)) (ap (λ (m : ℕ). sliceVal (b, o) m ∷ []) (sym l), subst (Room D.the-row) (sym l) gn) $ fjoin ! $
-        nothing ! $ owned ! D.the-row (Is D.the-row) (LL.makes D.the-type D′.the-plain 𝓤 H A) d _ gd $ fjoin ! $ owned ! usize (Is usize) (uint-makes 𝓤 H A W w64) i _ (refl, gi) $ fjoin ! $ move ! (1 ∷ 0 ∷ []) $ fjoin ! $
+        qed W (Kept zs) ∵ suffices ! _ (ends-at 𝓤 H A put.ended stayed (put.clauses 𝓤 H A mem run) W (((κ, tt), (q, tt), tt, a, vals), tt) vunit tt (zs, (tt, (tt, tt))) (l, (tt, (tt, tt)))) $
+        says ! e $
+        nothing ! $ move ! (3 ∷ 0 ∷ []) $ join ! $ frame ! $ fjoin ! $
+        pureI ! (at-slice D.the-row (x zs) (s ∷ [])) (tt, (tt, tt)) (ap (λ (m : ℕ). sliceVal (b, o) m ∷ []) (sym l), subst (Room D.the-row) (sym l) gn) $
+        fjoin ! $
+        nothing ! $ owned ! D.the-row (Is D.the-row) (LL.makes D.the-type D′.the-plain 𝓤 H A) d _ gd $ fjoin ! $
+        owned ! usize (Is usize) (uint-makes 𝓤 H A W w64) i _ (refl, gi) $ fjoin ! $ move ! (1 ∷ 0 ∷ []) $ fjoin ! $
         feqI ! (List Val) (vunit ∷ []) (vunit ∷ []) refl $ move ! (1 ∷ 0 ∷ []) $ done !
 
     module _ (C : Calls 𝓤 H) (Λ : Loops 𝓤 H) where
@@ -109,15 +113,18 @@ module _ {M : Type 1} (𝓤 : URA M) (H : Heap 𝓤) (A : Atoms 𝓤) (W : Given
         tail zs t e l =
             qed W (At zs t) ∵ exec ! C Λ En parts.t-4 (atRet En Post) $ assigns ! (of-opd ! (unit-lit !)) (from ! (stop !)) (init ! 17 refl (tt, tt)) $
             returns ! (look ! 17 refl) $ forget ! 7 refl $ forget ! 9 refl $ forget ! 11 refl $ forget ! 13 refl $ forget ! 15 refl $ forget ! 17 refl $
-            move ! (17 ∷ 18 ∷ []) $ free1 ! $ move ! (15 ∷ 16 ∷ []) $ free1 ! $ move ! (13 ∷ 14 ∷ []) $ free1 ! $ move ! (11 ∷ 12 ∷ []) $ free1 ! $ move ! (9 ∷ 10 ∷ []) $ free1 ! $ move ! (7 ∷ 8 ∷ []) $ free1 ! $ move ! (5 ∷ 6 ∷ []) $ free1 ! $ move ! (3 ∷ 4 ∷ []) $ free1 ! $ free0 ! $
+            move ! (17 ∷ 18 ∷ []) $ free1 ! $ move ! (15 ∷ 16 ∷ []) $ free1 ! $ move ! (13 ∷ 14 ∷ []) $ free1 ! $ move ! (11 ∷ 12 ∷ []) $ free1 ! $
+            move ! (9 ∷ 10 ∷ []) $ free1 ! $ move ! (7 ∷ 8 ∷ []) $ free1 ! $ move ! (5 ∷ 6 ∷ []) $ free1 ! $ move ! (3 ∷ 4 ∷ []) $ free1 ! $ free0 ! $
             by ! (exits zs e l)
 
       walk : ent 𝓤 (onEntry 𝓤 H A put.signature (κ, tt) (q, tt) a vals) (WpFn 𝓤 H C Λ code.function (s ∷ vint w64 i ∷ mach ∷ []) Post)
       walk =
           qed W ((‵ (flft κ q) ⊛ ‵ ftrue) ∷ ‵ (owns (MutSlice (named 0) κ D.the-row ∷ usize ∷ D.the-row ∷ []) a vals) ∷ []) ∵ enter ! C Λ code.function (s ∷ vint w64 i ∷ mach ∷ []) _ $
           alloc1 ! (λ l₀. alloc1 ! (λ l₁. alloc1 ! (λ l₂. alloc1 ! (λ l₃. alloc1 ! (λ l₄. alloc1 ! (λ l₅. alloc1 ! (λ l₆. alloc1 ! (λ l₇. alloc0 ! $ params1 ! $
-          pass1 ! (init ! 12 refl (tt, (tt, (record { fits = gn .0 }, tt)))) $ pass1 ! (init ! 10 refl (tt, record { fits = gi })) $ pass1 ! (init ! 8 refl typed) $ pass0 ! $
-          move ! (17 ∷ []) $ fsplit ! $ fsplit ! $ drop ! $ fsplit ! $ move ! (2 ∷ []) $ drop ! $ move ! (18 ∷ []) $ split ! $ move ! (1 ∷ []) $ drop ! $ move ! (1 ∷ 2 ∷ 0 ∷ []) $
+          pass1 ! (init ! 12 refl (tt, (tt, (record { fits = gn .0 }, tt)))) $ pass1 ! (init ! 10 refl (tt, record { fits = gi })) $
+          pass1 ! (init ! 8 refl typed) $ pass0 ! $
+          move ! (17 ∷ []) $ fsplit ! $ fsplit ! $ drop ! $ fsplit ! $ move ! (2 ∷ []) $ drop ! $ move ! (18 ∷ []) $ split ! $ move ! (1 ∷ []) $
+          drop ! $ move ! (1 ∷ 2 ∷ 0 ∷ []) $
           -- [obs; the borrow; the token; _7; …; _6; …; _5; …; _4; …; _3; …; _2; …; _1; …; _0; …]
           assigns ! (of-opd ! (load ! (from ! (fld ! refl (stop !))) (look-in ! 15 (sub ! 1 refl (whole !))))) (from ! (stop !)) (init ! 9 refl (tt, record { fits = gn .0 })) $
           assigns ! (bin ! (load ! (from ! (stop !)) (look ! 13 refl)) (load ! (from ! (stop !)) (look ! 9 refl)) tt) (from ! (stop !)) (init ! 7 refl (tt, tt)) $
@@ -126,11 +133,13 @@ module _ {M : Type 1} (𝓤 : URA M) (H : Heap 𝓤) (A : Atoms 𝓤) (W : Given
           assigns ! (bin ! (load ! (from ! (stop !)) (look ! 13 refl)) (lit ! tt) (record { fits = fits })) (from ! (stop !)) (init ! 5 refl (tt, record { fits = fits })) $
           assigns ! (bin ! (load ! (from ! (fld ! refl (stop !))) (look-in ! 15 (sub ! 0 refl (whole !)))) (load ! (from ! (stop !)) (look ! 5 refl)) tt) (from ! (stop !)) (init ! 3 refl (tt, tt)) $
           rewrite ! 3 (λ (p : ℕ). ‵ (fat fullShare tyPtr l₇ 0 (vptr b p))) (sym (place-is 40 o i)) refl $
-          opens-slice ! tt D.the-row ys b o $ elem-out ! D.the-row (Is D.the-row) (shows 𝓤 H A D.the-row) (LL.vals D.the-type D′.the-laws) (LL.tells D.the-type D′.the-laws) fullShare ys i d b o within (λ _.
+          opens-slice ! tt D.the-row ys b o $
+          elem-out ! D.the-row (Is D.the-row) (shows 𝓤 H A D.the-row) (LL.vals D.the-type D′.the-laws) (LL.tells D.the-type D′.the-laws) fullShare ys i d b o within (λ _.
           -- [log[at]; what it owns; the others; the open borrow; obs; auth; _7; …]
           assigns-last ! (of-opd ! (load ! (from ! (stop !)) (look ! 14 refl))) (from ! (hop ! (look ! 6 refl) (stop !))) (store-raw ! 0 refl typed) $
           exec ! C Λ (En l₀ l₁ l₂ l₃ l₄ l₅ l₆ l₇) parts.t-4 (atRet (En l₀ l₁ l₂ l₃ l₄ l₅ l₆ l₇) Post) $
-          move ! (1 ∷ []) $ drop ! $ owned ! D.the-row (Is D.the-row) (LL.makes D.the-type D′.the-plain 𝓤 H A) d _ gd $ move ! (1 ∷ 0 ∷ []) $ elem-put ! D.the-row fullShare ys i d (mach ∷ []) b o within $
+          move ! (1 ∷ []) $ drop ! $ owned ! D.the-row (Is D.the-row) (LL.makes D.the-type D′.the-plain 𝓤 H A) d _ gd $ move ! (1 ∷ 0 ∷ []) $
+          elem-put ! D.the-row fullShare ys i d (mach ∷ []) b o within $
           closes-slice ! tt D.the-row ys (set ys i d) (length-set ys i d) b o $ forget ! 3 refl $ forget ! 5 refl $
           by ! (tail l₀ l₁ l₂ l₃ l₄ l₅ l₆ l₇ (set ys i d) (ltb i (length ys)) refl (length-set ys i d))))
           (λ past. skips ! $ by ! (tail l₀ l₁ l₂ l₃ l₄ l₅ l₆ l₇ ys (ltb i (length ys)) (sym (set-out ys i d (nltb→le i (length ys) past))) refl))))))))))

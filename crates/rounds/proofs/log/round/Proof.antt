@@ -191,24 +191,30 @@ module _ {M : Type 1} (𝓤 : URA M) (H : Heap 𝓤) (A : Atoms 𝓤) (W : Given
     asks-front l δ ν =
         qed W (‵ (flft (ν ∷ []) fullShare) ∷ ‵ (MutSlice (named 0) (ν ∷ []) u64 .own (w l δ (zeros N)) (sliceVal (l, 0) (length (zeros N)) ∷ [])) ∷ []) ∵
         suffices ! (onEntry 𝓤 H A round-front.signature (ν ∷ [], tt) (fullShare, tt) (left, (right, (w l δ (zeros N), (length ys, tt)))) (store left ∷ [], (store right ∷ [], (sliceVal (l, 0) (length (zeros N)) ∷ [], (vint w64 (length ys) ∷ [], tt))))) (∗emp 𝓤 _) $
-        nothing ! $ move ! (1 ∷ 0 ∷ []) $ join ! $ frame ! $ nothing ! $ owned ! usize (Is usize) (uint-makes 𝓤 H A W w64) (length ys) _ (refl, gn .0) $ fjoin ! $ move ! (1 ∷ 0 ∷ []) $ fjoin ! $
-        owned ! S.the-row (Is S.the-row) (LL.makes S.the-type S′.the-plain 𝓤 H A) right _ gr $ fjoin ! $ owned ! S.the-row (Is S.the-row) (LL.makes S.the-type S′.the-plain 𝓤 H A) left _ gl $ fjoin ! $ done !
+        nothing ! $ move ! (1 ∷ 0 ∷ []) $ join ! $ frame ! $ nothing ! $
+        owned ! usize (Is usize) (uint-makes 𝓤 H A W w64) (length ys) _ (refl, gn .0) $ fjoin ! $ move ! (1 ∷ 0 ∷ []) $ fjoin ! $
+        owned ! S.the-row (Is S.the-row) (LL.makes S.the-type S′.the-plain 𝓤 H A) right _ gr $ fjoin ! $
+        owned ! S.the-row (Is S.the-row) (LL.makes S.the-type S′.the-plain 𝓤 H A) left _ gl $ fjoin ! $ done !
 
     asks-copy : (l : ℕ) (δ : GName) (ν : ℕ) (zs : List ℕ) (n : ℕ) → n < 2 ^ 64
         → ent 𝓤 (sep 𝓤 (sep 𝓤 (A .lft κ q) (sep 𝓤 (A .lft (ν ∷ []) fullShare) (sem 𝓤 H A ftrue))) (sep 𝓤 (sem 𝓤 H A Own) (sem 𝓤 H A (ShrSlice (named 1) (ν ∷ []) u64 .own (w l δ zs) (sliceVal (l, 0) (length zs) ∷ [])))))
         (CopyOut 𝓤 H A mem′ run .pre (to-copy l δ ν zs n))
     asks-copy l δ ν zs n fits =
         qed W ((‵ (flft κ q) ⊛ ‵ (flft (ν ∷ []) fullShare) ⊛ ‵ ftrue) ∷ ‵ Own ∷ ‵ (ShrSlice (named 1) (ν ∷ []) u64 .own (w l δ zs) (sliceVal (l, 0) (length zs) ∷ [])) ∷ []) ∵
-        suffices ! (onEntry 𝓤 H A copy-out.signature (κ, (ν ∷ [], tt)) (q, (fullShare, tt)) (x, (w l δ zs, (n, tt))) (s ∷ [], (sliceVal (l, 0) (length zs) ∷ [], (vint w64 n ∷ [], tt)))) (∗emp 𝓤 _) $ frame ! $
-        nothing ! $ owned ! usize (Is usize) (uint-makes 𝓤 H A W w64) n _ (refl, fits) $ fjoin ! $ move ! (2 ∷ 0 ∷ []) $ fjoin ! $ move ! (1 ∷ 0 ∷ []) $ fjoin ! $ done !
+        suffices ! (onEntry 𝓤 H A copy-out.signature (κ, (ν ∷ [], tt)) (q, (fullShare, tt)) (x, (w l δ zs, (n, tt))) (s ∷ [], (sliceVal (l, 0) (length zs) ∷ [], (vint w64 n ∷ [], tt)))) (∗emp 𝓤 _) $
+        frame ! $
+        nothing ! $ owned ! usize (Is usize) (uint-makes 𝓤 H A W w64) n _ (refl, fits) $ fjoin ! $ move ! (2 ∷ 0 ∷ []) $ fjoin ! $
+        move ! (1 ∷ 0 ∷ []) $ fjoin ! $ done !
 
     exits : (r : Met) (zs : List Delivery) → Is R.the-row r (result r ∷ []) → (r ≡ met left right (length ys)) × (zs ≡ metLent left right ys) → length zs ≡ length ys
         → ent 𝓤 (⋆ 𝓤 H A (‵ (flft κ q) ∷ ‵ (finally D.the-row γ zs) ∷ [])) (Post (result r))
     exits r zs is e l =
         qed W (‵ (flft κ q) ∷ ‵ (finally D.the-row γ zs) ∷ []) ∵
-        suffices ! _ (ends-at 𝓤 H A round.ended stayed (round.clauses 𝓤 H A mem′ run) W (((κ, tt), (q, tt), tt, a, vals), tt) (result r) r (tt, (tt, (zs, tt))) (tt, (tt, (l, tt)))) $ says ! e $
+        suffices ! _ (ends-at 𝓤 H A round.ended stayed (round.clauses 𝓤 H A mem′ run) W (((κ, tt), (q, tt), tt, a, vals), tt) (result r) r (tt, (tt, (zs, tt))) (tt, (tt, (l, tt)))) $
+        says ! e $
         nothing ! $ move ! (1 ∷ 0 ∷ []) $ join ! $ frame ! $ nothing ! $ move ! (1 ∷ 0 ∷ []) $ fjoin ! $
-        owned ! S.the-row (Is S.the-row) (LL.makes S.the-type S′.the-plain 𝓤 H A) right _ gr $ fjoin ! $ owned ! S.the-row (Is S.the-row) (LL.makes S.the-type S′.the-plain 𝓤 H A) left _ gl $ fjoin ! $ frame ! $
+        owned ! S.the-row (Is S.the-row) (LL.makes S.the-type S′.the-plain 𝓤 H A) right _ gr $ fjoin ! $
+        owned ! S.the-row (Is S.the-row) (LL.makes S.the-type S′.the-plain 𝓤 H A) left _ gl $ fjoin ! $ frame ! $
         owned ! R.the-row (Is R.the-row) (LL.makes R.the-type R′.the-plain 𝓤 H A) r _ is $ done !
 
     module _ (C : Calls 𝓤 H) (Λ : Loops 𝓤 H) (fm : FmC 𝓤 H (W .laws) C) (front : Triple 𝓤 (C #round-front) (RoundFront 𝓤 H A mem′ run)) (out : Triple 𝓤 (C #copy-out) (CopyOut 𝓤 H A mem′ run)) where
@@ -240,22 +246,28 @@ module _ {M : Type 1} (𝓤 : URA M) (H : Heap 𝓤) (A : Atoms 𝓤) (W : Given
             lft-new ! tt (λ ν. move ! (1 ∷ []) $ use1 W (‵ (row u64 fullShare zs l₄ 0)) (whole-out 𝓤 H A W u64 zs l₄ 0) $ feqI ! ℕ (length zs) (length zs) refl $ fjoin ! $
             use1 W (later (some (λ (δ : GName). ‵ (ShrSlice (named 1) (ν ∷ []) u64 .own (w l₄ δ zs) (sliceVal (l₄, 0) (length zs) ∷ [])) ⊛ ‵ (flent (ν ∷ []) (arr-parts (shares u64) (length zs) .part fullShare zs l₄ 0)))))
             (lends-shr-slice 𝓤 H A W u64 (named 1) (ν ∷ []) fullShare zs l₄ 0 (subst (Room u64) (sym n-is) gN)) $ await ! tt $ pick ! (λ δ. split ! $
-            nothing ! $ move ! (3 ∷ 0 ∷ []) $ join ! $ move ! (3 ∷ 0 ∷ []) $ join ! $ move ! (0 ∷ 3 ∷ 1 ∷ []) $ use3 W (raw (CopyOut 𝓤 H A mem′ run .pre (to-copy l₄ δ ν zs (r .deliveries)))) (asks-copy l₄ δ ν zs (r .deliveries) fits) $
+            nothing ! $ move ! (3 ∷ 0 ∷ []) $ join ! $ move ! (3 ∷ 0 ∷ []) $ join ! $ move ! (0 ∷ 3 ∷ 1 ∷ []) $
+            use3 W (raw (CopyOut 𝓤 H A mem′ run .pre (to-copy l₄ δ ν zs (r .deliveries)))) (asks-copy l₄ δ ν zs (r .deliveries) fits) $
             calls-at ! fm (CopyOut 𝓤 H A mem′ run) out (to-copy l₄ δ ν zs (r .deliveries))
             (and-then ! (load ! (from ! (stop !)) (look ! 6 refl)) (and-then ! (load ! (from ! (stop !)) (look ! 2 refl)) (and-then ! (load ! (from ! (fld ! refl (stop !))) (look-in ! 18 (sub ! 3 refl (whole !)))) (no-more !)))) (λ v.
             use1 W (later (some (λ (u : Unit {0}). ((‵ (flft κ q) ⊛ ‵ (flft (ν ∷ []) fullShare) ⊛ ‵ ftrue) ⊛ ‵ (unit .own u (v ∷ []))) ⊛ raw (ensured 𝓤 H A copy-out.ended (copy-out.clauses 𝓤 H A mem′ run) (κ, (ν ∷ [], tt)) (x, (w l₄ δ zs, (r .deliveries, tt))) tt u)))) (id⊢ 𝓤 _) $
             await ! tt $ pick ! (λ u. split ! $ move ! (1 ∷ []) $
-            use1 W (some (λ (ls : List Delivery × (Unit {0} × (Unit {0} × Unit {0}))). ‵ (lasts copy-out.ended (κ, (ν ∷ [], tt)) (x, (w l₄ δ zs, (r .deliveries, tt))) ls) ⊛ raw (fact 𝓤 (ls .0 ≡ copied (r .deliveries) zs ys)))) (id⊢ 𝓤 _) $ pick ! (λ ls.
-            split ! $ move ! (1 ∷ []) $ heard ! (ls .0 ≡ copied (r .deliveries) zs ys) (λ e. fsplit ! $ fsplit ! $ move ! (1 ∷ []) $ feqL ! (λ l. move ! (1 ∷ []) $ drop ! $ move ! (1 ∷ []) $ split ! $ move ! (1 ∷ []) $ feqL ! (λ is-unit.
+            use1 W (some (λ (ls : List Delivery × (Unit {0} × (Unit {0} × Unit {0}))). ‵ (lasts copy-out.ended (κ, (ν ∷ [], tt)) (x, (w l₄ δ zs, (r .deliveries, tt))) ls) ⊛ raw (fact 𝓤 (ls .0 ≡ copied (r .deliveries) zs ys)))) (id⊢ 𝓤 _) $
+            pick ! (λ ls.
+            split ! $ move ! (1 ∷ []) $
+            heard ! (ls .0 ≡ copied (r .deliveries) zs ys) (λ e. fsplit ! $ fsplit ! $ move ! (1 ∷ []) $ feqL ! (λ l. move ! (1 ∷ []) $ drop ! $ move ! (1 ∷ []) $ split ! $ move ! (1 ∷ []) $ feqL ! (λ is-unit.
             land ! (from ! (stop !)) (init ! 11 refl (subst (λ (u : Val). Holds (hasTy tyUnit u) × WT u) (sym (ap only is-unit)) (tt, tt))) $
             -- the lifetime is ended, and the words are the local's room again
             split ! $ move ! (1 ∷ []) $ split ! $ move ! (1 ∷ []) $ drop ! $ lft-end ! tt $ move ! (0 ∷ 3 ∷ []) $ lent-back ! tt $
             use1 W (‵ (froom (tyArray word N) l₄ 0)) (subst (λ (m : ℕ). ent 𝓤 (sem 𝓤 H A (arr-parts (shares u64) (length zs) .part fullShare zs l₄ 0)) (H .room (tyArray word m) l₄ 0)) n-is (array-room 𝓤 H A W u64 (length zs) zs l₄)) $
             -- [_4; the token; the last list; _13; …; _12; …; _11; …; _10; …; _9; …; _8; …; _7; …; _6; …; _5; …; that _4 dies; _3; …; _2; …; _1; …; _0; …]
             assigns ! (of-opd ! (load ! (from ! (stop !)) (look ! 19 refl))) (from ! (stop !)) (init ! 28 refl (typed r is)) $
-            returns ! (look ! 28 refl) $ forget ! 3 refl $ forget ! 5 refl $ forget ! 7 refl $ forget ! 9 refl $ forget ! 11 refl $ forget ! 19 refl $ forget ! 22 refl $ forget ! 24 refl $ forget ! 26 refl $ forget ! 28 refl $
-            move ! (28 ∷ 29 ∷ []) $ free1 ! $ move ! (26 ∷ 27 ∷ []) $ free1 ! $ move ! (24 ∷ 25 ∷ []) $ free1 ! $ move ! (22 ∷ 23 ∷ []) $ free1 ! $ move ! (0 ∷ 21 ∷ []) $ free1 ! $ move ! (18 ∷ 19 ∷ []) $ free1 ! $ move ! (16 ∷ 17 ∷ []) $ free1 ! $
-            move ! (14 ∷ 15 ∷ []) $ free1 ! $ move ! (12 ∷ 13 ∷ []) $ free1 ! $ move ! (10 ∷ 11 ∷ []) $ free1 ! $ move ! (8 ∷ 9 ∷ []) $ free1 ! $ move ! (6 ∷ 7 ∷ []) $ free1 ! $ move ! (4 ∷ 5 ∷ []) $ free1 ! $ move ! (2 ∷ 3 ∷ []) $ free1 ! $ free0 ! $
+            returns ! (look ! 28 refl) $ forget ! 3 refl $ forget ! 5 refl $ forget ! 7 refl $ forget ! 9 refl $ forget ! 11 refl $ forget ! 19 refl $
+            forget ! 22 refl $ forget ! 24 refl $ forget ! 26 refl $ forget ! 28 refl $
+            move ! (28 ∷ 29 ∷ []) $ free1 ! $ move ! (26 ∷ 27 ∷ []) $ free1 ! $ move ! (24 ∷ 25 ∷ []) $ free1 ! $ move ! (22 ∷ 23 ∷ []) $ free1 ! $
+            move ! (0 ∷ 21 ∷ []) $ free1 ! $ move ! (18 ∷ 19 ∷ []) $ free1 ! $ move ! (16 ∷ 17 ∷ []) $ free1 ! $
+            move ! (14 ∷ 15 ∷ []) $ free1 ! $ move ! (12 ∷ 13 ∷ []) $ free1 ! $ move ! (10 ∷ 11 ∷ []) $ free1 ! $ move ! (8 ∷ 9 ∷ []) $ free1 ! $
+            move ! (6 ∷ 7 ∷ []) $ free1 ! $ move ! (4 ∷ 5 ∷ []) $ free1 ! $ move ! (2 ∷ 3 ∷ []) $ free1 ! $ free0 ! $
             by ! (exits r (ls .0) is (r-is, e ∙ copied-is) l)))))))))
           where
             fits : r .deliveries < 2 ^ 64
@@ -271,8 +283,11 @@ module _ {M : Type 1} (𝓤 : URA M) (H : Heap 𝓤) (A : Atoms 𝓤) (W : Given
       walk =
           qed W ((‵ (flft κ q) ⊛ ‵ ftrue) ∷ ‵ (owns (S.the-row ∷ S.the-row ∷ MutSlice (named 0) κ D.the-row ∷ []) a vals) ∷ []) ∵ enter ! C Λ (spelled N) (store left ∷ store right ∷ s ∷ []) _ $
           alloc1 ! (λ l₀. alloc1 ! (λ l₁. alloc1 ! (λ l₂. alloc1 ! (λ l₃. alloc1 ! (λ l₄. alloc1 ! (λ l₅. alloc1 ! (λ l₆. alloc1 ! (λ l₇. alloc1 ! (λ l₈. alloc1 ! (λ l₉. alloc1 ! (λ l₁₀. alloc1 ! (λ l₁₁. alloc1 ! (λ l₁₂. alloc1 ! (λ l₁₃. alloc0 ! $ params1 ! $
-          pass1 ! (init ! 24 refl (LL.lawful S.the-type S′.the-laws 𝓤 H A W .typed left _ gl .0)) $ pass1 ! (init ! 22 refl (LL.lawful S.the-type S′.the-laws 𝓤 H A W .typed right _ gr .0)) $ pass1 ! (init ! 20 refl (tt, (tt, (record { fits = gn .0 }, tt)))) $ pass0 ! $
-          move ! (29 ∷ []) $ fsplit ! $ drop ! $ fsplit ! $ drop ! $ fsplit ! $ move ! (1 ∷ []) $ drop ! $ move ! (29 ∷ []) $ split ! $ move ! (1 ∷ []) $ drop ! $
+          pass1 ! (init ! 24 refl (LL.lawful S.the-type S′.the-laws 𝓤 H A W .typed left _ gl .0)) $
+          pass1 ! (init ! 22 refl (LL.lawful S.the-type S′.the-laws 𝓤 H A W .typed right _ gr .0)) $
+          pass1 ! (init ! 20 refl (tt, (tt, (record { fits = gn .0 }, tt)))) $ pass0 ! $
+          move ! (29 ∷ []) $ fsplit ! $ drop ! $ fsplit ! $ drop ! $ fsplit ! $ move ! (1 ∷ []) $ drop ! $ move ! (29 ∷ []) $ split ! $
+          move ! (1 ∷ []) $ drop ! $
           -- [the token; what the records' borrow owns; _13; …; _12; …; _11; …; _10; …; _9; …; _8; …; _7; …; _6; …; _5; …; _4; …; _3; …; _2; …; _1; …; _0; …]
           assigns ! (rep ! N (lit ! tt)) (from ! (stop !)) (init ! 20 refl (array-lawful 𝓤 H A W u64 (uint-lawful 𝓤 H A W w64) N .typed (zeros N) _ (zeros-are N) .0)) $
           assigns ! (addr ! (from ! (stop !))) (from ! (stop !)) (init ! 16 refl (tt, tt)) $
@@ -280,7 +295,8 @@ module _ {M : Type 1} (𝓤 : URA M) (H : Heap 𝓤) (A : Atoms 𝓤) (W : Given
           rewrite ! 14 (λ (m : ℕ). ‵ (fat fullShare words-mut l₇ 0 (sliceVal (l₄, 0) m))) (sym (length-zeros N)) refl $
           assigns ! (of-opd ! (load ! (from ! (fld ! refl (stop !))) (look-in ! 22 (sub ! 1 refl (whole !))))) (from ! (stop !)) (init ! 12 refl (tt, record { fits = gn .0 })) $
           -- the words are lent for a lifetime ν of the call
-          owned ! (Array u64 N) (Is (Array u64 N)) (array-makes 𝓤 H A W u64 (uint-makes 𝓤 H A W w64) N) (zeros N) _ (zeros-are N) $ move ! (21 ∷ 0 ∷ []) $ use2 W (‵ (cells (mem u64) (zeros N) l₄ 0)) (array-cells 𝓤 H A W u64 N (zeros N) l₄ tt _) $
+          owned ! (Array u64 N) (Is (Array u64 N)) (array-makes 𝓤 H A W u64 (uint-makes 𝓤 H A W w64) N) (zeros N) _ (zeros-are N) $
+          move ! (21 ∷ 0 ∷ []) $ use2 W (‵ (cells (mem u64) (zeros N) l₄ 0)) (array-cells 𝓤 H A W u64 N (zeros N) l₄ tt _) $
           lft-new ! tt (λ ν. move ! (1 ∷ []) $
           use1 W (later (some (λ (δ : GName). ‵ (MutSlice (named 0) (ν ∷ []) u64 .own (w l₄ δ (zeros N)) (sliceVal (l₄, 0) (length (zeros N)) ∷ [])) ⊛ ‵ (flent (ν ∷ []) (Held u64 (length (zeros N)) l₄ 0 δ)))))
           (lends-slice 𝓤 H A W u64 (named 0) (ν ∷ []) (zeros N) l₄ 0 (subst (Room u64) (sym (length-zeros N)) gN)) $ await ! tt $ pick ! (λ δ. split ! $
@@ -290,13 +306,18 @@ module _ {M : Type 1} (𝓤 : URA M) (H : Heap 𝓤) (A : Atoms 𝓤) (W : Given
           use1 W (later (some (λ (r : Met). ((‵ (flft (ν ∷ []) fullShare) ⊛ ‵ ftrue) ⊛ ‵ (R.the-row .own r (v ∷ []))) ⊛ raw (ensured 𝓤 H A round-front.ended (round-front.clauses 𝓤 H A mem′ run) (ν ∷ [], tt) (left, (right, (w l₄ δ (zeros N), (length ys, tt)))) tt r)))) (id⊢ 𝓤 _) $
           await ! tt $ pick ! (λ r. split ! $ move ! (1 ∷ []) $
           use1 W (some (λ (ls : Unit {0} × (Unit {0} × (List ℕ × (Unit {0} × Unit {0})))). ‵ (lasts round-front.ended (ν ∷ [], tt) (left, (right, (w l₄ δ (zeros N), (length ys, tt)))) ls)
-          ⊛ raw (fact 𝓤 ((r ≡ met left right (frontRecords (zeros N) (length ys))) × (ls .1 .1 .0 ≡ frontWords left right (zeros N) (length ys)))))) (id⊢ 𝓤 _) $ pick ! (λ ls.
-          split ! $ move ! (1 ∷ []) $ heard ! ((r ≡ met left right (frontRecords (zeros N) (length ys))) × (ls .1 .1 .0 ≡ frontWords left right (zeros N) (length ys))) (λ e.
-          fsplit ! $ drop ! $ fsplit ! $ drop ! $ fsplit ! $ fsplit ! $ move ! (1 ∷ []) $ feqL ! (λ l. move ! (1 ∷ []) $ drop ! $ move ! (1 ∷ []) $ split ! $ move ! (1 ∷ []) $ peeks ! R.the-row (Is R.the-row) (shows 𝓤 H A R.the-row) r (v ∷ []) (λ is.
-          land ! (from ! (stop !)) (init ! 22 refl (LL.lawful R.the-type R′.the-laws 𝓤 H A W .typed r _ is .0)) $ rewrite ! 22 (λ (u : Val). ‵ (fat fullShare R′.mir l₅ 0 u)) (ap only (LL.tells R.the-type R′.the-laws r (v ∷ []) is)) refl $ drop ! $
+          ⊛ raw (fact 𝓤 ((r ≡ met left right (frontRecords (zeros N) (length ys))) × (ls .1 .1 .0 ≡ frontWords left right (zeros N) (length ys)))))) (id⊢ 𝓤 _) $
+          pick ! (λ ls.
+          split ! $ move ! (1 ∷ []) $
+          heard ! ((r ≡ met left right (frontRecords (zeros N) (length ys))) × (ls .1 .1 .0 ≡ frontWords left right (zeros N) (length ys))) (λ e.
+          fsplit ! $ drop ! $ fsplit ! $ drop ! $ fsplit ! $ fsplit ! $ move ! (1 ∷ []) $
+          feqL ! (λ l. move ! (1 ∷ []) $ drop ! $ move ! (1 ∷ []) $ split ! $ move ! (1 ∷ []) $ peeks ! R.the-row (Is R.the-row) (shows 𝓤 H A R.the-row) r (v ∷ []) (λ is.
+          land ! (from ! (stop !)) (init ! 22 refl (LL.lawful R.the-type R′.the-laws 𝓤 H A W .typed r _ is .0)) $
+          rewrite ! 22 (λ (u : Val). ‵ (fat fullShare R′.mir l₅ 0 u)) (ap only (LL.tells R.the-type R′.the-laws r (v ∷ []) is)) refl $ drop ! $
           -- the lifetime is ended, and the words come back
           split ! $ move ! (1 ∷ []) $ drop ! $ lft-end ! tt $ move ! (0 ∷ 2 ∷ 1 ∷ []) $
-          use3 W (later (‵ (Arr (mem u64) (length (zeros N)) .lies (ls .1 .1 .0) l₄ 0))) (slice-back 𝓤 H A W u64 (ν ∷ []) δ (ls .1 .1 .0) (length (zeros N)) l₄ 0) $ await ! tt $ fsplit ! $ drop ! $
+          use3 W (later (‵ (Arr (mem u64) (length (zeros N)) .lies (ls .1 .1 .0) l₄ 0))) (slice-back 𝓤 H A W u64 (ν ∷ []) δ (ls .1 .1 .0) (length (zeros N)) l₄ 0) $
+          await ! tt $ fsplit ! $ drop ! $
           forget ! 13 refl $ forget ! 15 refl $ forget ! 17 refl $
           by ! (ends l₀ l₁ l₂ l₃ l₄ l₅ l₆ l₇ l₈ l₉ l₁₀ l₁₁ l₁₂ l₁₃ r (ls .1 .1 .0) (subst (Is R.the-row r) (LL.tells R.the-type R′.the-laws r (v ∷ []) is) is) (l ∙ length-zeros N) (e .0 ∙ met-front left right (zeros N) long (length ys)) (e .1))))))))))))))))))))))))
 

@@ -186,21 +186,25 @@ module _ {M : Type 1} (𝓤 : URA M) (H : Heap 𝓤) (A : Atoms 𝓤) (W : Given
         qed W (‵ (flft (ν ∷ []) fullShare) ∷ ‵ (MutSlice (named 0) (ν ∷ []) D.the-row .own (w l δ (blank N)) (sliceVal (l, 0) (length (blank N)) ∷ [])) ∷ []) ∵
         suffices ! (onEntry 𝓤 H A round.signature (ν ∷ [], tt) (fullShare, tt) (left, (right, (w l δ (blank N), tt))) (store left ∷ [], (store right ∷ [], (sliceVal (l, 0) (length (blank N)) ∷ [], tt)))) (∗emp 𝓤 _) $
         nothing ! $ move ! (1 ∷ 0 ∷ []) $ join ! $ frame ! $ nothing ! $ move ! (1 ∷ 0 ∷ []) $ fjoin ! $
-        owned ! S.the-row (Is S.the-row) (LL.makes S.the-type S′.the-plain 𝓤 H A) right _ gr $ fjoin ! $ owned ! S.the-row (Is S.the-row) (LL.makes S.the-type S′.the-plain 𝓤 H A) left _ gl $ fjoin ! $ done !
+        owned ! S.the-row (Is S.the-row) (LL.makes S.the-type S′.the-plain 𝓤 H A) right _ gr $ fjoin ! $
+        owned ! S.the-row (Is S.the-row) (LL.makes S.the-type S′.the-plain 𝓤 H A) left _ gl $ fjoin ! $ done !
 
     asks-get : (l : ℕ) (δ : GName) (ν : ℕ) (zs : List Delivery) → ent 𝓤 (sep 𝓤 (A .lft (ν ∷ []) fullShare) (sem 𝓤 H A (ShrSlice (named 0) (ν ∷ []) D.the-row .own (w l δ zs) (sliceVal (l, 0) (length zs) ∷ []))))
         (Get 𝓤 H A mem′ run .pre (to-get l δ ν zs))
     asks-get l δ ν zs =
         qed W (‵ (flft (ν ∷ []) fullShare) ∷ ‵ (ShrSlice (named 0) (ν ∷ []) D.the-row .own (w l δ zs) (sliceVal (l, 0) (length zs) ∷ [])) ∷ []) ∵
         suffices ! (onEntry 𝓤 H A get.signature (ν ∷ [], tt) (fullShare, tt) (w l δ zs, (i, tt)) (sliceVal (l, 0) (length zs) ∷ [], (vint w64 i ∷ [], tt))) (∗emp 𝓤 _) $
-        nothing ! $ move ! (1 ∷ 0 ∷ []) $ join ! $ frame ! $ nothing ! $ owned ! usize (Is usize) (uint-makes 𝓤 H A W w64) i _ (refl, gi) $ fjoin ! $ move ! (1 ∷ 0 ∷ []) $ fjoin ! $ done !
+        nothing ! $ move ! (1 ∷ 0 ∷ []) $ join ! $ frame ! $ nothing ! $ owned ! usize (Is usize) (uint-makes 𝓤 H A W w64) i _ (refl, gi) $ fjoin ! $
+        move ! (1 ∷ 0 ∷ []) $ fjoin ! $ done !
 
     exits : (r : Met) (d : Delivery) → Is X.the-row (both r d) (told (both r d) ∷ []) → both r d ≡ recorded left right i → ent 𝓤 (⋆ 𝓤 H A []) (Post (told (both r d)))
     exits r d is e =
         qed W [] ∵
-        suffices ! _ (ends-at 𝓤 H A round-record.ended stayed (round-record.clauses 𝓤 H A mem′ run) W ((tt, tt, tt, a, vals), tt) (told (both r d)) (both r d) (tt, (tt, (tt, tt))) (tt, (tt, (tt, tt)))) $ says ! e $
+        suffices ! _ (ends-at 𝓤 H A round-record.ended stayed (round-record.clauses 𝓤 H A mem′ run) W ((tt, tt, tt, a, vals), tt) (told (both r d)) (both r d) (tt, (tt, (tt, tt))) (tt, (tt, (tt, tt)))) $
+        says ! e $
         nothing ! $ frame ! $ nothing ! $ owned ! usize (Is usize) (uint-makes 𝓤 H A W w64) i _ (refl, gi) $ fjoin ! $
-        owned ! S.the-row (Is S.the-row) (LL.makes S.the-type S′.the-plain 𝓤 H A) right _ gr $ fjoin ! $ owned ! S.the-row (Is S.the-row) (LL.makes S.the-type S′.the-plain 𝓤 H A) left _ gl $ fjoin ! $ frame ! $
+        owned ! S.the-row (Is S.the-row) (LL.makes S.the-type S′.the-plain 𝓤 H A) right _ gr $ fjoin ! $
+        owned ! S.the-row (Is S.the-row) (LL.makes S.the-type S′.the-plain 𝓤 H A) left _ gl $ fjoin ! $ frame ! $
         owned ! X.the-row (Is X.the-row) (LL.makes X.the-type X′.the-plain 𝓤 H A) (both r d) _ is $ done !
 
     module _ (C : Calls 𝓤 H) (Λ : Loops 𝓤 H) (fm : FmC 𝓤 H (W .laws) C) (runs : Triple 𝓤 (C #round) (Round 𝓤 H A mem′ run)) (reads : Triple 𝓤 (C #get) (Get 𝓤 H A mem′ run)) where
@@ -226,23 +230,30 @@ module _ {M : Type 1} (𝓤 : URA M) (H : Heap 𝓤) (A : Atoms 𝓤) (W : Given
             -- the records are shared for a lifetime ν of the call
             lft-new ! tt (λ ν. move ! (1 ∷ []) $ use1 W (‵ (row D.the-row fullShare zs l₄ 0)) (whole-out 𝓤 H A W D.the-row zs l₄ 0) $ feqI ! ℕ (length zs) (length zs) refl $ fjoin ! $
             use1 W (later (some (λ (δ : GName). ‵ (ShrSlice (named 0) (ν ∷ []) D.the-row .own (w l₄ δ zs) (sliceVal (l₄, 0) (length zs) ∷ [])) ⊛ ‵ (flent (ν ∷ []) (arr-parts (shares D.the-row) (length zs) .part fullShare zs l₄ 0)))))
-            (lends-shr-slice 𝓤 H A W D.the-row (named 0) (ν ∷ []) fullShare zs l₄ 0 (subst (Room D.the-row) (sym n-is) gN)) $ await ! tt $ pick ! (λ δ. split ! $
+            (lends-shr-slice 𝓤 H A W D.the-row (named 0) (ν ∷ []) fullShare zs l₄ 0 (subst (Room D.the-row) (sym n-is) gN)) $ await ! tt $
+            pick ! (λ δ. split ! $
             move ! (2 ∷ 0 ∷ []) $ use2 W (raw (Get 𝓤 H A mem′ run .pre (to-get l₄ δ ν zs))) (asks-get l₄ δ ν zs) $
             calls-at ! fm (Get 𝓤 H A mem′ run) reads (to-get l₄ δ ν zs)
             (and-then ! (load ! (from ! (stop !)) (look ! 2 refl)) (and-then ! (load ! (from ! (stop !)) (look ! 19 refl)) (no-more !))) (λ v.
             use1 W (later (some (λ (d : Delivery). ((‵ (flft (ν ∷ []) fullShare) ⊛ ‵ ftrue) ⊛ ‵ (D.the-row .own d (v ∷ []))) ⊛ raw (ensured 𝓤 H A get.ended (get.clauses 𝓤 H A mem′ run) (ν ∷ [], tt) (w l₄ δ zs, (i, tt)) tt d)))) (id⊢ 𝓤 _) $
             await ! tt $ pick ! (λ d. split ! $ move ! (1 ∷ []) $
-            use1 W (some (λ (ls : Unit {0} × (Unit {0} × Unit {0})). ‵ (lasts get.ended (ν ∷ [], tt) (w l₄ δ zs, (i, tt)) ls) ⊛ raw (fact 𝓤 (d ≡ getD zs i noDelivery)))) (id⊢ 𝓤 _) $ pick ! (λ ls.
-            split ! $ move ! (1 ∷ []) $ heard ! (d ≡ getD zs i noDelivery) (λ e. drop ! $ split ! $ move ! (1 ∷ []) $ peeks ! D.the-row (Is D.the-row) (shows 𝓤 H A D.the-row) d (v ∷ []) (λ gd.
-            land ! (from ! (stop !)) (init ! 15 refl (LL.lawful D.the-type D′.the-laws 𝓤 H A W .typed d _ gd .0)) $ rewrite ! 15 (λ (u : Val). ‵ (fat fullShare D′.mir l₆ 0 u)) (ap only (LL.tells D.the-type D′.the-laws d (v ∷ []) gd)) refl $ drop ! $
+            use1 W (some (λ (ls : Unit {0} × (Unit {0} × Unit {0})). ‵ (lasts get.ended (ν ∷ [], tt) (w l₄ δ zs, (i, tt)) ls) ⊛ raw (fact 𝓤 (d ≡ getD zs i noDelivery)))) (id⊢ 𝓤 _) $
+            pick ! (λ ls.
+            split ! $ move ! (1 ∷ []) $
+            heard ! (d ≡ getD zs i noDelivery) (λ e. drop ! $ split ! $ move ! (1 ∷ []) $ peeks ! D.the-row (Is D.the-row) (shows 𝓤 H A D.the-row) d (v ∷ []) (λ gd.
+            land ! (from ! (stop !)) (init ! 15 refl (LL.lawful D.the-type D′.the-laws 𝓤 H A W .typed d _ gd .0)) $
+            rewrite ! 15 (λ (u : Val). ‵ (fat fullShare D′.mir l₆ 0 u)) (ap only (LL.tells D.the-type D′.the-laws d (v ∷ []) gd)) refl $ drop ! $
             -- the lifetime is ended, and the records are the local's room again
             split ! $ move ! (1 ∷ []) $ drop ! $ lft-end ! tt $ lent-back ! tt $
             use1 W (‵ (froom (array N) l₄ 0)) (subst (λ (m : ℕ). ent 𝓤 (sem 𝓤 H A (arr-parts (shares D.the-row) (length zs) .part fullShare zs l₄ 0)) (H .room (array m) l₄ 0)) n-is (array-room 𝓤 H A W D.the-row (length zs) zs l₄)) $
             -- [_4; _12; …; _11; …; _10; …; _9; …; _8; …; _7; …; _6; …; _5; …; that _4 dies; _3; …; _2; …; _1; …; _0; …]
             assigns ! (agg ! (and-then ! (load ! (from ! (stop !)) (look ! 15 refl)) (and-then ! (load ! (from ! (stop !)) (look ! 13 refl)) (no-more !)))) (from ! (stop !)) (init ! 24 refl (typed d (known d gd))) $
-            returns ! (look ! 24 refl) $ forget ! 1 refl $ forget ! 3 refl $ forget ! 13 refl $ forget ! 15 refl $ forget ! 18 refl $ forget ! 20 refl $ forget ! 22 refl $ forget ! 24 refl $
-            move ! (24 ∷ 25 ∷ []) $ free1 ! $ move ! (22 ∷ 23 ∷ []) $ free1 ! $ move ! (20 ∷ 21 ∷ []) $ free1 ! $ move ! (18 ∷ 19 ∷ []) $ free1 ! $ move ! (0 ∷ 17 ∷ []) $ free1 ! $ move ! (14 ∷ 15 ∷ []) $ free1 ! $
-            move ! (12 ∷ 13 ∷ []) $ free1 ! $ move ! (10 ∷ 11 ∷ []) $ free1 ! $ move ! (8 ∷ 9 ∷ []) $ free1 ! $ move ! (6 ∷ 7 ∷ []) $ free1 ! $ move ! (4 ∷ 5 ∷ []) $ free1 ! $ move ! (2 ∷ 3 ∷ []) $ free1 ! $ free1 ! $ free0 ! $
+            returns ! (look ! 24 refl) $ forget ! 1 refl $ forget ! 3 refl $ forget ! 13 refl $ forget ! 15 refl $ forget ! 18 refl $
+            forget ! 20 refl $ forget ! 22 refl $ forget ! 24 refl $
+            move ! (24 ∷ 25 ∷ []) $ free1 ! $ move ! (22 ∷ 23 ∷ []) $ free1 ! $ move ! (20 ∷ 21 ∷ []) $ free1 ! $ move ! (18 ∷ 19 ∷ []) $ free1 ! $
+            move ! (0 ∷ 17 ∷ []) $ free1 ! $ move ! (14 ∷ 15 ∷ []) $ free1 ! $
+            move ! (12 ∷ 13 ∷ []) $ free1 ! $ move ! (10 ∷ 11 ∷ []) $ free1 ! $ move ! (8 ∷ 9 ∷ []) $ free1 ! $ move ! (6 ∷ 7 ∷ []) $ free1 ! $
+            move ! (4 ∷ 5 ∷ []) $ free1 ! $ move ! (2 ∷ 3 ∷ []) $ free1 ! $ free1 ! $ free0 ! $
             by ! (exits r d (known d gd) (recorded-is left right i N full r zs d r-is zs-are e)))))))))
           where
             N-fits : Fits w64 N
@@ -258,7 +269,9 @@ module _ {M : Type 1} (𝓤 : URA M) (H : Heap 𝓤) (A : Atoms 𝓤) (W : Given
       walk =
           qed W (‵ ftrue ∷ ‵ (owns (S.the-row ∷ S.the-row ∷ usize ∷ []) a vals) ∷ []) ∵ enter ! C Λ (spelled N) (store left ∷ store right ∷ vint w64 i ∷ []) _ $
           alloc1 ! (λ l₀. alloc1 ! (λ l₁. alloc1 ! (λ l₂. alloc1 ! (λ l₃. alloc1 ! (λ l₄. alloc1 ! (λ l₅. alloc1 ! (λ l₆. alloc1 ! (λ l₇. alloc1 ! (λ l₈. alloc1 ! (λ l₉. alloc1 ! (λ l₁₀. alloc1 ! (λ l₁₁. alloc1 ! (λ l₁₂. alloc0 ! $ params1 ! $
-          pass1 ! (init ! 22 refl (LL.lawful S.the-type S′.the-laws 𝓤 H A W .typed left _ gl .0)) $ pass1 ! (init ! 20 refl (LL.lawful S.the-type S′.the-laws 𝓤 H A W .typed right _ gr .0)) $ pass1 ! (init ! 18 refl (tt, record { fits = gi })) $ pass0 ! $
+          pass1 ! (init ! 22 refl (LL.lawful S.the-type S′.the-laws 𝓤 H A W .typed left _ gl .0)) $
+          pass1 ! (init ! 20 refl (LL.lawful S.the-type S′.the-laws 𝓤 H A W .typed right _ gr .0)) $
+          pass1 ! (init ! 18 refl (tt, record { fits = gi })) $ pass0 ! $
           move ! (27 ∷ []) $ drop ! $ move ! (26 ∷ []) $ drop ! $
           -- [_12; …; _11; …; _10; …; _9; …; _8; …; _7; …; _6; …; _5; …; _4; …; _3; …; _2; …; _1; …; _0; …]
           assigns ! (agg ! (and-then ! (lit ! tt) (and-then ! (lit ! tt) (and-then ! (lit ! tt) (and-then ! (lit ! tt) (no-more !)))))) (from ! (stop !)) (init ! 10 refl (LL.lawful K.the-type K′.the-laws 𝓤 H A W .typed noClaim _ none-claim .0)) $
@@ -272,7 +285,8 @@ module _ {M : Type 1} (𝓤 : URA M) (H : Heap 𝓤) (A : Atoms 𝓤) (W : Given
           move ! (17 ∷ 0 ∷ []) $ use2 W (‵ (cells (mem D.the-row) (blank N) l₄ 0)) (array-cells 𝓤 H A W D.the-row N (blank N) l₄ tt _) $
           lft-new ! tt (λ ν. move ! (1 ∷ []) $
           use1 W (later (some (λ (δ : GName). ‵ (MutSlice (named 0) (ν ∷ []) D.the-row .own (w l₄ δ (blank N)) (sliceVal (l₄, 0) (length (blank N)) ∷ [])) ⊛ ‵ (flent (ν ∷ []) (Held D.the-row (length (blank N)) l₄ 0 δ)))))
-          (lends-slice 𝓤 H A W D.the-row (named 0) (ν ∷ []) (blank N) l₄ 0 (subst (Room D.the-row) (sym (length-blank N)) gN)) $ await ! tt $ pick ! (λ δ. split ! $
+          (lends-slice 𝓤 H A W D.the-row (named 0) (ν ∷ []) (blank N) l₄ 0 (subst (Room D.the-row) (sym (length-blank N)) gN)) $ await ! tt $
+          pick ! (λ δ. split ! $
           move ! (2 ∷ 0 ∷ []) $ use2 W (raw (Round 𝓤 H A mem′ run .pre (to-round l₄ δ ν))) (asks-round l₄ δ ν) $
           calls-at ! fm (Round 𝓤 H A mem′ run) runs (to-round l₄ δ ν)
           (and-then ! (load ! (from ! (stop !)) (look ! 23 refl)) (and-then ! (load ! (from ! (stop !)) (look ! 21 refl)) (and-then ! (load ! (from ! (stop !)) (look ! 6 refl)) (no-more !)))) (λ v.
@@ -281,11 +295,14 @@ module _ {M : Type 1} (𝓤 : URA M) (H : Heap 𝓤) (A : Atoms 𝓤) (W : Given
           use1 W (some (λ (ls : Unit {0} × (Unit {0} × (List Delivery × Unit {0}))). ‵ (lasts round.ended (ν ∷ [], tt) (left, (right, (w l₄ δ (blank N), tt))) ls)
           ⊛ raw (fact 𝓤 ((r ≡ met left right (length (blank N))) × (ls .1 .1 .0 ≡ metLent left right (blank N)))))) (id⊢ 𝓤 _) $ pick ! (λ ls.
           split ! $ move ! (1 ∷ []) $ heard ! ((r ≡ met left right (length (blank N))) × (ls .1 .1 .0 ≡ metLent left right (blank N))) (λ e.
-          fsplit ! $ drop ! $ fsplit ! $ drop ! $ fsplit ! $ fsplit ! $ move ! (1 ∷ []) $ feqL ! (λ l. move ! (1 ∷ []) $ drop ! $ move ! (1 ∷ []) $ split ! $ move ! (1 ∷ []) $ peeks ! R.the-row (Is R.the-row) (shows 𝓤 H A R.the-row) r (v ∷ []) (λ is.
-          land ! (from ! (stop !)) (init ! 18 refl (LL.lawful R.the-type R′.the-laws 𝓤 H A W .typed r _ is .0)) $ rewrite ! 18 (λ (u : Val). ‵ (fat fullShare R′.mir l₅ 0 u)) (ap only (LL.tells R.the-type R′.the-laws r (v ∷ []) is)) refl $ drop ! $
+          fsplit ! $ drop ! $ fsplit ! $ drop ! $ fsplit ! $ fsplit ! $ move ! (1 ∷ []) $
+          feqL ! (λ l. move ! (1 ∷ []) $ drop ! $ move ! (1 ∷ []) $ split ! $ move ! (1 ∷ []) $ peeks ! R.the-row (Is R.the-row) (shows 𝓤 H A R.the-row) r (v ∷ []) (λ is.
+          land ! (from ! (stop !)) (init ! 18 refl (LL.lawful R.the-type R′.the-laws 𝓤 H A W .typed r _ is .0)) $
+          rewrite ! 18 (λ (u : Val). ‵ (fat fullShare R′.mir l₅ 0 u)) (ap only (LL.tells R.the-type R′.the-laws r (v ∷ []) is)) refl $ drop ! $
           -- the lifetime is ended, and the records come back
           split ! $ move ! (1 ∷ []) $ drop ! $ lft-end ! tt $ move ! (0 ∷ 2 ∷ 1 ∷ []) $
-          use3 W (later (‵ (Arr (mem D.the-row) (length (blank N)) .lies (ls .1 .1 .0) l₄ 0))) (slice-back 𝓤 H A W D.the-row (ν ∷ []) δ (ls .1 .1 .0) (length (blank N)) l₄ 0) $ await ! tt $ fsplit ! $ drop ! $
+          use3 W (later (‵ (Arr (mem D.the-row) (length (blank N)) .lies (ls .1 .1 .0) l₄ 0))) (slice-back 𝓤 H A W D.the-row (ν ∷ []) δ (ls .1 .1 .0) (length (blank N)) l₄ 0) $
+          await ! tt $ fsplit ! $ drop ! $
           forget ! 5 refl $ forget ! 7 refl $ forget ! 9 refl $ forget ! 11 refl $
           by ! (ends l₀ l₁ l₂ l₃ l₄ l₅ l₆ l₇ l₈ l₉ l₁₀ l₁₁ l₁₂ r (ls .1 .1 .0) (subst (Is R.the-row r) (LL.tells R.the-type R′.the-laws r (v ∷ []) is) is) (l ∙ length-blank N) (e .0) (e .1)))))))))))))))))))))))
 
