@@ -1,8 +1,9 @@
 -- The reply to one claim: `hear`, `own`, `answer`, `reply` and `falseMatch` of Reply, over rising keys and without positions. In order: the keys after
 -- hearing; own is the claim of the keys from lo to hi; the helper has something to tell; the view of an answer (`Answered`), one constructor a case with
--- its facts in terms of spans; every claim of a reply is the claim of a span of the store; a match that is not false.
+-- its facts in terms of spans; every claim of a reply is the claim of a span of the store; a match that is not false; an answer by the
+-- keys from lo to hi alone.
 -- What is added is spoken of as `adding`, save in `adding-mem` and the two laws before it. Assumes nothing.
-use Prim.Native.Nat.{ℕ, _+_, _-_, _≤_, _<_}
+use Prim.Native.Nat.{ℕ, _+_, _-_, _/_, _≤_, _<_}
 use mathlib.Core.Bool.{Bool, true, false, cond, not, _&&_, false≢true, true≢false}
 use mathlib.Core.List.{List, [], _∷_, _++_, List·Memᴰ, List·Memᴰ·head, List·Memᴰ·tail, List·Memᴰ·not-nil, List·Memᴰ·cases-cons, List·Memᴰ·eq-of-singleton}
 use mathlib.Core.Logic.{_⊎_, inl, inr, ⊎-elim}
@@ -10,7 +11,8 @@ use mathlib.Core.Path.{_≡_, refl, sym, ap, ap₂, _∙_, subst}
 use native.Mathlib.Omega.{arith}
 use borrow.Author.Tests.{ltb-true, ltb-false, eqb-true, eq-eqb}
 use lib.Dec.{ltb, eqb}
-use lib.ListN.{length, getD}
+use lib.ListN.{length, take, drop, getD}
+use lib.Seq.{take-at, drop-at}
 use Rattle.keys.specs.Store.{position}
 use Rattle.keys.proofs.Tests.{and-left, and-right, and-both, Order, less, equal, greater, order}
 use Rattle.keys.proofs.Rising.{Rising, Sub, mem-length, rising-getD, rising-length}
@@ -331,3 +333,70 @@ falseMatch-differs held c l h = (
   matches-match (reply c l) (and-left (matches (reply c l)) (not (sameKeys held (between (c .lo) (c .hi) (hear c l)))) h),
   λ (e : held ≡ between (c .lo) (c .hi) (hear c l)). false≢true (sym (same-match held c l e) ∙ h),
 )
+
+-- ---- an answer by the keys from lo to hi alone
+
+-- That a reply is local rests on it, and counting will need it: no position and no key outside the range is in it.
+
+-- help, of the keys m strictly between lo and hi
+abbrev pub helpBy : List ℕ → Answer
+helpBy m = cond (ltb (length m - 1) 3) (One (spanClaim m)) (Two (spanClaim (take (length m / 2 + 1) m)) (spanClaim (drop (length m / 2 + 1) m)))
+
+-- an answer, of the keys k from lo to hi, and m of them strictly between
+abbrev pub answerBy : Claim → List ℕ → List ℕ → Answer
+answerBy c k m = decide (spanClaim k) c (helpBy m)
+
+pub help-span : (a b : ℕ) (l : List ℕ) → a ≤ b → b < length l → help a b l ≡ helpBy (span a b l)
+help-span a b l h g = go (ltb (b - a) 3) refl (length-span a b l h g)
+  where
+    m : List ℕ
+    m = span a b l
+
+    go : (t : Bool) → ltb (b - a) 3 ≡ t → length m ≡ b - a + 1 → help a b l ≡ helpBy m
+    go true e n =
+        let size : length m - 1 ≡ b - a = omega arith in
+        rw (e, ap (λ (x : ℕ). ltb x 3) size, e) (ap (λ (c : Claim). One c) (claimOf-span a b l h g))
+    go false e n =
+        let size : length m - 1 ≡ b - a = omega arith in
+        let z : b + 1 - a ≡ length m = omega arith in
+        let w : 3 ≤ b - a = ltb-false (b - a) 3 e in
+        let i : half a b ≡ length m / 2 = ap (λ (x : ℕ). x / 2) z in
+        let cut : ℕ = a + half a b in
+        let f : a + half a b < b = omega arith in
+        let j : m ≡ span a cut l ++ span (cut + 1) b l = span-join a cut b l (omega arith) f in
+        let k : length (span a cut l) ≡ length m / 2 + 1 = length-span a cut l (omega arith) (omega arith) ∙ (omega arith) in
+        let x : take (length m / 2 + 1) m ≡ span a cut l = ap (take (length m / 2 + 1)) j ∙ take-at (span a cut l) (span (cut + 1) b l) (length m / 2 + 1) k in
+        let y : drop (length m / 2 + 1) m ≡ span (cut + 1) b l
+        = ap (drop (length m / 2 + 1)) j ∙ drop-at (span a cut l) (span (cut + 1) b l) (length m / 2 + 1) k in
+        rw (e, ap (λ (q : ℕ). ltb q 3) size, e)
+        (ap₂ (λ (c d : Claim). Two c d) (claimOf-span a cut l (omega arith) (omega arith) ∙ ap spanClaim (sym x))
+        (claimOf-span (cut + 1) b l (omega arith) (omega arith) ∙ ap spanClaim (sym y)))
+
+pub answer-by : (c : Claim) (l : List ℕ) → Rising l → Passes c → List·Memᴰ (c .lo) l → List·Memᴰ (c .hi) l
+    → answer c l ≡ answerBy c (between (c .lo) (c .hi) l) (inside (c .lo) (c .hi) l)
+unfolding answer
+answer-by c l r p m n =
+    ap (λ (o : Claim). decide o c (help (position (c .lo) l + 1) (position (c .hi) l - 1) l)) is
+    ∙ go (same k c) refl (ltb (k .cnt) (c .cnt)) refl
+  where
+    k : Claim
+    k = spanClaim (between (c .lo) (c .hi) l)
+
+    is : own c l ≡ k
+    is = own-between c l r (p .ordered) m n
+
+    helped : same k c ≡ false → ltb (k .cnt) (c .cnt) ≡ false → help (position (c .lo) l + 1) (position (c .hi) l - 1) l ≡ helpBy (inside (c .lo) (c .hi) l)
+    helped e f =
+        let a = getD-position (c .lo) l r m in
+        let b = getD-position (c .hi) l r n in
+        let q : position (c .hi) l < length l = b .0 in
+        let h : position (c .lo) l + 1 ≤ position (c .hi) l - 1
+        = helper-positions c l r p m n (ap (λ (o : Claim). same o c) is ∙ e) (ap (λ (o : Claim). ltb (o .cnt) (c .cnt)) is ∙ f) in
+        help-span (position (c .lo) l + 1) (position (c .hi) l - 1) l h (omega arith)
+        ∙ ap helpBy (span-inside (position (c .lo) l) (position (c .hi) l) l r h (b .0) ∙ ap₂ (λ (x y : ℕ). inside x y l) (a .1) (b .1))
+
+    go : (t : Bool) → same k c ≡ t → (u : Bool) → ltb (k .cnt) (c .cnt) ≡ u
+        → decide k c (help (position (c .lo) l + 1) (position (c .hi) l - 1) l) ≡ decide k c (helpBy (inside (c .lo) (c .hi) l))
+    go true e u f = rw e
+    go false e true f = rw (e, f)
+    go false e false f = rw (e, f) (helped e f)

@@ -1,29 +1,23 @@
 -- A delivery depends only on the keys in its claim's range, and changes none outside it. In order: keys added, seen through a range; a reply; what
 -- waits, its answers and its line; a whole run (`run-local`). Assumes nothing.
-use Prim.Native.Nat.{ℕ, zero, suc, _+_, _-_, _/_, _≤_, _<_}
-use mathlib.Core.Bool.{Bool, true, false, cond, not, _&&_}
+use Prim.Native.Nat.{ℕ, zero, suc, _-_, _≤_, _<_}
+use mathlib.Core.Bool.{Bool, not, _&&_}
 use mathlib.Core.List.{List, [], _∷_, _++_, List·Memᴰ, List·Memᴰ·head, List·Memᴰ·tail, List·Memᴰ·not-nil, List·Memᴰ·append-cases, List·Memᴰ·eq-of-singleton}
 use mathlib.Core.Logic.{_⊎_, inl, inr, ⊎-elim}
 use mathlib.Core.Path.{_≡_, refl, sym, ap, ap₂, _∙_, subst}
 use native.Mathlib.Omega.{arith}
-use borrow.Author.Tests.{ltb-false}
-use lib.Dec.{ltb}
-use lib.ListN.{length, take, drop}
-use lib.Seq.{take-at, drop-at}
-use Rattle.keys.specs.Store.{position, insert, insertAll}
+use Rattle.keys.specs.Store.{insert, insertAll}
 use Rattle.keys.proofs.Rising.{Rising}
 use Rattle.keys.proofs.Insert.{insert-rising}
-use Rattle.keys.proofs.Position.{getD-position}
 use Rattle.claims.specs.declared.claim.Claim.{Claim}
 use Rattle.claims.specs.declared.answer.Answer.{Answer}
-use Rattle.claims.specs.declared.answer.Answer.the-variants.{Match, Ask, One, Two}
-use Rattle.claims.specs.Claim.{span, between}
-use Rattle.claims.specs.Reply.{adding, hear, own, same, half, help, answer, reply, claimsOf, matches, sameKeys}
+use Rattle.claims.specs.Claim.{between}
+use Rattle.claims.specs.Reply.{adding, hear, answer, reply, claimsOf, matches, sameKeys}
 use Rattle.claims.proofs.Between.{Lies, within, below, beyond, lies, inside, between-between, between-insert-within, between-insert-outside}
-use Rattle.claims.proofs.Span.{first, last, length-span, span-join, span-inside, first-between, last-between}
+use Rattle.claims.proofs.Span.{first, last, first-between, last-between}
 use Rattle.claims.proofs.QuestionLaws.{Passes}
-use Rattle.claims.proofs.ClaimLaws.{spanClaim, claimOf-span}
-use Rattle.claims.proofs.ReplyLaws.{hear-rising, hear-lo, hear-hi, own-between, helper-positions, Answered, matched, asked, helped-one, helped-two, Part, reply-answered}
+use Rattle.claims.proofs.ClaimLaws.{spanClaim}
+use Rattle.claims.proofs.ReplyLaws.{hear-rising, hear-lo, hear-hi, Answered, matched, asked, helped-one, helped-two, Part, reply-answered, answerBy, answer-by}
 use Rattle.rule.specs.Round.{End, Pair, keysAt, holding, Entry, waits, receiver, keysBefore, delivered, answers, Line, line, run}
 use Rattle.rule.proofs.Pair.{Rises}
 use Rattle.rule.proofs.Entry.{sound-limit}
@@ -54,69 +48,6 @@ pub hear-local : (c : Claim) (a b : ℕ) (l m : List ℕ) → Rising l → Risin
 hear-local c a b l m r q e = between-insertAll-local a b (adding c l) l m r q e
 
 -- ---- a reply
-
--- help, of the keys m strictly between lo and hi
-abbrev helpBy : List ℕ → Answer
-helpBy m = cond (ltb (length m - 1) 3) (One (spanClaim m)) (Two (spanClaim (take (length m / 2 + 1) m)) (spanClaim (drop (length m / 2 + 1) m)))
-
-help-span : (a b : ℕ) (l : List ℕ) → a ≤ b → b < length l → help a b l ≡ helpBy (span a b l)
-help-span a b l h g = go (ltb (b - a) 3) refl (length-span a b l h g)
-  where
-    m : List ℕ
-    m = span a b l
-
-    go : (t : Bool) → ltb (b - a) 3 ≡ t → length m ≡ b - a + 1 → help a b l ≡ helpBy m
-    go true e n =
-        let size : length m - 1 ≡ b - a = omega arith in
-        rw (e, ap (λ (x : ℕ). ltb x 3) size, e) (ap (λ (c : Claim). One c) (claimOf-span a b l h g))
-    go false e n =
-        let size : length m - 1 ≡ b - a = omega arith in
-        let z : b + 1 - a ≡ length m = omega arith in
-        let w : 3 ≤ b - a = ltb-false (b - a) 3 e in
-        let i : half a b ≡ length m / 2 = ap (λ (x : ℕ). x / 2) z in
-        let cut : ℕ = a + half a b in
-        let f : a + half a b < b = omega arith in
-        let j : m ≡ span a cut l ++ span (cut + 1) b l = span-join a cut b l (omega arith) f in
-        let k : length (span a cut l) ≡ length m / 2 + 1 = length-span a cut l (omega arith) (omega arith) ∙ (omega arith) in
-        let x : take (length m / 2 + 1) m ≡ span a cut l = ap (take (length m / 2 + 1)) j ∙ take-at (span a cut l) (span (cut + 1) b l) (length m / 2 + 1) k in
-        let y : drop (length m / 2 + 1) m ≡ span (cut + 1) b l
-        = ap (drop (length m / 2 + 1)) j ∙ drop-at (span a cut l) (span (cut + 1) b l) (length m / 2 + 1) k in
-        rw (e, ap (λ (q : ℕ). ltb q 3) size, e)
-        (ap₂ (λ (c d : Claim). Two c d) (claimOf-span a cut l (omega arith) (omega arith) ∙ ap spanClaim (sym x)) (claimOf-span (cut + 1) b l (omega arith) (omega arith) ∙ ap spanClaim (sym y)))
-
--- an answer, of the keys from lo to hi alone
-abbrev answerBy : Claim → List ℕ → List ℕ → Answer
-answerBy c k m = cond (same (spanClaim k) c) Match (cond (ltb (spanClaim k .cnt) (c .cnt)) (Ask (spanClaim k)) (helpBy m))
-
-answer-by : (c : Claim) (l : List ℕ) → Rising l → Passes c → List·Memᴰ (c .lo) l → List·Memᴰ (c .hi) l →
-    answer c l ≡ answerBy c (between (c .lo) (c .hi) l) (inside (c .lo) (c .hi) l)
-unfolding answer
-answer-by c l r p m n =
-    ap (λ (o : Claim). cond (same o c) Match (cond (ltb (o .cnt) (c .cnt)) (Ask o) (help (position (c .lo) l + 1) (position (c .hi) l - 1) l))) is
-    ∙ go (same k c) refl (ltb (k .cnt) (c .cnt)) refl
-  where
-    k : Claim
-    k = spanClaim (between (c .lo) (c .hi) l)
-
-    is : own c l ≡ k
-    is = own-between c l r (p .ordered) m n
-
-    helped : same k c ≡ false → ltb (k .cnt) (c .cnt) ≡ false → help (position (c .lo) l + 1) (position (c .hi) l - 1) l ≡ helpBy (inside (c .lo) (c .hi) l)
-    helped e f =
-        let a = getD-position (c .lo) l r m in
-        let b = getD-position (c .hi) l r n in
-        let q : position (c .hi) l < length l = b .0 in
-        let h : position (c .lo) l + 1 ≤ position (c .hi) l - 1
-        = helper-positions c l r p m n (ap (λ (o : Claim). same o c) is ∙ e) (ap (λ (o : Claim). ltb (o .cnt) (c .cnt)) is ∙ f) in
-        help-span (position (c .lo) l + 1) (position (c .hi) l - 1) l h (omega arith)
-        ∙ ap helpBy (span-inside (position (c .lo) l) (position (c .hi) l) l r h (b .0) ∙ ap₂ (λ (x y : ℕ). inside x y l) (a .1) (b .1))
-
-    go : (t : Bool) → same k c ≡ t → (u : Bool) → ltb (k .cnt) (c .cnt) ≡ u →
-        cond (same k c) Match (cond (ltb (k .cnt) (c .cnt)) (Ask k) (help (position (c .lo) l + 1) (position (c .hi) l - 1) l)) ≡ answerBy c
-        (between (c .lo) (c .hi) l) (inside (c .lo) (c .hi) l)
-    go true e u f = rw e
-    go false e true f = rw (e, f)
-    go false e false f = rw (e, f) (helped e f)
 
 pub answer-local : (c : Claim) (l m : List ℕ) → Rising l → Rising m → Passes c → List·Memᴰ (c .lo) l → List·Memᴰ (c .hi) l → List·Memᴰ (c .lo) m →
     List·Memᴰ (c .hi) m →
