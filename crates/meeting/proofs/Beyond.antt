@@ -1,7 +1,8 @@
 -- What follows besides. In order: any beginning of a list that is meant is one, with no more keys entered; at any time in a list with at most 1,024 different
 -- keys entered in all, no round gets 8 (`never-8`), no delivery of a claim made before is refused (`made-accepted`), and entering gets 6 only when 1,024
 -- different keys are entered already and this is none of them (`entering-6`): nothing is turned away for want of space before the limit is really reached.
--- Then, without that premise: claims once made pass questions 2 to 5 for ever; both stores stay within their union. Assumes nothing.
+-- Then, without that premise: claims once made pass questions 2 to 5 for ever; both stores stay within their union and lose no key.
+-- Assumes nothing.
 use Prim.Native.Nat.{ℕ, suc, _+_, _≤_}
 use mathlib.Core.Bool.{Bool, true, false}
 use mathlib.Core.List.{List, [], _∷_, _++_, List·Memᴰ, List·Memᴰ·not-nil, Memᴰ·append-left, append-assoc}
@@ -212,23 +213,26 @@ made-judged n es m c i = judged-firstNo c ∙ passes-firstNo c (backed-passes (e
 
 -- ---- both stores stay within their union, refused or not, and lose no key
 
+-- what a round makes hold, and held before it, holds of the keys that it returns
+met-either : (P : List ℕ → List ℕ → Type 0) (s t : Store) (n : ℕ) →
+    (Rounded (keysOf s) (keysOf t) → P (roundBy s t .stores .left) (roundBy s t .stores .right)) → P (keysOf s) (keysOf t) →
+    P (keysOf (met s t n .left)) (keysOf (met s t n .right))
+met-either P s t n carried given =
+    ⊎-elim
+    {C = P (keysOf (met s t n .left)) (keysOf (met s t n .right))}
+    (λ (z : firstNo (roundQuestions s t n) ≡ 0).
+    rw (met-done s t n z, keysOf-storeOf (roundBy s t .stores .left), keysOf-storeOf (roundBy s t .stores .right))
+    (carried (roundYes-rounded s t n (roundQuestions-yes s t n z))))
+    (λ (f : firstNo (roundQuestions s t n) ≡ 0 → ⊥). rw (met-refused s t n f) given)
+    (eq-or-ne (firstNo (roundQuestions s t n)) 0)
+
 pub met-within : (s t : Store) (n : ℕ) →
     Sub (keysOf (met s t n .left)) (union (keysOf s) (keysOf t)) × Sub (keysOf (met s t n .right)) (union (keysOf s) (keysOf t))
 met-within s t n =
-    ⊎-elim
-    {C = Sub (keysOf (met s t n .left)) (union (keysOf s) (keysOf t)) × Sub (keysOf (met s t n .right)) (union (keysOf s) (keysOf t))}
-    (λ (z : firstNo (roundQuestions s t n) ≡ 0).
-    let o : Rounded (keysOf s) (keysOf t) = roundYes-rounded s t n (roundQuestions-yes s t n z) in
-    rw (met-done s t n z, keysOf-storeOf (roundBy s t .stores .left), keysOf-storeOf (roundBy s t .stores .right)) (o .within leftEnd, o .within rightEnd))
-    (λ (f : firstNo (roundQuestions s t n) ≡ 0 → ⊥). rw (met-refused s t n f) (union-left (keysOf s) (keysOf t), union-right (keysOf s) (keysOf t)))
-    (eq-or-ne (firstNo (roundQuestions s t n)) 0)
+    met-either (λ (l r : List ℕ). Sub l (union (keysOf s) (keysOf t)) × Sub r (union (keysOf s) (keysOf t))) s t n
+    (λ o. (o .within leftEnd, o .within rightEnd)) (union-left (keysOf s) (keysOf t), union-right (keysOf s) (keysOf t))
 
 pub met-keeps : (s t : Store) (n : ℕ) → Sub (keysOf s) (keysOf (met s t n .left)) × Sub (keysOf t) (keysOf (met s t n .right))
 met-keeps s t n =
-    ⊎-elim
-    {C = Sub (keysOf s) (keysOf (met s t n .left)) × Sub (keysOf t) (keysOf (met s t n .right))}
-    (λ (z : firstNo (roundQuestions s t n) ≡ 0).
-    let o : Rounded (keysOf s) (keysOf t) = roundYes-rounded s t n (roundQuestions-yes s t n z) in
-    rw (met-done s t n z, keysOf-storeOf (roundBy s t .stores .left), keysOf-storeOf (roundBy s t .stores .right)) (o .grown leftEnd, o .grown rightEnd))
-    (λ (f : firstNo (roundQuestions s t n) ≡ 0 → ⊥). rw (met-refused s t n f) (sub-refl (keysOf s), sub-refl (keysOf t)))
-    (eq-or-ne (firstNo (roundQuestions s t n)) 0)
+    met-either (λ (l r : List ℕ). Sub (keysOf s) l × Sub (keysOf t) r) s t n
+    (λ o. (o .grown leftEnd, o .grown rightEnd)) (sub-refl (keysOf s), sub-refl (keysOf t))

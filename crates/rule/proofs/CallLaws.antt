@@ -1,6 +1,7 @@
 -- What the public calls return, one law a return path: `taken`, `beaten`, `beatenLent`, `met`, `metLent` and `metWords` of Call. In order, for
--- taking, a beat and a round: what it says that every question was answered yes; carried out; refused. Then: a taken node and a beaten one are in order;
--- what a round returns is in order, its count is at most twice the keys of the union, and nothing waits at its end. Assumes nothing.
+-- taking, a beat and a round: carried out; refused; of taking and a round before that, what it says that every question was answered yes. Then: a taken
+-- node and a beaten one are in order; what a round returns is in order, its count is at most twice the keys of the union, and nothing waits at its end.
+-- Assumes nothing.
 use Prim.Native.Nat.{ℕ, _+_, _*_, _/_, _≤_, _<_}
 use mathlib.Core.Bool.{true}
 use mathlib.Core.List.{List, [], _∷_, _++_, List·Memᴰ, Memᴰ·append-left}
@@ -22,10 +23,10 @@ use Rattle.claims.proofs.ReplyLaws.{hear-rising, hear-old, hear-new}
 use Rattle.rule.specs.declared.node.Node.{Node}
 use Rattle.rule.specs.declared.delivery.Delivery.{Delivery}
 use Rattle.rule.specs.declared.answer.Met.{Met}
-use Rattle.rule.specs.Table.{tableLimit, tableWith, insertClaim, serve, sending, beatLimit}
+use Rattle.rule.specs.Table.{tableLimit, tableWith, insertClaim, serve, sending}
 use Rattle.rule.specs.Node.{nodeKeys, pendingOf, nodeOf}
 use Rattle.rule.specs.Round.{union, transcript}
-use Rattle.rule.specs.Question.{nodeQuestion1, question8, question9, question15}
+use Rattle.rule.specs.Question.{nodeQuestion1, question8, question9}
 use Rattle.rule.specs.Call.{writtenOver, takeQuestions, taken, claimWords, beatQuestions, beaten, beatenLent, roundQuestions, roundBy, met, metLent, deliveryWords, metWords}
 use Rattle.rule.proofs.TableLaws.{climbs-tableWith, climbs-kept, insertClaim-mem, kept-mem, length-tableWith, length-kept}
 use Rattle.rule.proofs.NodeLaws.{Fits, fits-sub, Ordered, ordered-nodeInOrder, nodeInOrder-ordered, ordered-nodeOf}
@@ -78,16 +79,6 @@ taken-refused n c f =
 
 -- ---- a beat
 
-pub record BeatYes (n : Node) (lent : List ℕ) : Type 0 where
-  pub node : Ordered n
-  pub room : beatLimit ≤ length lent / 4
-
-pub beatQuestions-yes : (n : Node) (lent : List ℕ) → firstNo (beatQuestions n lent) ≡ 0 → BeatYes n lent
-beatQuestions-yes n lent h =
-    let a = firstNo-zero (nodeQuestion1 n) (question15 (length lent / 4) beatLimit ∷ []) (omega arith) h in
-    let b = firstNo-zero (question15 (length lent / 4) beatLimit) [] (omega arith) (a .1) in
-    record { node = nodeInOrder-ordered n (a .0); room = leb-true beatLimit (length lent / 4) (b .0) }
-
 pub beaten-done : (n : Node) (lent : List ℕ) → firstNo (beatQuestions n lent) ≡ 0 →
     beaten n lent ≡ record
     { number = 0; node = nodeOf (nodeKeys n) (serve (nodeKeys n) (pendingOf n) .kept); written = length (sending (nodeKeys n) (pendingOf n)) }
@@ -109,10 +100,6 @@ pub beatenLent-done : (n : Node) (lent : List ℕ) → firstNo (beatQuestions n 
     beatenLent n lent ≡ writtenOver (claimWords (sending (nodeKeys n) (pendingOf n))) lent
 unfolding beatenLent
 beatenLent-done n lent h = settle-done (firstNo (beatQuestions n lent)) (writtenOver (claimWords (sending (nodeKeys n) (pendingOf n))) lent) (λ x. lent) h
-
-pub beatenLent-refused : (n : Node) (lent : List ℕ) → (firstNo (beatQuestions n lent) ≡ 0 → ⊥) → beatenLent n lent ≡ lent
-unfolding beatenLent
-beatenLent-refused n lent f = settle-refused (firstNo (beatQuestions n lent)) (writtenOver (claimWords (sending (nodeKeys n) (pendingOf n))) lent) (λ x. lent) f
 
 -- ---- a round
 

@@ -7,7 +7,7 @@ use mathlib.Core.Path.{_≡_, refl, sym, ap, _∙_, subst}
 use native.Mathlib.Omega.{arith}
 use lib.ListN.{length, length-append}
 use Rattle.keys.specs.Store.{limit}
-use Rattle.keys.proofs.Rising.{Rising, Sub, sub-refl, rising-length}
+use Rattle.keys.proofs.Rising.{Rising, Sub, sub-refl}
 use Rattle.claims.specs.Claim.{wholeClaim, between}
 use Rattle.claims.proofs.Between.{length-between}
 use Rattle.claims.proofs.Span.{first, last, between-first-last}
@@ -31,16 +31,9 @@ pub record Fine (u : List ℕ) (p : Pair) (q : List Entry) : Type 0 where
 fine-first : (u : List ℕ) (p : Pair) (e : Entry) (q : List Entry) → Fine u p (e ∷ q) → Sound p e
 fine-first u p e q f = f .sound e (List·Memᴰ·head refl)
 
--- the first claim passes questions 2 to 5, ..
+-- the first claim passes questions 2 to 5
 pub fine-passes : (u : List ℕ) (p : Pair) (e : Entry) (q : List Entry) → Fine u p (e ∷ q) → Passes (e .claim)
 fine-passes u p e q f = sound-limit p e u (fine-first u p e q f) (f .within) (f .whole) (f .fits)
-
--- .. and either store has room: of the state after the delivery this says that what the claim adds fits
-pub fine-count : (u : List ℕ) (p : Pair) (q : List Entry) → Fine u p q → (s : End) → length (keysAt s p) ≤ limit
-fine-count u p q f s =
-    let a : length (keysAt s p) ≤ length u = rising-length (keysAt s p) u (f .rises s) (f .whole) (f .within s) in
-    let b : length u ≤ limit = f .fits in
-    omega arith
 
 pub fine-step : (u : List ℕ) (p : Pair) (e : Entry) (q : List Entry) → Fine u p (e ∷ q) → Fine u (delivered e p) (q ++ answers e p)
 fine-step u p e q f =
@@ -137,6 +130,7 @@ pub record Halfway (p : Pair) (q : List Entry) : Type 0 where
   pub fine : Fine (unionOf p) p q
   pub light : weights (unionOf p) p q ≤ length (unionOf p)
 
+-- a delivery leads to the next such state: with `runAll-cons`, an induction over a half's deliveries, as counting them will want it
 pub halfway-step : (p : Pair) (e : Entry) (q : List Entry) → Halfway p (e ∷ q) → Halfway (delivered e p) (q ++ answers e p)
 halfway-step p e q h =
     let f : Fine (unionOf p) (delivered e p) (q ++ answers e p) = fine-step (unionOf p) p e q (h .fine) in

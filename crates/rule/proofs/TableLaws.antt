@@ -3,12 +3,12 @@
 -- Not here: the node around the table (NodeLaws). Assumes nothing.
 use Prim.Native.Nat.{ℕ, zero, suc, _*_, _≤_, _<_}
 use mathlib.Core.Bool.{Bool, true, false, cond, _&&_, false≢true}
-use mathlib.Core.List.{List, [], _∷_, _++_, List·Memᴰ, List·Memᴰ·head, List·Memᴰ·tail, List·Memᴰ·not-nil, List·Memᴰ·append-cases}
+use mathlib.Core.List.{List, [], _∷_, List·Memᴰ, List·Memᴰ·head, List·Memᴰ·tail, List·Memᴰ·not-nil, List·Memᴰ·append-cases}
 use mathlib.Core.Logic.{_⊎_, inl, inr, ⊎-elim}
 use mathlib.Core.Path.{_≡_, refl, sym, _∙_}
 use native.Mathlib.Omega.{arith}
 use borrow.Author.Tests.{lt-ltb, le-ltb, eq-eqb, ne-eqb}
-use lib.ListN.{length, take, drop, length-append, length-take, take-append-drop}
+use lib.ListN.{length, take, length-append, length-take}
 use Rattle.keys.proofs.Tests.{and-left, and-right, and-both, Order, less, equal, greater, order}
 use Rattle.claims.specs.declared.claim.Claim.{Claim}
 use Rattle.claims.specs.declared.answer.Answer.{Answer}
@@ -123,10 +123,6 @@ climbs-take zero t h = refl
 climbs-take (suc n) [] h = refl
 climbs-take (suc n) (c ∷ cs) h = climbsFrom-take n c cs h
 
--- what is dropped is the last in order
-pub tableWith-drops : (c : Claim) (t : List Claim) → tableWith c t ++ drop tableLimit (insertClaim c t) ≡ insertClaim c t
-tableWith-drops c t = take-append-drop tableLimit (insertClaim c t)
-
 pub climbs-tableWith : (c : Claim) (t : List Claim) → climbs t ≡ true → climbs (tableWith c t) ≡ true
 climbs-tableWith c t h = climbs-take tableLimit (insertClaim c t) (climbs-insertClaim c t h)
 
@@ -189,16 +185,6 @@ sent-mem l (c ∷ cs) d m =
     (List·Memᴰ·append-cases (claimsOf (reply c l)) m)
 
 -- ---- how many claims there are
-
-pub length-insertClaim : (c : Claim) (t : List Claim) → length (insertClaim c t) ≤ suc (length t)
-length-insertClaim c [] = omega arith
-length-insertClaim c (d ∷ ds) = go (before d c) (same d c) (length-insertClaim c ds)
-  where
-    go : (s t : Bool) → length (insertClaim c ds) ≤ suc (length ds) →
-        length (cond s (d ∷ insertClaim c ds) (cond t (d ∷ ds) (c ∷ (d ∷ ds)))) ≤ suc (length (d ∷ ds))
-    go true t h = omega arith
-    go false true h = omega arith
-    go false false h = omega arith
 
 pub length-tableWith : (c : Claim) (t : List Claim) → length (tableWith c t) ≤ tableLimit
 length-tableWith c t = rw (length-take tableLimit (insertClaim c t)) (omega arith)

@@ -1,17 +1,13 @@
 -- The union of two stores: `union` of Round. In order: its members; it rises; which rising list it is; of equal stores, and of stores the other way
--- round; of two stores that grew within it; question 8 counts it. Assumes nothing.
+-- round; of two stores that grew within it; how many keys it has. Assumes nothing.
 use Prim.Native.Nat.{ℕ, _≤_}
-use mathlib.Core.Bool.{true}
 use mathlib.Core.List.{List, List·Memᴰ}
 use mathlib.Core.Logic.{_⊎_}
 use mathlib.Core.Path.{_≡_}
-use borrow.Author.Tests.{le-leb}
 use lib.ListN.{length}
-use Rattle.keys.specs.Store.{limit}
 use Rattle.keys.proofs.Rising.{Rising, Sub, sub-refl, rising-ext, rising-length}
 use Rattle.keys.proofs.Insert.{insertAll-rising, mem-insertAll-new, mem-insertAll-old, insertAll-sub, insertAll-mem, insertAll-held}
 use Rattle.rule.specs.Round.{union}
-use Rattle.rule.specs.Question.{question8}
 
 pub union-rising : (l r : List ℕ) → Rising r → Rising (union l r)
 union-rising l r q = insertAll-rising l r q
@@ -50,7 +46,3 @@ length-left-union l r p q = rising-length l (union l r) p (union-rising l r q) (
 
 pub length-right-union : (l r : List ℕ) → Rising r → length r ≤ length (union l r)
 length-right-union l r q = rising-length r (union l r) q (union-rising l r q) (union-right l r)
-
--- question 8 counts the union: two equal stores pass it, full ones too
-pub question8-self : (l : List ℕ) → Rising l → length l ≤ limit → question8 l l .yes ≡ true
-question8-self l r h = rw (union-self l r) (le-leb (length l) limit h)
