@@ -16,7 +16,7 @@ use Rattle.rule.proofs.Union.{union-self, union-comm, union-rising, union-left,
 use Rattle.rule.proofs.Pair.{size, rises-pair}
 use Rattle.rule.proofs.Half.{Rounded, rounded}
 use Rattle.meeting.specs.Statement.{without, apart}
-use Rattle.meeting.proofs.Progress.{grown-size, progress}
+use Rattle.meeting.proofs.Progress.{grows-size, progress}
 
 -- ---- with both sizes, twice the union
 
@@ -86,6 +86,6 @@ apart-round l r p q h honest =
     let e : l ≡ r = progress l r p q h honest g in
     let d : length (union l r) ≡ length l = ap length (ap (λ (x : List ℕ). union l x) (sym e) ∙ union-self l p) in
     let i : length l ≡ length r = ap length e in
-    let j : length l + length r ≤ size (roundOf l r .stores) = grown-size (pair l r) (roundOf l r .stores) (rises-pair l r p q) (o .rises) (o .grown) in
+    let j : length l + length r ≤ size (roundOf l r .stores) = grows-size (pair l r) (roundOf l r .stores) (rises-pair l r p q) (o .rises) (o .grown) in
     omega arith)
     (lt-or-le (length l + length r) (size (roundOf l r .stores)))

@@ -46,15 +46,15 @@ pub allMeant-before : (n : ℕ) (a b : List Event) (w : World) → AllMeant n (a
 allMeant-before n [] b w m = tt
 allMeant-before n (e ∷ es) b w m = (m .0, allMeant-before n es b (after e w) (m .1))
 
-pub entered-append : (a b : List Event) (w : World) →
+pub keysEntered-append : (a b : List Event) (w : World) →
     keysEntered (a ++ b) (numbers (a ++ b) w) ≡ keysEntered a (numbers a w) ++ keysEntered b (numbers b (afterAll a w))
-entered-append [] b w = refl
-entered-append (e ∷ es) b w =
-    ap (λ (x : List ℕ). enteredBy e (outcome e (w .kiosks) .number) ++ x) (entered-append es b (after e w))
+keysEntered-append [] b w = refl
+keysEntered-append (e ∷ es) b w =
+    ap (λ (x : List ℕ). enteredBy e (outcome e (w .kiosks) .number) ++ x) (keysEntered-append es b (after e w))
     ∙ sym (append-assoc (enteredBy e (outcome e (w .kiosks) .number)) (keysEntered es (numbers es (after e w))) (keysEntered b (numbers b (afterAll es (after e w)))))
 
-pub entered-before : (a b : List Event) → Sub (enteredIn a) (enteredIn (a ++ b))
-entered-before a b k m = subst (λ (x : List ℕ). List·Memᴰ k x) (sym (entered-append a b start)) (Memᴰ·append-left (keysEntered b (numbers b (end a))) m)
+pub enteredIn-before : (a b : List Event) → Sub (enteredIn a) (enteredIn (a ++ b))
+enteredIn-before a b k m = subst (λ (x : List ℕ). List·Memᴰ k x) (sym (keysEntered-append a b start)) (Memᴰ·append-left (keysEntered b (numbers b (end a))) m)
 
 -- rising keys among ks are at most as many as ks has different ones
 pub length-different : (l ks : List ℕ) → Rising l → Sub l ks → length l ≤ different ks
@@ -69,7 +69,7 @@ good-before n a b es m e = good-end n a (allMeant-before n a b start (subst (λ 
 
 few-before : (a b es : List Event) → a ++ b ≡ es → different (enteredIn es) ≤ limit → different (enteredIn a) ≤ limit
 few-before a b es e h =
-    let p : different (enteredIn a) ≤ different (enteredIn (a ++ b)) = different-sub (enteredIn a) (enteredIn (a ++ b)) (entered-before a b) in
+    let p : different (enteredIn a) ≤ different (enteredIn (a ++ b)) = different-sub (enteredIn a) (enteredIn (a ++ b)) (enteredIn-before a b) in
     let q : different (enteredIn (a ++ b)) ≡ different (enteredIn es) = ap (λ (x : List Event). different (enteredIn x)) e in
     omega arith
 

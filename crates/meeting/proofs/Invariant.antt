@@ -91,8 +91,8 @@ grew-nodeOf ks a l t o s v = record {
 -- ---- the next world
 
 -- the invariant after the event e
-abbrev Kept : ℕ → World → List ℕ → Event → Type 0
-Kept n w ks e = Good n (after e w) (ks ++ enteredBy e (outcome e (w .kiosks) .number))
+abbrev pub GoodAfter : ℕ → World → List ℕ → Event → Type 0
+GoodAfter n w ks e = Good n (after e w) (ks ++ enteredBy e (outcome e (w .kiosks) .number))
 
 abbrev next : World → Outcome → World
 next w o = record { kiosks = o .kiosks; made = w .made ++ o .claims }
@@ -109,24 +109,24 @@ good-next n w ks o g f b = record {
 }
 
 -- .. as after every event but an entering
-good-kept : (n : ℕ) (w : World) (ks : List ℕ) (e : Event) (o : Outcome) → outcome e (w .kiosks) ≡ o → enteredBy e (o .number) ≡ [] →
-    Good n (next w o) ks → Kept n w ks e
-good-kept n w ks e o i z g =
+good-after : (n : ℕ) (w : World) (ks : List ℕ) (e : Event) (o : Outcome) → outcome e (w .kiosks) ≡ o → enteredBy e (o .number) ≡ [] →
+    Good n (next w o) ks → GoodAfter n w ks e
+good-after n w ks e o i z g =
     subst (λ (x : Outcome). Good n (next w x) (ks ++ enteredBy e (x .number))) (sym i)
     (subst (λ (x : List ℕ). Good n (next w o) x) (sym (ap (λ (y : List ℕ). ks ++ y) z ∙ append-nil ks)) g)
 
 -- a refused call leaves the world as it was
 good-refused : (n : ℕ) (w : World) (ks : List ℕ) (e : Event) (x : ℕ) → (x ≡ 0 → ⊥) → outcome e (w .kiosks) ≡ refusal x (w .kiosks) →
-    Good n w ks → Kept n w ks e
+    Good n w ks → GoodAfter n w ks e
 good-refused n w ks e x f i g =
-    good-kept n w ks e (refusal x (w .kiosks)) i (enteredBy-refused e x f)
+    good-after n w ks e (refusal x (w .kiosks)) i (enteredBy-refused e x f)
     (good-next n w ks (refusal x (w .kiosks)) g (grew-same n w ks ks g (sub-refl ks)) (λ c m. absurd (List·Memᴰ·not-nil m)))
 
 -- a call whose first no is x: it is carried out, or refused
 good-settled : (n : ℕ) (w : World) (ks : List ℕ) (e : Event) (x : ℕ) → Good n w ks → ((x ≡ 0 → ⊥) → outcome e (w .kiosks) ≡ refusal x (w .kiosks)) →
-    (x ≡ 0 → Kept n w ks e) → Kept n w ks e
+    (x ≡ 0 → GoodAfter n w ks e) → GoodAfter n w ks e
 good-settled n w ks e x g refused done =
-    ⊎-elim {C = Kept n w ks e} done (λ (f : x ≡ 0 → ⊥). good-refused n w ks e x f (refused f) g) (eq-or-ne x 0)
+    ⊎-elim {C = GoodAfter n w ks e} done (λ (f : x ≡ 0 → ⊥). good-refused n w ks e x f (refused f) g) (eq-or-ne x 0)
 
 -- one node grew, the others are as they were
 grew-one : (n : ℕ) (w : World) (ks ks′ : List ℕ) → Good n w ks → Sub ks ks′ → (k : ℕ) (b : Node) → Grew ks′ (w .kiosks k) b →
@@ -142,7 +142,7 @@ delivered-backed n w ks e c g (inr f) z = absurd (f z)
 -- ---- one law for each kind of event
 
 module _ (n : ℕ) (w : World) (ks : List ℕ) (g : Good n w ks) where
-  good-enters : (k x : ℕ) → k < n → Kept n w ks (enters k x)
+  good-enters : (k x : ℕ) → k < n → GoodAfter n w ks (enters k x)
   good-enters k x h = good-settled n w ks (enters k x) (firstNo (enterQuestions s x)) g (enters-refused k x (w .kiosks)) done
     where
       s : Store
@@ -166,7 +166,7 @@ module _ (n : ℕ) (w : World) (ks : List ℕ) (g : Good n w ks) where
       here : List·Memᴰ x (nodeKeys (withNode k b (w .kiosks) k))
       here = subst (λ (m : List ℕ). List·Memᴰ x m) (sym (ap nodeKeys (withNode-here k b (w .kiosks)) ∙ keysOf-storeOf l)) (mem-insert-new x (keysIn w k))
 
-      done : firstNo (enterQuestions s x) ≡ 0 → Kept n w ks (enters k x)
+      done : firstNo (enterQuestions s x) ≡ 0 → GoodAfter n w ks (enters k x)
       done z =
           let y : EnterYes s x = enterQuestions-yes s x z in
           let r : Rising l = insert-rising x (keysIn w k) (inOrder-rising s (y .store)) in
@@ -187,7 +187,7 @@ module _ (n : ℕ) (w : World) (ks : List ℕ) (g : Good n w ks) where
                 (⊎-elim {C = Backed ks c} (g .backed c) (λ (a : List·Memᴰ c []). absurd (List·Memᴰ·not-nil a)) (List·Memᴰ·append-cases (w .made) m));
           })
 
-  good-makes : (k i j : ℕ) → Kept n w ks (makes k i j)
+  good-makes : (k i j : ℕ) → GoodAfter n w ks (makes k i j)
   good-makes k i j = good-settled n w ks (makes k i j) (firstNo (makeQuestions s i j)) g (makes-refused k i j (w .kiosks)) done
     where
       s : Store
@@ -203,12 +203,12 @@ module _ (n : ℕ) (w : World) (ks : List ℕ) (g : Good n w ks) where
           subst (Backed ks) (sym e)
           (claimOf-backed ks (keysOf s) i j (inOrder-rising s (y .store)) (length-nodeKeys (w .kiosks k) (g .ordered k)) (g .within k) (y .ordered) (omega arith))
 
-      done : firstNo (makeQuestions s i j) ≡ 0 → Kept n w ks (makes k i j)
+      done : firstNo (makeQuestions s i j) ≡ 0 → GoodAfter n w ks (makes k i j)
       done z =
-          good-kept n w ks (makes k i j) o (makes-done k i j (w .kiosks) z) refl
+          good-after n w ks (makes k i j) o (makes-done k i j (w .kiosks) z) refl
           (good-next n w ks o g (grew-same n w ks ks g (sub-refl ks)) (λ c m. made-backed (makeQuestions-yes s i j z) c (List·Memᴰ·eq-of-singleton m)))
 
-  good-replies : (k : ℕ) (c : Claim) → List·Memᴰ c (w .made) ⊎ Refused (delivers k To.reply c) w → Kept n w ks (delivers k To.reply c)
+  good-replies : (k : ℕ) (c : Claim) → List·Memᴰ c (w .made) ⊎ Refused (delivers k To.reply c) w → GoodAfter n w ks (delivers k To.reply c)
   good-replies k c d = good-settled n w ks (delivers k To.reply c) (firstNo (replyQuestions s c)) g (replies-refused k c (w .kiosks)) done
     where
       s : Store
@@ -223,19 +223,19 @@ module _ (n : ℕ) (w : World) (ks : List ℕ) (g : Good n w ks) where
       o : Outcome
       o = record { number = 0; kiosks = withNode k b (w .kiosks); claims = claimsOf (reply c l) }
 
-      done : firstNo (replyQuestions s c) ≡ 0 → Kept n w ks (delivers k To.reply c)
+      done : firstNo (replyQuestions s c) ≡ 0 → GoodAfter n w ks (delivers k To.reply c)
       done z =
           let y : ReplyYes s c = replyQuestions-yes s c z in
           let i : outcome (delivers k To.reply c) (w .kiosks) ≡ o = replies-done k c (w .kiosks) z in
           let v : Backed ks c = delivered-backed n w ks (delivers k To.reply c) c g d (ap (λ (x : Outcome). x .number) i) in
           let h : Sub (hear c l) ks = hear-sub c l ks (backed-adding ks c l v) (g .within k) in
           let r : Rising l = inOrder-rising s (y .store) in
-          good-kept n w ks (delivers k To.reply c) o i refl
+          good-after n w ks (delivers k To.reply c) o i refl
           (good-next n w ks o g
           (grew-one n w ks ks g (sub-refl ks) k b (grew-restored ks (w .kiosks k) (hear c l) (g .ordered k) (hear-rising c l r) (y .room) (hear-old c l) h))
           (reply-backed ks l c r (y .passes) (y .room) h))
 
-  good-takes : (k : ℕ) (c : Claim) → List·Memᴰ c (w .made) ⊎ Refused (delivers k To.table c) w → Kept n w ks (delivers k To.table c)
+  good-takes : (k : ℕ) (c : Claim) → List·Memᴰ c (w .made) ⊎ Refused (delivers k To.table c) w → GoodAfter n w ks (delivers k To.table c)
   good-takes k c d = good-settled n w ks (delivers k To.table c) (firstNo (takeQuestions a c)) g (takes-refused k c (w .kiosks)) done
     where
       a : Node
@@ -250,18 +250,18 @@ module _ (n : ℕ) (w : World) (ks : List ℕ) (g : Good n w ks) where
       o : Outcome
       o = record { number = 0; kiosks = withNode k b (w .kiosks); claims = [] }
 
-      done : firstNo (takeQuestions a c) ≡ 0 → Kept n w ks (delivers k To.table c)
+      done : firstNo (takeQuestions a c) ≡ 0 → GoodAfter n w ks (delivers k To.table c)
       done z =
           let y : TakeYes a c = takeQuestions-yes a c z in
           let i : outcome (delivers k To.table c) (w .kiosks) ≡ o = takes-done k c (w .kiosks) z in
           let v : Backed ks c = delivered-backed n w ks (delivers k To.table c) c g d (ap (λ (x : Outcome). x .number) i) in
           let h : Sub (hear c l) ks = hear-sub c l ks (backed-adding ks c l v) (g .within k) in
-          good-kept n w ks (delivers k To.table c) o i refl
+          good-after n w ks (delivers k To.table c) o i refl
           (good-next n w ks o g
           (grew-one n w ks ks g (sub-refl ks) k b (grew-nodeOf ks a (hear c l) (tableWith c (pendingOf a)) (ordered-taken a c y) (hear-old c l) h))
           (λ x m. absurd (List·Memᴰ·not-nil m)))
 
-  good-beats : (k : ℕ) (lent : List ℕ) → Kept n w ks (beats k lent)
+  good-beats : (k : ℕ) (lent : List ℕ) → GoodAfter n w ks (beats k lent)
   good-beats k lent = good-settled n w ks (beats k lent) (firstNo (beatQuestions a lent)) g (beats-refused k lent (w .kiosks)) done
     where
       a : Node
@@ -279,14 +279,14 @@ module _ (n : ℕ) (w : World) (ks : List ℕ) (g : Good n w ks) where
       order : Ordered (nodeOf l kept)
       order = ordered-beaten a (g .ordered k) (length-pendingOf a (g .ordered k))
 
-      done : firstNo (beatQuestions a lent) ≡ 0 → Kept n w ks (beats k lent)
+      done : firstNo (beatQuestions a lent) ≡ 0 → GoodAfter n w ks (beats k lent)
       done z =
-          good-kept n w ks (beats k lent) o (beats-done k lent (w .kiosks) z) refl
+          good-after n w ks (beats k lent) o (beats-done k lent (w .kiosks) z) refl
           (good-next n w ks o g
           (grew-one n w ks ks g (sub-refl ks) k (nodeOf l kept) (grew-nodeOf ks a l kept order (sub-refl l) (g .within k)))
           (sending-backed ks l (pendingOf a) (inOrder-rising (a .store) (g .ordered k .store)) (length-nodeKeys a (g .ordered k)) (g .within k) (g .ordered k .fit)))
 
-  good-meets : (k m : ℕ) (lent : List Delivery) → (k ≡ m → ⊥) → Kept n w ks (meets k m lent)
+  good-meets : (k m : ℕ) (lent : List Delivery) → (k ≡ m → ⊥) → GoodAfter n w ks (meets k m lent)
   good-meets k m lent different = good-settled n w ks (meets k m lent) (firstNo (roundQuestions s t (length lent))) g (meets-refused k m lent (w .kiosks)) done
     where
       s : Store
@@ -327,7 +327,7 @@ module _ (n : ℕ) (w : World) (ks : List ℕ) (g : Good n w ks) where
           let h : length u ≤ limit = y .fits in
           grew-restored ks (w .kiosks j) x (g .ordered j) rx (omega arith) old (sub-trans x u ks new known)
 
-      done : firstNo (roundQuestions s t (length lent)) ≡ 0 → Kept n w ks (meets k m lent)
+      done : firstNo (roundQuestions s t (length lent)) ≡ 0 → GoodAfter n w ks (meets k m lent)
       done z =
           let y : RoundYes s t (length lent) = roundQuestions-yes s t (length lent) z in
           let q : Rounded (keysOf s) (keysOf t) = roundYes-rounded s t (length lent) y in
@@ -338,15 +338,14 @@ module _ (n : ℕ) (w : World) (ks : List ℕ) (g : Good n w ks) where
           let second : Grew ks (w .kiosks m) (restored (kiosks′ m) (storeOf r))
           = subst (λ (x : Node). Grew ks (w .kiosks m) (restored x (storeOf r))) (sym same)
           (end-grew y m r (q .rises rightEnd) (q .grown rightEnd) (q .within rightEnd)) in
-          good-kept n w ks (meets k m lent) o (meets-done k m lent (w .kiosks) z) refl
+          good-after n w ks (meets k m lent) o (meets-done k m lent (w .kiosks) z) refl
           (good-next n w ks o g
           (withNode-each (λ (j : ℕ) (x : Node). Grew ks (w .kiosks j) x) m (restored (kiosks′ m) (storeOf r)) kiosks′ second first)
           (lines-backed (roundBy s t .lines) (round-backed (keysOf s) (keysOf t) (inOrder-rising s (y .left)) (inOrder-rising t (y .right)) (y .fits))))
 
 -- ---- one event, from any world that meets the invariant
 
-pub good-step : (n : ℕ) (w : World) (ks : List ℕ) (e : Event) → Good n w ks → Meant n e w →
-    Good n (after e w) (ks ++ enteredBy e (outcome e (w .kiosks) .number))
+pub good-step : (n : ℕ) (w : World) (ks : List ℕ) (e : Event) → Good n w ks → Meant n e w → GoodAfter n w ks e
 good-step n w ks (enters k x) g m = good-enters n w ks g k x m
 good-step n w ks (makes k i j) g m = good-makes n w ks g k i j
 good-step n w ks (delivers k To.reply c) g m = good-replies n w ks g k c (m .1)

@@ -21,18 +21,18 @@ use Rattle.claims.proofs.QuestionLaws.{Passes}
 use Rattle.claims.proofs.ClaimLaws.{spanClaim, rangeClaim, spanClaim-range, wholeClaim-span}
 use Rattle.claims.proofs.ReplyLaws.{hear-rising, hear-lo, hear-hi, Answered, matched, asked, helped-one, helped-two, reply-answered, match-same}
 use Rattle.rule.specs.Round.{union, End, leftEnd, rightEnd, other, Pair, pair, keysAt, Entry, waits, receiver, keysBefore, delivered, answers, Line, Run, anyFalse, run, half, roundOf}
-use Rattle.rule.proofs.Pair.{other-other, keysAt-receiver, Rises, Grown, unionOf, rises-pair, size, delivered-size, delivered-heard, delivered-same}
+use Rattle.rule.proofs.Pair.{other-other, keysAt-receiver, Rises, Grows, unionOf, rises-pair, size, delivered-size, delivered-heard, delivered-same}
 use Rattle.rule.proofs.Entry.{Sound, sound-ends, sound-cnt, sound-limit, entry}
-use Rattle.rule.proofs.Half.{Fine, fine-step, run-fine, run-grown, halfway-opening, opening, half-run, half-fine, half-ends, half-grown, half-union}
+use Rattle.rule.proofs.Half.{Fine, fine-step, run-fine, run-grows, halfway-opening, opening, half-run, half-fine, half-ends, half-grows, half-union}
 
 -- ---- growth, by sizes
 
-pub grown-size : (p p′ : Pair) → Rises p → Rises p′ → Grown p p′ → size p ≤ size p′
-grown-size p p′ r r′ g =
+pub grows-size : (p p′ : Pair) → Rises p → Rises p′ → Grows p p′ → size p ≤ size p′
+grows-size p p′ r r′ g =
     omega (arith, rising-length (p .left) (p′ .left) (r leftEnd) (r′ leftEnd) (g leftEnd), rising-length (p .right) (p′ .right) (r rightEnd) (r′ rightEnd) (g rightEnd))
 
-pub grown-same : (p p′ : Pair) → Rises p → Rises p′ → Grown p p′ → size p′ ≤ size p → p ≡ p′
-grown-same p p′ r r′ g h =
+pub grows-same : (p p′ : Pair) → Rises p → Rises p′ → Grows p p′ → size p′ ≤ size p → p ≡ p′
+grows-same p p′ r r′ g h =
     let a : length (p .left) ≤ length (p′ .left) = rising-length (p .left) (p′ .left) (r leftEnd) (r′ leftEnd) (g leftEnd) in
     let b : length (p .right) ≤ length (p′ .right) = rising-length (p .right) (p′ .right) (r rightEnd) (r′ rightEnd) (g rightEnd) in
     let x : p .left ≡ p′ .left = rising-same (p .left) (p′ .left) (r leftEnd) (r′ leftEnd) (g leftEnd) (omega arith) in
@@ -175,7 +175,7 @@ run-agrees (suc n) u p (e ∷ q) f fresh ends honest h =
     let f′ : Fine u p′ q′ = fine-step u p e q f in
     let here : Bool = falseMatch (e .held) (e .claim) (keysBefore e p) in
     let grew : size p ≤ size p′ = delivered-size e p in
-    let grew′ : size p′ ≤ size (run n p′ q′ .stores) = grown-size p′ (run n p′ q′ .stores) (f′ .rises) (run-fine n u p′ q′ f′ .rises) (run-grown n p′ q′) in
+    let grew′ : size p′ ≤ size (run n p′ q′ .stores) = grows-size p′ (run n p′ q′ .stores) (f′ .rises) (run-fine n u p′ q′ f′ .rises) (run-grows n p′ q′) in
     agrees-step u p e q f fresh (omega arith) (or-left here (anyFalse (run n p′ q′ .lines)) honest)
     (λ fresh′. run-agrees n u p′ q′ f′ fresh′ ends (or-right here (anyFalse (run n p′ q′ .lines)) honest) (omega arith))
 
@@ -225,9 +225,9 @@ progress l r rl rr h honest still =
     let rp′ : Rises p′ = half-fine leftEnd p rp h .rises in
     let h′ : length (unionOf p′) ≤ limit = subst (λ (u : List ℕ). length u ≤ limit) (sym (half-union leftEnd p rp h)) h in
     let rp″ : Rises (half rightEnd p′ .stores) = half-fine rightEnd p′ rp′ h′ .rises in
-    let grew : size p ≤ size p′ = grown-size p p′ rp rp′ (half-grown leftEnd p) in
-    let grew′ : size p′ ≤ size (half rightEnd p′ .stores) = grown-size p′ (half rightEnd p′ .stores) rp′ rp″ (half-grown rightEnd p′) in
-    let same : p ≡ p′ = grown-same p p′ rp rp′ (half-grown leftEnd p) (omega arith) in
+    let grew : size p ≤ size p′ = grows-size p p′ rp rp′ (half-grows leftEnd p) in
+    let grew′ : size p′ ≤ size (half rightEnd p′ .stores) = grows-size p′ (half rightEnd p′ .stores) rp′ rp″ (half-grows rightEnd p′) in
+    let same : p ≡ p′ = grows-same p p′ rp rp′ (half-grows leftEnd p) (omega arith) in
     let a : Sub l r = half-sub leftEnd p rp h (anyFalse-append-left (half leftEnd p .lines) (half rightEnd p′ .lines) honest) (omega arith) in
     let b : Sub (p′ .right) (p′ .left)
     = half-sub rightEnd p′ rp′ h′ (anyFalse-append-right (half leftEnd p .lines) (half rightEnd p′ .lines) honest) (omega arith) in

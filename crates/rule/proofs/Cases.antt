@@ -1,4 +1,4 @@
--- The worked examples of specs/Cases follow from the definitions: one law for the whole table. Assumes nothing.
+-- The worked examples of specs/Cases follow from the definitions: one law for all rows. Assumes nothing.
 use mathlib.Core.List.{map}
 use mathlib.Core.Path.{_≡_, refl}
 use Rattle.keys.specs.Store.{zeros, storeOf, emptyStore, inOrder}
@@ -7,8 +7,8 @@ use Rattle.claims.specs.Call.{judged}
 use Rattle.rule.specs.Node.{blanks, nodeOf, emptyNode, nodeInOrder}
 use Rattle.rule.specs.Round.{run, runAll, half, roundOf}
 use Rattle.rule.specs.Call.{taken, beaten, beatenLent, met, metLent, metWords}
-use Rattle.rule.specs.Cases.{Row, table}
+use Rattle.rule.specs.Cases.{Row, rows}
 
-pub cases-hold : map (λ (r : Row). r .gives) table ≡ map (λ (r : Row). r .wanted) table
+pub cases-hold : map (λ (r : Row). r .gives) rows ≡ map (λ (r : Row). r .wanted) rows
 unfolding zeros storeOf emptyStore inOrder answer judged blanks nodeOf emptyNode nodeInOrder run runAll half roundOf taken beaten beatenLent met metLent metWords
 cases-hold = refl

@@ -17,7 +17,7 @@ use Rattle.claims.proofs.Span.{first, last, first-le, le-last, mem-first, mem-l
 use Rattle.claims.proofs.QuestionLaws.{Passes}
 use Rattle.claims.proofs.ClaimLaws.{spanClaim, spanClaim-passes}
 use Rattle.rule.specs.Round.{End, Pair, keysAt, Entry, receiver, keysBefore, waits}
-use Rattle.rule.proofs.Pair.{Rises, Within, Grown}
+use Rattle.rule.proofs.Pair.{Rises, Within, Grows}
 
 -- ---- a sound entry
 
@@ -70,7 +70,7 @@ sound-limit p e u s w r h =
     sound-passes p e s
     (let a : length (e .held) ≤ length u = rising-length (e .held) u (s .rises) r (sub-trans (e .held) (keysAt (e .sender) p) u (s .there) (w (e .sender))) in omega arith)
 
-pub sound-grown : (p p′ : Pair) (e : Entry) → Grown p p′ → Sound p e → Sound p′ e
+pub sound-grown : (p p′ : Pair) (e : Entry) → Grows p p′ → Sound p e → Sound p′ e
 sound-grown p p′ e g s = record {
   is = s .is;
   rises = s .rises;
@@ -83,7 +83,7 @@ sound-grown p p′ e g s = record {
 abbrev pub AllSound : Pair → List Entry → Type 0
 AllSound p q = (e : Entry) → List·Memᴰ e q → Sound p e
 
-pub allSound-grown : (p p′ : Pair) (q : List Entry) → Grown p p′ → AllSound p q → AllSound p′ q
+pub allSound-grown : (p p′ : Pair) (q : List Entry) → Grows p p′ → AllSound p q → AllSound p′ q
 allSound-grown p p′ q g s e m = sound-grown p p′ e g (s e m)
 
 pub allSound-append : (p : Pair) (q r : List Entry) → AllSound p q → AllSound p r → AllSound p (q ++ r)
@@ -141,14 +141,14 @@ pub weight-less : (u : List ℕ) (p : Pair) (e : Entry) → e .claim .cnt < leng
 unfolding weight
 weight-less u p e h = omega arith
 
-pub weight-grown : (u : List ℕ) (p p′ : Pair) (e : Entry) → Rises p → Rises p′ → Grown p p′ → weight u p′ e ≤ weight u p e
+pub weight-grown : (u : List ℕ) (p p′ : Pair) (e : Entry) → Rises p → Rises p′ → Grows p p′ → weight u p′ e ≤ weight u p e
 unfolding weight
 weight-grown u p p′ e r r′ g =
     let h : length (between (e .claim .lo) (e .claim .hi) (keysBefore e p)) ≤ length (between (e .claim .lo) (e .claim .hi) (keysBefore e p′))
     = length-sub-between (e .claim .lo) (e .claim .hi) (keysBefore e p) (keysBefore e p′) (r (receiver e)) (r′ (receiver e)) (g (receiver e)) in
     omega arith
 
-pub weights-grown : (u : List ℕ) (p p′ : Pair) (q : List Entry) → Rises p → Rises p′ → Grown p p′ → weights u p′ q ≤ weights u p q
+pub weights-grown : (u : List ℕ) (p p′ : Pair) (q : List Entry) → Rises p → Rises p′ → Grows p p′ → weights u p′ q ≤ weights u p q
 weights-grown u p p′ [] r r′ g = omega arith
 weights-grown u p p′ (e ∷ q) r r′ g = omega (arith, weight-grown u p p′ e r r′ g, weights-grown u p p′ q r r′ g)
 

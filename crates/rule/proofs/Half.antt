@@ -14,7 +14,7 @@ use Rattle.claims.proofs.Span.{first, last, between-first-last}
 use Rattle.claims.proofs.QuestionLaws.{Passes}
 use Rattle.claims.proofs.ClaimLaws.{spanClaim, wholeClaim-span}
 use Rattle.rule.specs.Round.{union, End, leftEnd, rightEnd, Pair, pair, keysAt, Entry, waits, delivered, answers, line, Run, noting, run, runAll, half, followed, roundOf}
-use Rattle.rule.proofs.Pair.{Rises, Within, Grown, grown-refl, grown-trans, unionOf, unionOf-rising, unionOf-grown, within-unionOf, rises-pair, delivered-rises, delivered-within, delivered-grown}
+use Rattle.rule.proofs.Pair.{Rises, Within, Grows, grows-refl, grows-trans, unionOf, unionOf-rising, unionOf-grown, within-unionOf, rises-pair, delivered-rises, delivered-within, delivered-grows}
 use Rattle.rule.proofs.Entry.{Sound, sound-limit, AllSound, allSound-grown, allSound-append, entry, sound-entry, weight, weights, weights-append, weights-grown, weight-le, length-weights}
 use Rattle.rule.proofs.Deliver.{answers-sound, answers-weight, adding-within}
 
@@ -44,7 +44,7 @@ fine-step u p e q f =
       rises = delivered-rises e p (f .rises);
       within = delivered-within e p u (adding-within u p e s (f .within)) (f .within);
       sound = allSound-append (delivered e p) q (answers e p)
-          (allSound-grown p (delivered e p) q (delivered-grown e p) (λ x m. f .sound x (List·Memᴰ·tail m)))
+          (allSound-grown p (delivered e p) q (delivered-grows e p) (λ x m. f .sound x (List·Memᴰ·tail m)))
           (answers-sound u p e s (f .rises) (f .within) (f .whole) (f .fits));
     }
 
@@ -54,7 +54,7 @@ weights-step u p e q f =
     let a : weights u (delivered e p) (q ++ answers e p) ≡ weights u (delivered e p) q + weights u (delivered e p) (answers e p)
     = weights-append u (delivered e p) q (answers e p) in
     let b : weights u (delivered e p) q ≤ weights u p q
-    = weights-grown u p (delivered e p) q (f .rises) (delivered-rises e p (f .rises)) (delivered-grown e p) in
+    = weights-grown u p (delivered e p) q (f .rises) (delivered-rises e p (f .rises)) (delivered-grows e p) in
     let c : weights u (delivered e p) (answers e p) + 1 ≤ weight u p e
     = answers-weight u p e (fine-first u p e q f) (f .rises) (f .within) (f .whole) (f .fits) in
     omega arith
@@ -80,12 +80,12 @@ run-fine zero u p q f = f
 run-fine (suc n) u p [] f = f
 run-fine (suc n) u p (e ∷ q) f = run-fine n u (delivered e p) (q ++ answers e p) (fine-step u p e q f)
 
-pub run-grown : (n : ℕ) (p : Pair) (q : List Entry) → Grown p (run n p q .stores)
+pub run-grows : (n : ℕ) (p : Pair) (q : List Entry) → Grows p (run n p q .stores)
 unfolding run
-run-grown zero p q = grown-refl p
-run-grown (suc n) p [] = grown-refl p
-run-grown (suc n) p (e ∷ q) =
-    grown-trans p (delivered e p) (run n (delivered e p) (q ++ answers e p) .stores) (delivered-grown e p) (run-grown n (delivered e p) (q ++ answers e p))
+run-grows zero p q = grows-refl p
+run-grows (suc n) p [] = grows-refl p
+run-grows (suc n) p (e ∷ q) =
+    grows-trans p (delivered e p) (run n (delivered e p) (q ++ answers e p) .stores) (delivered-grows e p) (run-grows n (delivered e p) (q ++ answers e p))
 
 pub length-run : (n : ℕ) (u : List ℕ) (p : Pair) (q : List Entry) → Fine u p q → length (run n p q .lines) ≤ weights u p q
 unfolding run
@@ -134,7 +134,7 @@ pub record Halfway (p : Pair) (q : List Entry) : Type 0 where
 pub halfway-step : (p : Pair) (e : Entry) (q : List Entry) → Halfway p (e ∷ q) → Halfway (delivered e p) (q ++ answers e p)
 halfway-step p e q h =
     let f : Fine (unionOf p) (delivered e p) (q ++ answers e p) = fine-step (unionOf p) p e q (h .fine) in
-    let k : unionOf (delivered e p) ≡ unionOf p = unionOf-grown p (delivered e p) (h .fine .rises) (f .rises) (delivered-grown e p) (f .within) in
+    let k : unionOf (delivered e p) ≡ unionOf p = unionOf-grown p (delivered e p) (h .fine .rises) (f .rises) (delivered-grows e p) (f .within) in
     let w : weights (unionOf p) (delivered e p) (q ++ answers e p) ≤ length (unionOf p) = omega (arith, weights-step (unionOf p) p e q (h .fine), h .light) in
     record {
       fine = subst (λ (u : List ℕ). Fine u (delivered e p) (q ++ answers e p)) (sym k) f;
@@ -158,7 +158,7 @@ runAll-cons p e q h = go (length (unionOf p)) refl
     f = fine-step u p e q (h .fine)
 
     k : unionOf (delivered e p) ≡ u
-    k = unionOf-grown p (delivered e p) (h .fine .rises) (f .rises) (delivered-grown e p) (f .within)
+    k = unionOf-grown p (delivered e p) (h .fine .rises) (f .rises) (delivered-grows e p) (f .within)
 
     go : (n : ℕ) → length u ≡ n → run n p (e ∷ q) ≡ noting (line e p) (run (length (unionOf (delivered e p))) (delivered e p) (q ++ answers e p))
     go zero z = absurd (omega (arith, weights-step u p e q (h .fine), h .light))
@@ -230,12 +230,12 @@ length-half s p r h =
     let w : Halfway p (opening s p) = halfway-opening s p r h in
     omega (arith, length-run (length (unionOf p)) (unionOf p) p (opening s p) (w .fine), w .light)
 
-pub half-grown : (s : End) (p : Pair) → Grown p (half s p .stores)
+pub half-grows : (s : End) (p : Pair) → Grows p (half s p .stores)
 unfolding half runAll
-half-grown s p = run-grown (length (unionOf p)) p (opening s p)
+half-grows s p = run-grows (length (unionOf p)) p (opening s p)
 
 pub half-union : (s : End) (p : Pair) → Rises p → length (unionOf p) ≤ limit → unionOf (half s p .stores) ≡ unionOf p
-half-union s p r h = unionOf-grown p (half s p .stores) r (half-fine s p r h .rises) (half-grown s p) (half-fine s p r h .within)
+half-union s p r h = unionOf-grown p (half s p .stores) r (half-fine s p r h .rises) (half-grows s p) (half-fine s p r h .within)
 
 -- ---- a round
 
@@ -247,7 +247,7 @@ roundOf-halves l r = refl
 pub record RoundedBy (l r : List ℕ) (x : Run) : Type 0 where
   pub rises : Rises (x .stores)
   pub within : Within (x .stores) (union l r)
-  pub grown : Grown (pair l r) (x .stores)
+  pub grown : Grows (pair l r) (x .stores)
   pub same-union : unionOf (x .stores) ≡ union l r
   pub ends : x .waiting ≡ []
   pub bound : length (x .lines) ≤ 2 * length (union l r)
@@ -270,7 +270,7 @@ rounded l r rl rr h =
     subst (RoundedBy l r) (sym (roundOf-halves l r)) (record {
       rises = f .rises;
       within = subst (λ (v : List ℕ). Within (half rightEnd p′ .stores) v) u (f .within);
-      grown = grown-trans p p′ (half rightEnd p′ .stores) (half-grown leftEnd p) (half-grown rightEnd p′);
+      grown = grows-trans p p′ (half rightEnd p′ .stores) (half-grows leftEnd p) (half-grows rightEnd p′);
       same-union = half-union rightEnd p′ rp′ h′ ∙ u;
       ends = rw (half-ends leftEnd p rp h, half-ends rightEnd p′ rp′ h′);
       bound = rw (length-append (half leftEnd p .lines) (half rightEnd p′ .lines)) (omega arith);

@@ -45,7 +45,7 @@ keysAt-receiver e p = keysAt-holding (receiver e) (hear (e .claim) (keysBefore e
 pub keysAt-sender : (e : Entry) (p : Pair) → keysAt (e .sender) (delivered e p) ≡ keysAt (e .sender) p
 keysAt-sender e p = keysAt-holding-other (e .sender) (hear (e .claim) (keysBefore e p)) p
 
--- ---- rising, within, grown
+-- ---- pairs that rise, lie within keys, grow
 
 abbrev pub Rises : Pair → Type 0
 Rises p = (s : End) → Rising (keysAt s p)
@@ -53,14 +53,14 @@ Rises p = (s : End) → Rising (keysAt s p)
 abbrev pub Within : Pair → List ℕ → Type 0
 Within p u = (s : End) → Sub (keysAt s p) u
 
-abbrev pub Grown : Pair → Pair → Type 0
-Grown p p′ = (s : End) → Sub (keysAt s p) (keysAt s p′)
+abbrev pub Grows : Pair → Pair → Type 0
+Grows p p′ = (s : End) → Sub (keysAt s p) (keysAt s p′)
 
-pub grown-refl : (p : Pair) → Grown p p
-grown-refl p s = sub-refl (keysAt s p)
+pub grows-refl : (p : Pair) → Grows p p
+grows-refl p s = sub-refl (keysAt s p)
 
-pub grown-trans : (p q r : Pair) → Grown p q → Grown q r → Grown p r
-grown-trans p q r g h s = sub-trans (keysAt s p) (keysAt s q) (keysAt s r) (g s) (h s)
+pub grows-trans : (p q r : Pair) → Grows p q → Grows q r → Grows p r
+grows-trans p q r g h s = sub-trans (keysAt s p) (keysAt s q) (keysAt s r) (g s) (h s)
 
 abbrev pub unionOf : Pair → List ℕ
 unionOf p = union (p .left) (p .right)
@@ -76,7 +76,7 @@ within-unionOf p rightEnd = union-right (p .left) (p .right)
 pub unionOf-rising : (p : Pair) → Rises p → Rising (unionOf p)
 unionOf-rising p r = union-rising (p .left) (p .right) (r rightEnd)
 
-pub unionOf-grown : (p p′ : Pair) → Rises p → Rises p′ → Grown p p′ → Within p′ (unionOf p) → unionOf p′ ≡ unionOf p
+pub unionOf-grown : (p p′ : Pair) → Rises p → Rises p′ → Grows p p′ → Within p′ (unionOf p) → unionOf p′ ≡ unionOf p
 unionOf-grown p p′ r r′ g w =
     union-grown (p .left) (p .right) (p′ .left) (p′ .right) (r rightEnd) (r′ rightEnd) (g leftEnd) (g rightEnd) (w leftEnd) (w rightEnd)
 
@@ -90,10 +90,10 @@ delivered-within e p u h w =
     holding-each (λ (s : End) (l : List ℕ). Sub l u) (receiver e) (hear (e .claim) (keysBefore e p)) p
     (insertAll-sub (adding (e .claim) (keysBefore e p)) (keysBefore e p) u h (w (receiver e))) w
 
-pub delivered-grown : (e : Entry) (p : Pair) → Grown p (delivered e p)
-delivered-grown e p =
+pub delivered-grows : (e : Entry) (p : Pair) → Grows p (delivered e p)
+delivered-grows e p =
     holding-each (λ (s : End) (l : List ℕ). Sub (keysAt s p) l) (receiver e) (hear (e .claim) (keysBefore e p)) p
-    (mem-insertAll-old (adding (e .claim) (keysBefore e p)) (keysBefore e p)) (grown-refl p)
+    (mem-insertAll-old (adding (e .claim) (keysBefore e p)) (keysBefore e p)) (grows-refl p)
 
 -- ---- how many keys both have
 

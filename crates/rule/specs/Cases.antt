@@ -1,4 +1,4 @@
--- Worked examples over the call definitions, as one table: document 01's rehearsal, record by record; a false match; a 65th claim; a beat; nodes in order and not.
+-- Worked examples over the call definitions, as one list of rows: document 01's rehearsal, record by record; a false match; a 65th claim; a beat; nodes in order and not.
 -- That each row gives what is wanted is one law, `cases-hold` of proofs/Cases. Assumes nothing.
 use Prim.Native.Nat.{ℕ, zero, suc}
 use mathlib.Core.Bool.{Bool, true, false}
@@ -19,19 +19,19 @@ use Rattle.rule.specs.Round.{anyFalse}
 use Rattle.rule.specs.Call.{taken, beaten, beatenLent, met, metLent, metWords, roundBy}
 
 -- what a row compares
-pub data Outcome : Type 0 where
-  take-is : Taken → Outcome
-  beat-is : Beaten → Outcome
-  round-is : Met → Outcome
-  words-are : List ℕ → Outcome
-  records-are : List Delivery → Outcome
-  truth-is : Bool → Outcome
+pub data Compared : Type 0 where
+  take-is : Taken → Compared
+  beat-is : Beaten → Compared
+  round-is : Met → Compared
+  words-are : List ℕ → Compared
+  records-are : List Delivery → Compared
+  truth-is : Bool → Compared
 
 pub record Row : Type 0 where
-  pub gives : Outcome
-  pub wanted : Outcome
+  pub gives : Compared
+  pub wanted : Compared
 
-abbrev pub row : Outcome → Outcome → Row
+abbrev pub row : Compared → Compared → Row
 row a b = record { gives = a; wanted = b }
 
 -- the n numbers from k on
@@ -51,8 +51,8 @@ abbrev pub metWith : ℕ → List ℕ → List ℕ → ℕ → Met
 metWith n l r count = record { number = n; left = storeOf l; right = storeOf r; deliveries = count }
 
 -- "Stores {0, 1, 10} and {0, 5, 6, 10}, tables empty, give in full .."
-abbrev pub rehearsed : List Delivery
-rehearsed = record5 0 0 10 11 3 ∷ record5 1 5 6 3 2 ∷ record5 1 0 10 9 4 ∷ record5 0 1 6 2 3 ∷ []
+abbrev pub rehearsedRecords : List Delivery
+rehearsedRecords = record5 0 0 10 11 3 ∷ record5 1 5 6 3 2 ∷ record5 1 0 10 9 4 ∷ record5 0 1 6 2 3 ∷ []
 
 abbrev pub rehearsedLeft : Store
 rehearsedLeft = storeOf (0 ∷ 1 ∷ 10 ∷ [])
@@ -78,11 +78,11 @@ fullNode = nodeOf (upFrom 0 65) fullTable
 abbrev pub busyNode : Node
 busyNode = nodeOf (1 ∷ 4 ∷ 16 ∷ []) (claim 1 16 19 3 ∷ claim 1 16 21 3 ∷ claim 1 16 20 4 ∷ [])
 
-abbrev pub table : List Row
-table =
+abbrev pub rows : List Row
+rows =
     -- the rehearsal of document 01: both stores, the count, every record, as records and as words; the places past it keep their contents
     row (round-is (met rehearsedLeft rehearsedRight 10)) (round-is (metWith 0 (0 ∷ 1 ∷ 5 ∷ 6 ∷ 10 ∷ []) (0 ∷ 1 ∷ 5 ∷ 6 ∷ 10 ∷ []) 4))
-    ∷ row (records-are (metLent rehearsedLeft rehearsedRight (replicate 10 stale))) (records-are (rehearsed ++ replicate 6 stale))
+    ∷ row (records-are (metLent rehearsedLeft rehearsedRight (replicate 10 stale))) (records-are (rehearsedRecords ++ replicate 6 stale))
     ∷ row (words-are (metWords rehearsedLeft rehearsedRight (replicate 52 7))) (words-are (0 ∷ 0 ∷ 10 ∷ 11 ∷ 3 ∷ 1 ∷ 5 ∷ 6 ∷ 3 ∷ 2 ∷ 1 ∷ 0 ∷ 10 ∷ 9 ∷ 4 ∷ 0 ∷ 1 ∷ 6 ∷ 2 ∷ 3 ∷ replicate 32 7))
     ∷ row (truth-is (anyFalse (roundBy rehearsedLeft rehearsedRight .lines))) (truth-is false)
     -- one record too few: 9, both stores as given, and nothing written

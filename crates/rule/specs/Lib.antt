@@ -6,7 +6,7 @@
 --   Round     the union of two stores; a round: what waits, what a delivery does, two halves, the transcript, which matches are false
 --   Question  question 1 for nodes, 8, 9 and 15
 --   Call      what each public call returns, for any content, and what every lent place holds afterwards
---   Cases     worked examples, as one table
+--   Cases     worked examples, as one list of rows
 pub mod Place
 pub mod Table
 pub mod Node
