@@ -14,7 +14,7 @@ use Rattle.keys.proofs.Insert.{mem-insert-old, insert-mem, insert-rising, inser
 use Rattle.rule.specs.Round.{union, leftEnd, rightEnd, pair, anyFalse, roundOf}
 use Rattle.rule.proofs.Union.{union-self, union-comm, union-rising, union-left, union-right, length-left-union, length-right-union}
 use Rattle.rule.proofs.Pair.{size, rises-pair}
-use Rattle.rule.proofs.Half.{Rounded, rounded}
+use Rattle.rule.proofs.RoundLaws.{Rounded, rounded}
 use Rattle.meeting.specs.Statement.{without, apart}
 use Rattle.meeting.proofs.Progress.{grows-size, progress}
 

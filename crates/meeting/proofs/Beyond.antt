@@ -29,14 +29,14 @@ use Rattle.rule.specs.Question.{nodeQuestion1, question8, question9}
 use Rattle.rule.specs.Call.{takeQuestions, roundQuestions, roundBy, met}
 use Rattle.rule.proofs.NodeLaws.{ordered-nodeInOrder}
 use Rattle.rule.proofs.Union.{union-rising, union-left, union-right, union-sub}
-use Rattle.rule.proofs.Half.{Rounded}
+use Rattle.rule.proofs.RoundLaws.{Rounded}
 use Rattle.rule.proofs.CallLaws.{met-done, met-refused, roundQuestions-yes, roundYes-rounded}
 use Rattle.meeting.specs.Event.{Event, To, enters, delivers, meets}
 use Rattle.meeting.specs.World.{World, start, Outcome, outcome, after, afterAll, numbers, enteredBy, keysEntered}
 use Rattle.meeting.specs.Premise.{AllMeant}
 use Rattle.meeting.specs.Statement.{end, keysIn, enteredIn, different}
 use Rattle.meeting.proofs.Backed.{Backed, backed-passes, backed-adding}
-use Rattle.meeting.proofs.Outcomes.{enters-done, enters-refused, replies-done, takes-done, meets-done, meets-refused}
+use Rattle.meeting.proofs.WorldLaws.{enters-done, enters-refused, replies-done, takes-done, meets-done, meets-refused}
 use Rattle.meeting.proofs.Invariant.{Good}
 use Rattle.meeting.proofs.Theorem.{good-end}
 

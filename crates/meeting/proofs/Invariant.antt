@@ -28,14 +28,14 @@ use Rattle.rule.specs.Round.{union, leftEnd, rightEnd, Line}
 use Rattle.rule.specs.Call.{takeQuestions, beatQuestions, roundQuestions, roundBy}
 use Rattle.rule.proofs.NodeLaws.{Ordered, restored, ordered-restored, nodeKeys-nodeOf, store-nodeOf, emptyNode-nodeOf, ordered-emptyNode}
 use Rattle.rule.proofs.Union.{union-rising, union-sub}
-use Rattle.rule.proofs.Half.{Rounded}
+use Rattle.rule.proofs.RoundLaws.{Rounded}
 use Rattle.rule.proofs.CallLaws.{TakeYes, takeQuestions-yes, ordered-taken, ordered-beaten, length-nodeKeys, length-pendingOf, RoundYes, roundQuestions-yes, roundYes-rounded}
 use Rattle.meeting.specs.Event.{Event, To, enters, makes, delivers, beats, meets}
 use Rattle.meeting.specs.World.{World, start, withNode, withStore, Outcome, outcome, after, afterAll, numbers, enteredBy, keysEntered}
 use Rattle.meeting.specs.Premise.{Refused, Meant, AllMeant}
 use Rattle.meeting.specs.Statement.{keysIn, InSome}
 use Rattle.meeting.proofs.Backed.{Backed, backed-sub, backed-adding, claimOf-backed, reply-backed, sending-backed, round-backed}
-use Rattle.meeting.proofs.Outcomes.{refusal, withNode-each, withNode-here, withNode-there, EnterYes, enterQuestions-yes, enters-done, enters-refused, MakeYes, makeQuestions-yes, makes-done, makes-refused, ReplyYes, replyQuestions-yes, replies-done, replies-refused, takes-done, takes-refused, beats-done, beats-refused, meets-done, meets-refused, enteredBy-refused}
+use Rattle.meeting.proofs.WorldLaws.{refusal, withNode-each, withNode-here, withNode-there, EnterYes, enterQuestions-yes, enters-done, enters-refused, MakeYes, makeQuestions-yes, makes-done, makes-refused, ReplyYes, replyQuestions-yes, replies-done, replies-refused, takes-done, takes-refused, beats-done, beats-refused, meets-done, meets-refused, enteredBy-refused}
 
 -- ---- the invariant
 

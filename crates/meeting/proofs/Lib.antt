@@ -1,8 +1,8 @@
--- The proof of demand 3.
+-- The proof of demand 3. A file uses only those named before it.
 --   Progress   a round in which no match is false brings a key across, if the stores differ
 --   Apart      how many keys just one of two stores holds, and that a round leaves fewer
 --   Backed     what a claim is worth, whoever made it and whenever it arrives
---   Outcomes   what each event comes to; a refused one changes nothing
+--   WorldLaws  what each event comes to; a refused one changes nothing
 --   Invariant  what every event keeps, from any world that has it
 --   Meeting    two kiosks that meet come away with the same keys
 --   Theorem    demand 3, for every list of events
@@ -14,7 +14,7 @@
 pub mod Progress
 pub mod Apart
 pub mod Backed
-pub mod Outcomes
+pub mod WorldLaws
 pub mod Invariant
 pub mod Meeting
 pub mod Theorem

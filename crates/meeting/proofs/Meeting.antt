@@ -21,13 +21,13 @@ use Rattle.rule.specs.Round.{union, leftEnd, rightEnd}
 use Rattle.rule.specs.Call.{roundQuestions, roundBy}
 use Rattle.rule.proofs.NodeLaws.{restored}
 use Rattle.rule.proofs.Union.{union-comm, union-rising}
-use Rattle.rule.proofs.Half.{Rounded}
+use Rattle.rule.proofs.RoundLaws.{Rounded}
 use Rattle.rule.proofs.CallLaws.{RoundYes, roundQuestions-yes, roundYes-rounded, met-zero}
 use Rattle.meeting.specs.Event.{Event, meets}
 use Rattle.meeting.specs.World.{World, withStore, Outcome, outcome, after, afterAll, numbers}
 use Rattle.meeting.specs.Statement.{keysIn, apart, Turn, straight, turned, rounds, falseIn, noneFalse}
 use Rattle.meeting.proofs.Apart.{apart-none, apart-round}
-use Rattle.meeting.proofs.Outcomes.{withNode-here, withNode-there, meets-done}
+use Rattle.meeting.proofs.WorldLaws.{withNode-here, withNode-there, meets-done}
 
 -- ---- stores that are ready
 

@@ -12,7 +12,8 @@ use Rattle.keys.proofs.Rising.{Rising}
 use Rattle.rule.specs.declared.delivery.Delivery.{Delivery}
 use Rattle.rule.specs.Round.{union, End, leftEnd, rightEnd, senderNumber, Pair, pair, Entry, delivered, answers, Line, Run, run, half, roundOf}
 use Rattle.rule.proofs.Pair.{Rises, rises-pair, unionOf}
-use Rattle.rule.proofs.Half.{Fine, fine-passes, fine-step, opening, halfway-opening, half-run, half-fine, half-union, roundOf-halves}
+use Rattle.rule.proofs.Half.{Fine, fine-passes, fine-step, opening, halfway-opening, half-run, half-fine, half-union}
+use Rattle.rule.proofs.RoundLaws.{roundOf-halves}
 
 pub record Narrow (d : Delivery) : Type 0 where
   pub sender : d .sender < 256

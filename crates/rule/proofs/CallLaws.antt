@@ -30,7 +30,7 @@ use Rattle.rule.specs.Question.{nodeQuestion1, question8, question9}
 use Rattle.rule.specs.Call.{writtenOver, takeQuestions, taken, claimWords, beatQuestions, beaten, beatenLent, roundQuestions, roundBy, met, metLent, deliveryWords, metWords}
 use Rattle.rule.proofs.TableLaws.{climbs-tableWith, climbs-kept, insertClaim-mem, kept-mem, length-tableWith, length-kept}
 use Rattle.rule.proofs.NodeLaws.{Fits, fits-sub, Ordered, ordered-nodeInOrder, nodeInOrder-ordered, ordered-nodeOf}
-use Rattle.rule.proofs.Half.{Rounded, rounded}
+use Rattle.rule.proofs.RoundLaws.{Rounded, rounded}
 
 -- ---- taking
 

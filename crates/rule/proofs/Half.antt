@@ -1,11 +1,12 @@
--- A half of a round ends, and makes at most as many deliveries as the union has keys: `run`, `runAll`, `half` and `roundOf` of Round. In order: a
--- fine state of a half, and that a delivery leads to the next; running: it ends, its deliveries and what waits fit the weight, more steps change
--- nothing; `runAll` without its bound; a half; a round. Each delivery takes at least 1 off the weights of what waits. Assumes nothing.
-use Prim.Native.Nat.{ℕ, zero, suc, _+_, _*_, _≤_}
+-- A half of a round ends, and makes at most as many deliveries as the union has keys: `run`, `runAll` and `half` of Round. In order: a fine state of a
+-- half, and that a delivery leads to the next; running: it ends, its deliveries and what waits fit the weight, more steps change nothing; `runAll`
+-- without its bound; a half. Each delivery takes at least 1 off the weights of what waits. Not here: the round, of two halves (RoundLaws).
+-- Assumes nothing.
+use Prim.Native.Nat.{ℕ, zero, suc, _+_, _≤_}
 use mathlib.Core.List.{List, [], _∷_, _++_, List·Memᴰ, List·Memᴰ·head, List·Memᴰ·tail, List·Memᴰ·not-nil}
 use mathlib.Core.Path.{_≡_, refl, sym, ap, _∙_, subst}
 use native.Mathlib.Omega.{arith}
-use lib.ListN.{length, length-append}
+use lib.ListN.{length}
 use Rattle.keys.specs.Store.{limit}
 use Rattle.keys.proofs.Rising.{Rising, Sub, sub-refl}
 use Rattle.claims.specs.Claim.{wholeClaim, between}
@@ -13,14 +14,14 @@ use Rattle.claims.proofs.Between.{length-between}
 use Rattle.claims.proofs.Span.{first, last, between-first-last}
 use Rattle.claims.proofs.QuestionLaws.{Passes}
 use Rattle.claims.proofs.ClaimLaws.{spanClaim, wholeClaim-span}
-use Rattle.rule.specs.Round.{union, End, leftEnd, rightEnd, Pair, pair, keysAt, Entry, waits, delivered, answers, line, Run, noting, run, runAll, half, followed, roundOf}
-use Rattle.rule.proofs.Pair.{Rises, Within, Grows, grows-refl, grows-trans, unionOf, unionOf-rising, unionOf-grown, within-unionOf, rises-pair, delivered-rises, delivered-within, delivered-grows}
+use Rattle.rule.specs.Round.{union, End, Pair, keysAt, Entry, waits, delivered, answers, line, noting, run, runAll, half}
+use Rattle.rule.proofs.Pair.{Rises, Within, Grows, grows-refl, grows-trans, unionOf, unionOf-rising, unionOf-grown, within-unionOf, delivered-rises, delivered-within, delivered-grows}
 use Rattle.rule.proofs.Entry.{Sound, sound-limit, AllSound, allSound-grown, allSound-append, entry, sound-entry, weight, weights, weights-append, weights-grown, weight-le, length-weights}
 use Rattle.rule.proofs.Deliver.{answers-sound, answers-weight, adding-within}
 
 -- ---- a fine state of a half
 
--- both stores rise and lie within u, at most 1,024 keys, and every entry that waits is sound
+-- both stores rise and lie within u, which a store can hold, and every entry that waits is sound
 pub record Fine (u : List ℕ) (p : Pair) (q : List Entry) : Type 0 where
   pub whole : Rising u
   pub fits : length u ≤ limit
@@ -236,42 +237,3 @@ half-grows s p = run-grows (length (unionOf p)) p (opening s p)
 
 pub half-union : (s : End) (p : Pair) → Rises p → length (unionOf p) ≤ limit → unionOf (half s p .stores) ≡ unionOf p
 half-union s p r h = unionOf-grown p (half s p .stores) r (half-fine s p r h .rises) (half-grows s p) (half-fine s p r h .within)
-
--- ---- a round
-
-pub roundOf-halves : (l r : List ℕ) → roundOf l r ≡ followed (half leftEnd (pair l r)) (half rightEnd (half leftEnd (pair l r) .stores))
-unfolding roundOf
-roundOf-halves l r = refl
-
--- both halves of a round of rising stores whose union has at most 1,024 keys
-pub record RoundedBy (l r : List ℕ) (x : Run) : Type 0 where
-  pub rises : Rises (x .stores)
-  pub within : Within (x .stores) (union l r)
-  pub grown : Grows (pair l r) (x .stores)
-  pub same-union : unionOf (x .stores) ≡ union l r
-  pub ends : x .waiting ≡ []
-  pub bound : length (x .lines) ≤ 2 * length (union l r)
-
-abbrev pub Rounded : List ℕ → List ℕ → Type 0
-Rounded l r = RoundedBy l r (roundOf l r)
-
-pub rounded : (l r : List ℕ) → Rising l → Rising r → length (union l r) ≤ limit → Rounded l r
-rounded l r rl rr h =
-    let p : Pair = pair l r in
-    let rp : Rises p = rises-pair l r rl rr in
-    let p′ : Pair = half leftEnd p .stores in
-    let u : unionOf p′ ≡ unionOf p = half-union leftEnd p rp h in
-    let rp′ : Rises p′ = half-fine leftEnd p rp h .rises in
-    let h′ : length (unionOf p′) ≤ limit = subst (λ (v : List ℕ). length v ≤ limit) (sym u) h in
-    let f : Fine (unionOf p′) (half rightEnd p′ .stores) (half rightEnd p′ .waiting) = half-fine rightEnd p′ rp′ h′ in
-    let a : length (half leftEnd p .lines) ≤ length (unionOf p) = length-half leftEnd p rp h in
-    let b : length (half rightEnd p′ .lines) ≤ length (unionOf p)
-    = subst (λ (v : List ℕ). length (half rightEnd p′ .lines) ≤ length v) u (length-half rightEnd p′ rp′ h′) in
-    subst (RoundedBy l r) (sym (roundOf-halves l r)) (record {
-      rises = f .rises;
-      within = subst (λ (v : List ℕ). Within (half rightEnd p′ .stores) v) u (f .within);
-      grown = grows-trans p p′ (half rightEnd p′ .stores) (half-grows leftEnd p) (half-grows rightEnd p′);
-      same-union = half-union rightEnd p′ rp′ h′ ∙ u;
-      ends = rw (half-ends leftEnd p rp h, half-ends rightEnd p′ rp′ h′);
-      bound = rw (length-append (half leftEnd p .lines) (half rightEnd p′ .lines)) (omega arith);
-    })

@@ -1,14 +1,15 @@
--- Laws of the definitions of the upper layer. The worked examples stand first: a definition that is wrong fails there.
+-- Laws of the definitions of the upper layer. The worked examples stand first: a definition that is wrong fails there. XLaws are the laws of specs/X.
 --   Cases      the worked examples
 --   PlaceLaws  what a lent run holds once something is written to it
 --   TableLaws  the pending table
 --   NodeLaws   a node in order
---   Union      the union of two stores
---   Pair       both stores of a round
---   Entry      what waits in a round, and its weight
---   Deliver    one delivery
---   Half       a half of a round ends, and its deliveries and what waits fit the union; a round
---   CallLaws   what the calls return, one law a return path
+--   RoundLaws  a round: both stores grow within their union, nothing waits at the end, how many deliveries there are. It rests, idea by idea, on
+--     Union      the union of two stores
+--     Pair       both stores of a round, and one of them replaced
+--     Entry      what waits, and its weight
+--     Deliver    one delivery: what it adds, and that its answers weigh less
+--     Half       a half ends, and its deliveries and what waits fit the union
+--   CallLaws   what the calls return, one law a return path; what comes out is in order
 --   Words      claims and records as words
 pub mod Cases
 pub mod PlaceLaws
@@ -19,5 +20,6 @@ pub mod Pair
 pub mod Entry
 pub mod Deliver
 pub mod Half
+pub mod RoundLaws
 pub mod CallLaws
 pub mod Words
