@@ -5,7 +5,7 @@ use Prim.Native.Nat.{ℕ, _+_, _-_, _≤_, _<_}
 use mathlib.Core.Bool.{Bool, true, false, cond, _&&_}
 use mathlib.Core.List.{List, [], _∷_, _++_}
 use mathlib.Core.Logic.{_⊎_, inl, inr, ⊎-elim}
-use mathlib.Core.Path.{_≡_, refl, _∙_}
+use mathlib.Core.Path.{_≡_, refl, sym, _∙_}
 use native.Mathlib.Omega.{arith}
 use borrow.Author.Tests.{leb-true, le-leb, eqb-true, eq-eqb, ne-eqb}
 use lib.Bits.{bitXor}
@@ -52,6 +52,14 @@ firstNo-append-no (q ∷ qs) b f = go (q .yes) f (firstNo-append-no qs b)
         → cond t (firstNo (qs ++ b)) (q .number) ≡ cond t (firstNo qs) (q .number)
     go true g rest = rest g
     go false g rest = refl
+
+-- where none of them all is answered no, none of either part is
+pub firstNo-front : (a b : List Question) → firstNo (a ++ b) ≡ 0 → firstNo a ≡ 0
+firstNo-front a b h =
+    ⊎-elim {C = firstNo a ≡ 0} (λ (e : firstNo a ≡ 0). e) (λ (f : firstNo a ≡ 0 → ⊥). sym (firstNo-append-no a b f) ∙ h) (eq-or-ne (firstNo a) 0)
+
+pub firstNo-rest : (a b : List Question) → Numbered a → firstNo (a ++ b) ≡ 0 → firstNo b ≡ 0
+firstNo-rest a b n h = sym (firstNo-append-zero a b n (firstNo-front a b h)) ∙ h
 
 -- ---- settle
 

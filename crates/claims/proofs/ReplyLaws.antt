@@ -6,6 +6,7 @@
 use Prim.Native.Nat.{ℕ, _+_, _-_, _/_, _≤_, _<_}
 use mathlib.Core.Bool.{Bool, true, false, cond, not, _&&_, false≢true, true≢false}
 use mathlib.Core.List.{List, [], _∷_, _++_, List·Memᴰ, List·Memᴰ·head, List·Memᴰ·tail, List·Memᴰ·not-nil, List·Memᴰ·cases-cons, List·Memᴰ·eq-of-singleton}
+use mathlib.Core.List.{Memᴰ·cast}
 use mathlib.Core.Logic.{_⊎_, inl, inr, ⊎-elim}
 use mathlib.Core.Path.{_≡_, refl, sym, ap, ap₂, _∙_, subst}
 use native.Mathlib.Omega.{arith}
@@ -42,6 +43,9 @@ pub adding-mem : (c : Claim) (l : List ℕ) (k : ℕ) → List·Memᴰ k (adding
 adding-mem c l k (List·Memᴰ·head e) = inl e
 adding-mem c l k (List·Memᴰ·tail (List·Memᴰ·head e)) = inr e
 adding-mem c l k (List·Memᴰ·tail (List·Memᴰ·tail m)) = absurd (List·Memᴰ·not-nil m)
+
+pub adding-sub : (c : Claim) (l m : List ℕ) → List·Memᴰ (c .lo) m → List·Memᴰ (c .hi) m → Sub (adding c l) m
+adding-sub c l m lo hi k i = ⊎-elim {C = List·Memᴰ k m} (λ (e : k ≡ c .lo). Memᴰ·cast e lo) (λ (e : k ≡ c .hi). Memᴰ·cast e hi) (adding-mem c l k i)
 
 pub hear-old : (c : Claim) (l : List ℕ) → Sub l (hear c l)
 hear-old c l = mem-insertAll-old (adding c l) l

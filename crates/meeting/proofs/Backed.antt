@@ -15,14 +15,13 @@ use Rattle.claims.specs.Reply.{adding, hear, reply, claimsOf}
 use Rattle.claims.proofs.Span.{first, last, mem-first, mem-last, length-span, span-rising}
 use Rattle.claims.proofs.QuestionLaws.{Passes, passes, judged-firstNo}
 use Rattle.claims.proofs.ClaimLaws.{spanClaim, spanClaim-passes, claimOf-span, wholeClaim-span}
-use Rattle.claims.proofs.ReplyLaws.{spanned-keys, adding-mem, hear-rising, hear-held, Spanned, reply-spanned}
+use Rattle.claims.proofs.ReplyLaws.{spanned-keys, adding-sub, hear-rising, hear-held, Spanned, reply-spanned}
 use Rattle.rule.specs.Table.{serve, sending}
 use Rattle.rule.specs.Round.{union, End, leftEnd, rightEnd, Pair, pair, Entry, delivered, answers, Line, Run, run, half, roundOf}
 use Rattle.rule.proofs.TableLaws.{sent-mem}
 use Rattle.rule.proofs.NodeLaws.{Fits}
 use Rattle.rule.proofs.Pair.{Rises, rises-pair, unionOf}
-use Rattle.rule.proofs.Entry.{Sound}
-use Rattle.rule.proofs.Deliver.{sound-within}
+use Rattle.rule.proofs.Entry.{Sound, sound-within}
 use Rattle.rule.proofs.Half.{Fine, fine-step, opening, halfway-opening, half-run, half-fine, half-union}
 
 pub record Backed (u : List ℕ) (c : Claim) : Type 0 where
@@ -43,12 +42,10 @@ pub backed-passes : (u : List ℕ) (c : Claim) → Backed u c → Passes c
 backed-passes u c b = subst Passes (sym (b .claim)) (spanClaim-passes (b .keys) (b .rises) (b .some) (b .fits))
 
 pub backed-adding : (u : List ℕ) (c : Claim) (l : List ℕ) → Backed u c → Sub (adding c l) u
-backed-adding u c l b k m =
-    ⊎-elim
-    {C = List·Memᴰ k u}
-    (λ (e : k ≡ c .lo). Memᴰ·cast (e ∙ ap (λ (d : Claim). d .lo) (b .claim)) (b .within (first (b .keys)) (mem-first (b .keys) (b .some))))
-    (λ (e : k ≡ c .hi). Memᴰ·cast (e ∙ ap (λ (d : Claim). d .hi) (b .claim)) (b .within (last (b .keys)) (mem-last (b .keys) (b .some))))
-    (adding-mem c l k m)
+backed-adding u c l b =
+    adding-sub c l u
+    (Memᴰ·cast (ap (λ (d : Claim). d .lo) (b .claim)) (b .within (first (b .keys)) (mem-first (b .keys) (b .some))))
+    (Memᴰ·cast (ap (λ (d : Claim). d .hi) (b .claim)) (b .within (last (b .keys)) (mem-last (b .keys) (b .some))))
 
 -- ---- the claims that are made
 

@@ -32,11 +32,11 @@ use Rattle.rule.proofs.Union.{union-rising, union-left, union-right, union-sub}
 use Rattle.rule.proofs.RoundLaws.{Rounded}
 use Rattle.rule.proofs.CallLaws.{met-done, met-refused, roundQuestions-yes, roundYes-rounded}
 use Rattle.meeting.specs.Event.{Event, To, enters, delivers, meets}
-use Rattle.meeting.specs.World.{World, start, Outcome, outcome, after, afterAll, numbers, enteredBy, keysEntered}
+use Rattle.meeting.specs.World.{World, start, outcome, after, afterAll, numbers, enteredBy, keysEntered}
 use Rattle.meeting.specs.Premise.{AllMeant}
 use Rattle.meeting.specs.Statement.{end, keysIn, enteredIn, different}
 use Rattle.meeting.proofs.Backed.{Backed, backed-passes, backed-adding}
-use Rattle.meeting.proofs.WorldLaws.{enters-done, enters-refused, replies-done, takes-done, meets-done, meets-refused}
+use Rattle.meeting.proofs.WorldLaws.{numbered, enters-done, enters-refused, replies-done, takes-done, meets-done, meets-refused}
 use Rattle.meeting.proofs.Invariant.{Good}
 use Rattle.meeting.proofs.Theorem.{good-end}
 
@@ -81,8 +81,8 @@ meets-number k m lent kiosks =
     let n : ℕ = firstNo (roundQuestions (kiosks k .store) (kiosks m .store) (length lent)) in
     ⊎-elim
     {C = outcome (meets k m lent) kiosks .number ≡ n}
-    (λ (z : n ≡ 0). ap (λ (o : Outcome). o .number) (meets-done k m lent kiosks z) ∙ sym z)
-    (λ (f : n ≡ 0 → ⊥). ap (λ (o : Outcome). o .number) (meets-refused k m lent kiosks f))
+    (λ (z : n ≡ 0). numbered (meets-done k m lent kiosks z) ∙ sym z)
+    (λ (f : n ≡ 0 → ⊥). numbered (meets-refused k m lent kiosks f))
     (eq-or-ne n 0)
 
 good-never-8 : (n : ℕ) (w : World) (ks : List ℕ) → Good n w ks → different ks ≤ limit → (k m : ℕ) (lent : List Delivery) →
@@ -149,7 +149,7 @@ good-accepted n w ks g h k To.reply c m =
     = firstNo-yes (question1 (w .kiosks k .store)) (claimQuestions c ++ (q ∷ [])) (g .ordered k .store)
     ∙ firstNo-append-zero (claimQuestions c) (q ∷ []) (claimQuestions-numbered c) (passes-firstNo c (backed-passes ks c b))
     ∙ firstNo-yes q [] (good-room n w ks g h k c b) in
-    ap (λ (o : Outcome). o .number) (replies-done k c (w .kiosks) z)
+    numbered (replies-done k c (w .kiosks) z)
 good-accepted n w ks g h k To.table c m =
     let b : Backed ks c = g .backed c m in
     let q = question6 (ends c) (keysIn w k) in
@@ -157,7 +157,7 @@ good-accepted n w ks g h k To.table c m =
     = firstNo-yes (nodeQuestion1 (w .kiosks k)) (claimQuestions c ++ (q ∷ [])) (ordered-nodeInOrder (w .kiosks k) (g .ordered k))
     ∙ firstNo-append-zero (claimQuestions c) (q ∷ []) (claimQuestions-numbered c) (passes-firstNo c (backed-passes ks c b))
     ∙ firstNo-yes q [] (good-room n w ks g h k c b) in
-    ap (λ (o : Outcome). o .number) (takes-done k c (w .kiosks) z)
+    numbered (takes-done k c (w .kiosks) z)
 
 pub made-accepted : (n : ℕ) (es : List Event) → AllMeant n es start → different (enteredIn es) ≤ limit → (before others : List Event) → before ++ others ≡ es →
     (k : ℕ) (to : To) (c : Claim) → List·Memᴰ c (end before .made) → outcome (delivers k to c) (end before .kiosks) .number ≡ 0
@@ -170,8 +170,8 @@ enters-number k x kiosks =
     let n : ℕ = firstNo (enterQuestions (kiosks k .store) x) in
     ⊎-elim
     {C = outcome (enters k x) kiosks .number ≡ n}
-    (λ (z : n ≡ 0). ap (λ (o : Outcome). o .number) (enters-done k x kiosks z) ∙ sym z)
-    (λ (f : n ≡ 0 → ⊥). ap (λ (o : Outcome). o .number) (enters-refused k x kiosks f))
+    (λ (z : n ≡ 0). numbered (enters-done k x kiosks z) ∙ sym z)
+    (λ (f : n ≡ 0 → ⊥). numbered (enters-refused k x kiosks f))
     (eq-or-ne n 0)
 
 good-entering-6 : (n : ℕ) (w : World) (ks : List ℕ) → Good n w ks → different ks ≤ limit → (k x : ℕ) → outcome (enters k x) (w .kiosks) .number ≡ 6 →

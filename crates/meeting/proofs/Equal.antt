@@ -17,7 +17,7 @@ use Rattle.claims.specs.Question.{firstNo}
 use Rattle.claims.specs.Reply.{hear, own, same, answer, reply, claimsOf}
 use Rattle.claims.proofs.Span.{mem-first, mem-last, first-le-last, between-first-last}
 use Rattle.claims.proofs.ClaimLaws.{spanClaim, claim-same, wholeClaim-span}
-use Rattle.claims.proofs.ReplyLaws.{hear-held, own-between}
+use Rattle.claims.proofs.ReplyLaws.{adding-sub, hear-held, own-between}
 use Rattle.rule.specs.Round.{End, leftEnd, rightEnd, other, Pair, pair, keysAt, holding, Entry, waits, delivered, answers, line, Run, noting, runAll, half, roundOf}
 use Rattle.rule.specs.Call.{roundQuestions, met}
 use Rattle.rule.proofs.Union.{union-self}
@@ -25,25 +25,20 @@ use Rattle.rule.proofs.Pair.{rises-pair, holding-same}
 use Rattle.rule.proofs.Entry.{entry}
 use Rattle.rule.proofs.Half.{Halfway, halfway-opening, opening, half-opening, runAll-nil, runAll-cons}
 use Rattle.rule.proofs.CallLaws.{RoundYes, roundQuestions-yes, met-done}
-use Rattle.meeting.proofs.Backed.{Backed, backed-adding}
 
 answer-match : (c : Claim) (l : List ℕ) → same (own c l) c ≡ true → answer c l ≡ Match
 unfolding answer
 answer-match c l h = rw h
 
 -- a store matches its own whole claim, and adds nothing
-whole-heard : (k : ℕ) (ks : List ℕ) → Rising (k ∷ ks) → length (k ∷ ks) ≤ limit → hear (spanClaim (k ∷ ks)) (k ∷ ks) ≡ k ∷ ks
-whole-heard k ks r h =
-    let l : List ℕ = k ∷ ks in
-    let b : Backed l (spanClaim l) = record { keys = l; claim = refl; rises = r; some = omega arith; fits = h; within = λ x m. m } in
-    hear-held (spanClaim l) l r (backed-adding l (spanClaim l) l b)
+whole-heard : (l : List ℕ) → Rising l → 0 < length l → hear (spanClaim l) l ≡ l
+whole-heard l r n = hear-held (spanClaim l) l r (adding-sub (spanClaim l) l l (mem-first l n) (mem-last l n))
 
-whole-match : (k : ℕ) (ks : List ℕ) → Rising (k ∷ ks) → length (k ∷ ks) ≤ limit → reply (spanClaim (k ∷ ks)) (k ∷ ks) ≡ Match
-whole-match k ks r h =
-    let l : List ℕ = k ∷ ks in
+whole-match : (l : List ℕ) → Rising l → 0 < length l → reply (spanClaim l) l ≡ Match
+whole-match l r n =
     let o : own (spanClaim l) l ≡ spanClaim l
-    = own-between (spanClaim l) l r (first-le-last l r) (mem-first l (omega arith)) (mem-last l (omega arith)) ∙ ap spanClaim (between-first-last l r) in
-    ap (answer (spanClaim l)) (whole-heard k ks r h) ∙ answer-match (spanClaim l) l (claim-same (own (spanClaim l) l) (spanClaim l) o)
+    = own-between (spanClaim l) l r (first-le-last l r) (mem-first l n) (mem-last l n) ∙ ap spanClaim (between-first-last l r) in
+    ap (answer (spanClaim l)) (whole-heard l r n) ∙ answer-match (spanClaim l) l (claim-same (own (spanClaim l) l) (spanClaim l) o)
 
 keysAt-twin : (s : End) (l : List ℕ) → keysAt s (pair l l) ≡ l
 keysAt-twin leftEnd l = refl
@@ -70,12 +65,8 @@ half-equal s l r h = subst (Still l) (sym (half-opening s (pair l l))) (go l ref
         let x : Entry = entry s l (spanClaim l) in
         let n : 0 < length l = subst (λ (y : List ℕ). 0 < length y) (sym e) (omega arith) in
         let i : opening s p ≡ x ∷ [] = ap (λ (y : List ℕ). waits s y (wholeClaim y)) (keysAt-twin s l) ∙ ap (waits s l) (wholeClaim-span l n) in
-        let heard : hear (spanClaim l) (keysAt (other s) p) ≡ l
-        = ap (hear (spanClaim l)) (keysAt-twin (other s) l)
-        ∙ subst (λ (y : List ℕ). hear (spanClaim y) y ≡ y) (sym e) (whole-heard k ks (subst Rising e r) (subst (λ (y : List ℕ). length y ≤ limit) e h)) in
-        let answered : reply (spanClaim l) (keysAt (other s) p) ≡ Match
-        = ap (reply (spanClaim l)) (keysAt-twin (other s) l)
-        ∙ subst (λ (y : List ℕ). reply (spanClaim y) y ≡ Match) (sym e) (whole-match k ks (subst Rising e r) (subst (λ (y : List ℕ). length y ≤ limit) e h)) in
+        let heard : hear (spanClaim l) (keysAt (other s) p) ≡ l = ap (hear (spanClaim l)) (keysAt-twin (other s) l) ∙ whole-heard l r n in
+        let answered : reply (spanClaim l) (keysAt (other s) p) ≡ Match = ap (reply (spanClaim l)) (keysAt-twin (other s) l) ∙ whole-match l r n in
         let same-pair : delivered x p ≡ p = ap (λ (y : List ℕ). holding (other s) y p) (heard ∙ sym (keysAt-twin (other s) l)) ∙ holding-same (other s) p in
         let none : answers x p ≡ [] = ap (λ (a : Answer). waits (other s) (hear (spanClaim l) (keysAt (other s) p)) (claimsOf a)) answered in
         let w : Halfway p (x ∷ []) = subst (Halfway p) i way in

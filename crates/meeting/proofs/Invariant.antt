@@ -10,7 +10,7 @@ use lib.ListN.{length}
 use Rattle.keys.specs.declared.store.Store.{Store}
 use Rattle.keys.specs.Store.{limit, keysOf, storeOf, insert}
 use Rattle.keys.proofs.Tests.{eq-or-ne}
-use Rattle.keys.proofs.Rising.{Rising, Sub, sub-refl, sub-trans, rising-length, sub-append-left}
+use Rattle.keys.proofs.Rising.{Rising, Sub, sub-refl, sub-trans, sub-append-left}
 use Rattle.keys.proofs.Insert.{mem-insert-new, mem-insert-old, insert-sub, insert-rising}
 use Rattle.keys.proofs.Order.{keysOf-storeOf, count-storeOf, inOrder-rising}
 use Rattle.claims.specs.declared.claim.Claim.{Claim}
@@ -27,7 +27,7 @@ use Rattle.rule.specs.Node.{nodeKeys, pendingOf, nodeOf}
 use Rattle.rule.specs.Round.{union, leftEnd, rightEnd, Line}
 use Rattle.rule.specs.Call.{takeQuestions, beatQuestions, roundQuestions, roundBy}
 use Rattle.rule.proofs.NodeLaws.{Ordered, restored, ordered-restored, nodeKeys-nodeOf, store-nodeOf, emptyNode-nodeOf, ordered-emptyNode}
-use Rattle.rule.proofs.Union.{union-rising, union-sub}
+use Rattle.rule.proofs.Union.{union-sub}
 use Rattle.rule.proofs.RoundLaws.{Rounded}
 use Rattle.rule.proofs.CallLaws.{TakeYes, takeQuestions-yes, ordered-taken, ordered-beaten, length-nodeKeys, length-pendingOf, RoundYes, roundQuestions-yes, roundYes-rounded}
 use Rattle.meeting.specs.Event.{Event, To, enters, makes, delivers, beats, meets}
@@ -35,7 +35,7 @@ use Rattle.meeting.specs.World.{World, start, withNode, withStore, Outco
 use Rattle.meeting.specs.Premise.{Refused, Meant, AllMeant}
 use Rattle.meeting.specs.Statement.{keysIn, InSome}
 use Rattle.meeting.proofs.Backed.{Backed, backed-sub, backed-adding, claimOf-backed, reply-backed, sending-backed, round-backed}
-use Rattle.meeting.proofs.WorldLaws.{refusal, withNode-each, withNode-here, withNode-there, EnterYes, enterQuestions-yes, enters-done, enters-refused, MakeYes, makeQuestions-yes, makes-done, makes-refused, ReplyYes, replyQuestions-yes, replies-done, replies-refused, takes-done, takes-refused, beats-done, beats-refused, meets-done, meets-refused, enteredBy-refused}
+use Rattle.meeting.proofs.WorldLaws.{numbered, refusal, withNode-each, withNode-here, withNode-there, EnterYes, enterQuestions-yes, enters-done, enters-refused, MakeYes, makeQuestions-yes, makes-done, makes-refused, ReplyYes, replyQuestions-yes, replies-done, replies-refused, takes-done, takes-refused, beats-done, beats-refused, meets-done, meets-refused, enteredBy-refused}
 
 -- ---- the invariant
 
@@ -227,7 +227,7 @@ module _ (n : ℕ) (w : World) (ks : List ℕ) (g : Good n w ks) where
       done z =
           let y : ReplyYes s c = replyQuestions-yes s c z in
           let i : outcome (delivers k To.reply c) (w .kiosks) ≡ o = replies-done k c (w .kiosks) z in
-          let v : Backed ks c = delivered-backed n w ks (delivers k To.reply c) c g d (ap (λ (x : Outcome). x .number) i) in
+          let v : Backed ks c = delivered-backed n w ks (delivers k To.reply c) c g d (numbered i) in
           let h : Sub (hear c l) ks = hear-sub c l ks (backed-adding ks c l v) (g .within k) in
           let r : Rising l = inOrder-rising s (y .store) in
           good-after n w ks (delivers k To.reply c) o i refl
@@ -254,7 +254,7 @@ module _ (n : ℕ) (w : World) (ks : List ℕ) (g : Good n w ks) where
       done z =
           let y : TakeYes a c = takeQuestions-yes a c z in
           let i : outcome (delivers k To.table c) (w .kiosks) ≡ o = takes-done k c (w .kiosks) z in
-          let v : Backed ks c = delivered-backed n w ks (delivers k To.table c) c g d (ap (λ (x : Outcome). x .number) i) in
+          let v : Backed ks c = delivered-backed n w ks (delivers k To.table c) c g d (numbered i) in
           let h : Sub (hear c l) ks = hear-sub c l ks (backed-adding ks c l v) (g .within k) in
           good-after n w ks (delivers k To.table c) o i refl
           (good-next n w ks o g
@@ -320,12 +320,8 @@ module _ (n : ℕ) (w : World) (ks : List ℕ) (g : Good n w ks) where
       lines-backed (x ∷ xs) f c (List·Memᴰ·tail i) = lines-backed xs (λ y a. f y (List·Memᴰ·tail a)) c i
 
       -- an end of the round: its keys grew within the union
-      end-grew : RoundYes s t (length lent) → (j : ℕ) (x : List ℕ) → Rising x → Sub (keysIn w j) x → Sub x u →
-          Grew ks (w .kiosks j) (restored (w .kiosks j) (storeOf x))
-      end-grew y j x rx old new =
-          let a : length x ≤ length u = rising-length x u rx (union-rising (keysOf s) (keysOf t) (inOrder-rising t (y .right))) new in
-          let h : length u ≤ limit = y .fits in
-          grew-restored ks (w .kiosks j) x (g .ordered j) rx (omega arith) old (sub-trans x u ks new known)
+      end-grew : (j : ℕ) (x : List ℕ) → Rising x → length x ≤ limit → Sub (keysIn w j) x → Sub x u → Grew ks (w .kiosks j) (restored (w .kiosks j) (storeOf x))
+      end-grew j x rx h old new = grew-restored ks (w .kiosks j) x (g .ordered j) rx h old (sub-trans x u ks new known)
 
       done : firstNo (roundQuestions s t (length lent)) ≡ 0 → GoodAfter n w ks (meets k m lent)
       done z =
@@ -333,11 +329,11 @@ module _ (n : ℕ) (w : World) (ks : List ℕ) (g : Good n w ks) where
           let q : Rounded (keysOf s) (keysOf t) = roundYes-rounded s t (length lent) y in
           let first : (j : ℕ) → Grew ks (w .kiosks j) (kiosks′ j)
           = grew-one n w ks ks g (sub-refl ks) k (restored (w .kiosks k) (storeOf l))
-          (end-grew y k l (q .rises leftEnd) (q .grown leftEnd) (q .within leftEnd)) in
+          (end-grew k l (q .rises leftEnd) (q .fits leftEnd) (q .grown leftEnd) (q .within leftEnd)) in
           let same : kiosks′ m ≡ w .kiosks m = withNode-there k m (restored (w .kiosks k) (storeOf l)) (w .kiosks) (λ (e : m ≡ k). different (sym e)) in
           let second : Grew ks (w .kiosks m) (restored (kiosks′ m) (storeOf r))
           = subst (λ (x : Node). Grew ks (w .kiosks m) (restored x (storeOf r))) (sym same)
-          (end-grew y m r (q .rises rightEnd) (q .grown rightEnd) (q .within rightEnd)) in
+          (end-grew m r (q .rises rightEnd) (q .fits rightEnd) (q .grown rightEnd) (q .within rightEnd)) in
           good-after n w ks (meets k m lent) o (meets-done k m lent (w .kiosks) z) refl
           (good-next n w ks o g
           (withNode-each (λ (j : ℕ) (x : Node). Grew ks (w .kiosks j) x) m (restored (kiosks′ m) (storeOf r)) kiosks′ second first)

@@ -20,8 +20,7 @@ use Rattle.claims.proofs.ClaimLaws.{spanClaim}
 use Rattle.claims.proofs.ReplyLaws.{hear-rising, hear-lo, hear-hi, Answered, matched, asked, helped-one, helped-two, Part, reply-answered, answerBy, answer-by}
 use Rattle.rule.specs.Round.{End, Pair, keysAt, holding, Entry, waits, receiver, keysBefore, delivered, answers, Line, line, run}
 use Rattle.rule.proofs.Pair.{Rises}
-use Rattle.rule.proofs.Entry.{sound-limit}
-use Rattle.rule.proofs.Half.{Fine, fine-step}
+use Rattle.rule.proofs.Half.{Fine, fine-passes, fine-step}
 
 -- ---- keys added, seen through a range
 
@@ -170,7 +169,7 @@ run-local zero u p p′ q f f′ a = refl
 run-local (suc n) u p p′ [] f f′ a = refl
 run-local (suc n) u p p′ (e ∷ q) f f′ a =
     let here : AgreeOn p p′ e = a e (List·Memᴰ·head refl) in
-    let k : Passes (e .claim) = sound-limit p e u (f .sound e (List·Memᴰ·head refl)) (f .within) (f .whole) (f .fits) in
+    let k : Passes (e .claim) = fine-passes u p e q f in
     let same-answers : answers e p ≡ answers e p′ = answers-local p p′ e (f .rises) (f′ .rises) k here in
     let f₁ : Fine u (delivered e p) (q ++ answers e p) = fine-step u p e q f in
     let f₂ : Fine u (delivered e p′) (q ++ answers e p)

@@ -12,7 +12,7 @@ use lib.ListN.{length}
 use Rattle.keys.specs.declared.store.Store.{Store}
 use Rattle.keys.specs.Store.{limit, keysOf, storeOf, inOrder, allZero}
 use Rattle.keys.proofs.Tests.{and-left, and-right}
-use Rattle.keys.proofs.Rising.{Rising, Sub, rising-length}
+use Rattle.keys.proofs.Rising.{Rising}
 use Rattle.keys.proofs.Order.{keysOf-storeOf, inOrder-storeOf, inOrder-rising}
 use Rattle.claims.specs.Question.{firstNo}
 use Rattle.rule.specs.declared.node.Node.{Node}
@@ -20,7 +20,7 @@ use Rattle.rule.specs.declared.delivery.Delivery.{Delivery}
 use Rattle.rule.specs.Round.{union, leftEnd, rightEnd}
 use Rattle.rule.specs.Call.{roundQuestions, roundBy}
 use Rattle.rule.proofs.NodeLaws.{restored}
-use Rattle.rule.proofs.Union.{union-comm, union-rising}
+use Rattle.rule.proofs.Union.{union-comm}
 use Rattle.rule.proofs.RoundLaws.{Rounded}
 use Rattle.rule.proofs.CallLaws.{RoundYes, roundQuestions-yes, roundYes-rounded, met-zero}
 use Rattle.meeting.specs.Event.{Event, meets}
@@ -55,8 +55,8 @@ pub record Stepped (w : World) (k m : ℕ) (w′ : World) : Type 0 where
 pub meets-stepped : (w : World) (k m : ℕ) (lent : List Delivery) → (k ≡ m → ⊥) → outcome (meets k m lent) (w .kiosks) .number ≡ 0 →
     falseIn (meets k m lent) w ≡ false → Stepped w k m (after (meets k m lent) w)
 meets-stepped w k m lent different h honest = record {
-  left = subst Ready (sym at-left) (ready-storeOf l (q .rises leftEnd) (fits l (q .rises leftEnd) (q .within leftEnd)));
-  right = subst Ready (sym at-right) (ready-storeOf r (q .rises rightEnd) (fits r (q .rises rightEnd) (q .within rightEnd)));
+  left = subst Ready (sym at-left) (ready-storeOf l (q .rises leftEnd) (q .fits leftEnd));
+  right = subst Ready (sym at-right) (ready-storeOf r (q .rises rightEnd) (q .fits rightEnd));
   same-union = rw (ap keysOf at-left, ap keysOf at-right, keysOf-storeOf l, keysOf-storeOf r) (q .same-union);
   closer =
       rw (ap keysOf at-left, ap keysOf at-right, keysOf-storeOf l, keysOf-storeOf r)
@@ -83,13 +83,6 @@ meets-stepped w k m lent different h honest = record {
 
     r : List ℕ
     r = roundBy s t .stores .right
-
-    fits : (x : List ℕ) → Rising x → Sub x (union (keysOf s) (keysOf t)) → length x ≤ limit
-    fits x rx v =
-        let a : length x ≤ length (union (keysOf s) (keysOf t))
-        = rising-length x (union (keysOf s) (keysOf t)) rx (union-rising (keysOf s) (keysOf t) (inOrder-rising t (y .right))) v in
-        let b : length (union (keysOf s) (keysOf t)) ≤ limit = y .fits in
-        omega arith
 
     kiosks′ : ℕ → Node
     kiosks′ = withStore k (storeOf l) (w .kiosks)

@@ -2,7 +2,7 @@
 -- they were; then, from the end of the run backwards, every entry that ever waited agrees with its receiver, the whole claims too, so each store has
 -- all keys of the other. In order: growth by sizes; fresh entries; entries that agree; a half; a round. Assumes nothing.
 use Prim.Native.Nat.{ℕ, zero, suc, _+_, _≤_}
-use mathlib.Core.Bool.{Bool, true, false, _||_, false≢true}
+use mathlib.Core.Bool.{Bool, true, false, _||_, false≢true, or-assoc}
 use mathlib.Core.List.{List, [], _∷_, _++_, List·Memᴰ, List·Memᴰ·head, List·Memᴰ·tail, List·Memᴰ·not-nil, List·Memᴰ·append-cases, Memᴰ·append-left, Memᴰ·append-right, Memᴰ·cast}
 use mathlib.Core.Logic.{⊎-elim}
 use mathlib.Core.Path.{_≡_, refl, sym, ap, _∙_, subst}
@@ -22,8 +22,8 @@ use Rattle.claims.proofs.ClaimLaws.{spanClaim, rangeClaim, spanClaim-range, who
 use Rattle.claims.proofs.ReplyLaws.{hear-rising, hear-lo, hear-hi, Answered, matched, asked, helped-one, helped-two, reply-answered, match-same}
 use Rattle.rule.specs.Round.{union, End, leftEnd, rightEnd, other, Pair, pair, keysAt, Entry, waits, receiver, keysBefore, delivered, answers, Line, Run, anyFalse, run, half, roundOf}
 use Rattle.rule.proofs.Pair.{other-other, keysAt-receiver, Rises, Grows, unionOf, rises-pair, size, delivered-size, delivered-heard, delivered-same}
-use Rattle.rule.proofs.Entry.{Sound, sound-ends, sound-cnt, sound-limit, entry}
-use Rattle.rule.proofs.Half.{Fine, fine-step, run-fine, run-grows, halfway-opening, opening, half-run, half-fine, half-ends, half-grows, half-union}
+use Rattle.rule.proofs.Entry.{Sound, sound-ends, sound-cnt, entry}
+use Rattle.rule.proofs.Half.{Fine, fine-passes, fine-step, run-fine, run-grows, halfway-opening, opening, half-run, half-fine, half-ends, half-grows, half-union}
 
 -- ---- growth, by sizes
 
@@ -142,7 +142,7 @@ agrees-step u p e q f fresh still honest below = go
     heard = delivered-heard e p (f .rises) still
 
     passes : Passes (e .claim)
-    passes = sound-limit p e u s (f .within) (f .whole) (f .fits)
+    passes = fine-passes u p e q f
 
     fresh′ : (x : Entry) → List·Memᴰ x (q ++ answers e p) → Fresh (delivered e p) x
     fresh′ x m =
@@ -202,18 +202,9 @@ half-sub s p r h honest still =
 
 -- ---- a round
 
-anyFalse-append-left : (a b : List Line) → anyFalse (a ++ b) ≡ false → anyFalse a ≡ false
-anyFalse-append-left [] b h = refl
-anyFalse-append-left (x ∷ xs) b h =
-    both (x .isFalse) (anyFalse xs) (or-left (x .isFalse) (anyFalse (xs ++ b)) h) (anyFalse-append-left xs b (or-right (x .isFalse) (anyFalse (xs ++ b)) h))
-  where
-    both : (s t : Bool) → s ≡ false → t ≡ false → (s || t) ≡ false
-    both true t i j = i
-    both false t i j = j
-
-anyFalse-append-right : (a b : List Line) → anyFalse (a ++ b) ≡ false → anyFalse b ≡ false
-anyFalse-append-right [] b h = h
-anyFalse-append-right (x ∷ xs) b h = anyFalse-append-right xs b (or-right (x .isFalse) (anyFalse (xs ++ b)) h)
+anyFalse-append : (a b : List Line) → anyFalse (a ++ b) ≡ (anyFalse a || anyFalse b)
+anyFalse-append [] b = refl
+anyFalse-append (x ∷ xs) b = ap (λ (t : Bool). x .isFalse || t) (anyFalse-append xs b) ∙ sym (or-assoc (x .isFalse) (anyFalse xs) (anyFalse b))
 
 pub progress : (l r : List ℕ) → Rising l → Rising r → length (union l r) ≤ limit → anyFalse (roundOf l r .lines) ≡ false →
     size (roundOf l r .stores) ≤ length l + length r → l ≡ r
@@ -228,7 +219,9 @@ progress l r rl rr h honest still =
     let grew : size p ≤ size p′ = grows-size p p′ rp rp′ (half-grows leftEnd p) in
     let grew′ : size p′ ≤ size (half rightEnd p′ .stores) = grows-size p′ (half rightEnd p′ .stores) rp′ rp″ (half-grows rightEnd p′) in
     let same : p ≡ p′ = grows-same p p′ rp rp′ (half-grows leftEnd p) (omega arith) in
-    let a : Sub l r = half-sub leftEnd p rp h (anyFalse-append-left (half leftEnd p .lines) (half rightEnd p′ .lines) honest) (omega arith) in
-    let b : Sub (p′ .right) (p′ .left)
-    = half-sub rightEnd p′ rp′ h′ (anyFalse-append-right (half leftEnd p .lines) (half rightEnd p′ .lines) honest) (omega arith) in
+    let first : Bool = anyFalse (half leftEnd p .lines) in
+    let second : Bool = anyFalse (half rightEnd p′ .lines) in
+    let none : (first || second) ≡ false = sym (anyFalse-append (half leftEnd p .lines) (half rightEnd p′ .lines)) ∙ honest in
+    let a : Sub l r = half-sub leftEnd p rp h (or-left first second none) (omega arith) in
+    let b : Sub (p′ .right) (p′ .left) = half-sub rightEnd p′ rp′ h′ (or-right first second none) (omega arith) in
     rising-ext l r rl rr a (subst (λ (x : Pair). Sub (x .right) (x .left)) (sym same) b)

@@ -2,7 +2,8 @@
 -- from one entry is as many deliveries as if it waited alone. In order: ranges apart; they stay so; a delivery is not seen outside its range; the sum.
 -- Assumes nothing.
 use Prim.Native.Nat.{ℕ, zero, suc, _+_, _≤_, _<_}
-use mathlib.Core.List.{List, [], _∷_, _++_, List·Memᴰ, List·Memᴰ·head, List·Memᴰ·tail, List·Memᴰ·not-nil, List·Memᴰ·append-cases, Memᴰ·append-left, Memᴰ·append-right}
+use mathlib.Core.List.{List, [], _∷_, _++_, List·Memᴰ, List·Memᴰ·head, List·Memᴰ·tail, List·Memᴰ·not-nil, List·Memᴰ·append-cases, List·Memᴰ·eq-of-singleton}
+use mathlib.Core.List.{Memᴰ·append-left, Memᴰ·append-right}
 use mathlib.Core.Logic.{_⊎_, inl, inr, ⊎-elim}
 use mathlib.Core.Path.{_≡_, refl, sym, ap, _∙_, subst}
 use native.Mathlib.Omega.{arith}
@@ -71,13 +72,9 @@ answers-pairwise p e r q = go (reply c (keysBefore e p)) (reply-answered c (keys
     go _ (helped-two {d = d} {e = d′} y z g o i j x t v w) =
         let a : d .hi < d′ .lo
         = subst (λ (m : ℕ). m < d′ .lo) (sym (ap (λ (b : Claim). b .hi) i)) (subst (λ (m : ℕ). last y < m) (sym (ap (λ (b : Claim). b .lo) j)) w) in (
-          λ f m. two d d′ a f m,
+          λ f m. subst (λ (b : Entry). Separate (entry (receiver e) k d) b) (sym (List·Memᴰ·eq-of-singleton m)) (inl a),
           (none (entry (receiver e) k d′), tt),
         )
-      where
-        two : (d d′ : Claim) → d .hi < d′ .lo → (f : Entry) → List·Memᴰ f (entry (receiver e) k d′ ∷ []) → Separate (entry (receiver e) k d) f
-        two d d′ a f (List·Memᴰ·head s) = subst (λ (b : Entry). Separate (entry (receiver e) k d) b) (sym s) (inl a)
-        two d d′ a f (List·Memᴰ·tail m) = absurd (List·Memᴰ·not-nil m)
 
 pub pairwise-step : (u : List ℕ) (p : Pair) (e : Entry) (q : List Entry) → Fine u p (e ∷ q) → Pairwise (e ∷ q) → Pairwise (q ++ answers e p)
 pairwise-step u p e q f w =

@@ -18,7 +18,7 @@ use Rattle.claims.specs.Claim.{claimOf}
 use Rattle.claims.specs.Question.{firstNo, question1, question6, question7, claimQuestions}
 use Rattle.claims.specs.Reply.{ends, hear, reply, claimsOf}
 use Rattle.claims.specs.Call.{enterQuestions, entered, makeQuestions, made, replyQuestions, replied}
-use Rattle.claims.proofs.QuestionLaws.{firstNo-zero, firstNo-append-zero, firstNo-append-no, Passes, passes, claimQuestions-numbered}
+use Rattle.claims.proofs.QuestionLaws.{firstNo-zero, Passes, passes}
 use Rattle.claims.proofs.ReplyLaws.{numberOf-answer}
 use Rattle.rule.specs.declared.node.Node.{Node}
 use Rattle.rule.specs.declared.delivery.Delivery.{Delivery}
@@ -26,7 +26,7 @@ use Rattle.rule.specs.Table.{tableWith, serve, sending}
 use Rattle.rule.specs.Node.{nodeKeys, pendingOf, nodeOf}
 use Rattle.rule.specs.Round.{Line, transcript}
 use Rattle.rule.specs.Call.{takeQuestions, claimWords, beatQuestions, roundQuestions, roundBy}
-use Rattle.rule.proofs.CallLaws.{taken-done, taken-refused, beaten-done, beaten-refused, beatenLent-done, met-done, met-refused, metLent-done}
+use Rattle.rule.proofs.CallLaws.{claimQuestions-6, taken-done, taken-refused, beaten-done, beaten-refused, beatenLent-done, met-done, met-refused, metLent-done}
 use Rattle.meeting.specs.Event.{Event, To, enters, makes, delivers, beats, meets}
 use Rattle.meeting.specs.World.{withNode, withStore, Outcome, readClaims, readRecords, outcome, enteredBy}
 
@@ -58,6 +58,9 @@ withStore-same k kiosks = withNode-same k kiosks
 -- a call refused with the number n: the kiosks as they were, and no claim
 abbrev pub refusal : ℕ → (ℕ → Node) → Outcome
 refusal n kiosks = record { number = n; kiosks = kiosks; claims = [] }
+
+pub numbered : {o p : Outcome} → o ≡ p → o .number ≡ p .number
+numbered e = ap (λ (o : Outcome). o .number) e
 
 -- ---- what is read off the lent places
 
@@ -131,18 +134,9 @@ pub record ReplyYes (s : Store) (c : Claim) : Type 0 where
 
 pub replyQuestions-yes : (s : Store) (c : Claim) → firstNo (replyQuestions s c) ≡ 0 → ReplyYes s c
 replyQuestions-yes s c h =
-    let q = question6 (ends c) (keysOf s) in
-    let a = firstNo-zero (question1 s) (claimQuestions c ++ (q ∷ [])) (omega arith) h in
-    let j : firstNo (claimQuestions c) ≡ 0
-    = ⊎-elim
-    {C = firstNo (claimQuestions c) ≡ 0}
-    (λ (e : firstNo (claimQuestions c) ≡ 0). e)
-    (λ (f : firstNo (claimQuestions c) ≡ 0 → ⊥). absurd (f (sym (firstNo-append-no (claimQuestions c) (q ∷ []) f) ∙ a .1)))
-    (eq-or-ne (firstNo (claimQuestions c)) 0) in
-    let b : firstNo (q ∷ []) ≡ 0 = sym (firstNo-append-zero (claimQuestions c) (q ∷ []) (claimQuestions-numbered c) j) ∙ a .1 in
-    let d = firstNo-zero q [] (omega arith) b in
-    let z : length (insertAll (ends c) (keysOf s)) < limit + 1 = ltb-true (length (insertAll (ends c) (keysOf s))) (limit + 1) (d .0) in
-    record { store = a .0; passes = passes c j; room = omega arith }
+    let a = firstNo-zero (question1 s) (claimQuestions c ++ (question6 (ends c) (keysOf s) ∷ [])) (omega arith) h in
+    let b = claimQuestions-6 c (keysOf s) (a .1) in
+    record { store = a .0; passes = passes c (b .0); room = b .1 }
 
 pub replies-done : (k : ℕ) (c : Claim) (kiosks : ℕ → Node) → firstNo (replyQuestions (kiosks k .store) c) ≡ 0 →
     outcome (delivers k To.reply c) kiosks
@@ -218,9 +212,6 @@ meets-refused k m lent kiosks f =
     ∙ ap (refusal (firstNo (roundQuestions s t (length lent)))) (withStore-same m kiosks))
 
 -- ---- a refused call
-
-numbered : {o p : Outcome} → o ≡ p → o .number ≡ p .number
-numbered e = ap (λ (o : Outcome). o .number) e
 
 -- one call: it is refused just where its questions say so
 refused-by : (o : Outcome) (n : ℕ) (kiosks : ℕ → Node) → (n ≡ 0 → o .number ≡ 0) → ((n ≡ 0 → ⊥) → o ≡ refusal n kiosks) →

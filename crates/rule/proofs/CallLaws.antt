@@ -4,12 +4,12 @@
 -- Assumes nothing.
 use Prim.Native.Nat.{ℕ, _+_, _*_, _/_, _≤_, _<_}
 use mathlib.Core.Bool.{true}
-use mathlib.Core.List.{List, [], _∷_, _++_, List·Memᴰ, Memᴰ·append-left}
+use mathlib.Core.List.{List, [], _∷_, _++_, List·Memᴰ}
 use mathlib.Core.Logic.{⊎-elim}
 use mathlib.Core.Path.{_≡_, sym, ap, _∙_, subst}
 use native.Mathlib.Omega.{arith}
 use borrow.Author.Tests.{ltb-true, leb-true}
-use lib.ListN.{length, take, drop, length-take, take-append-drop}
+use lib.ListN.{length, length-take}
 use Rattle.keys.specs.declared.store.Store.{Store}
 use Rattle.keys.specs.Store.{limit, keysOf, storeOf, inOrder, insertAll}
 use Rattle.keys.proofs.Tests.{eq-or-ne}
@@ -18,21 +18,31 @@ use Rattle.claims.specs.declared.claim.Claim.{Claim}
 use Rattle.claims.specs.Question.{firstNo, question1, question6, claimQuestions}
 use Rattle.claims.specs.Reply.{ends, hear}
 use Rattle.claims.specs.Call.{judged}
-use Rattle.claims.proofs.QuestionLaws.{firstNo-yes, firstNo-zero, firstNo-append-zero, firstNo-append-no, settle-done, settle-refused, passes, claimQuestions-numbered, judged-firstNo}
+use Rattle.claims.proofs.QuestionLaws.{firstNo-yes, firstNo-zero, firstNo-append-zero, firstNo-front, firstNo-rest, settle-done, settle-refused}
+use Rattle.claims.proofs.QuestionLaws.{claimQuestions-numbered, judged-firstNo}
 use Rattle.claims.proofs.ReplyLaws.{hear-rising, hear-old, hear-new}
 use Rattle.rule.specs.declared.node.Node.{Node}
 use Rattle.rule.specs.declared.delivery.Delivery.{Delivery}
 use Rattle.rule.specs.declared.answer.Met.{Met}
-use Rattle.rule.specs.Table.{tableLimit, tableWith, insertClaim, serve, sending}
+use Rattle.rule.specs.Table.{tableLimit, tableWith, serve, sending}
 use Rattle.rule.specs.Node.{nodeKeys, pendingOf, nodeOf}
 use Rattle.rule.specs.Round.{union, transcript}
 use Rattle.rule.specs.Question.{nodeQuestion1, question8, question9}
 use Rattle.rule.specs.Call.{writtenOver, takeQuestions, taken, claimWords, beatQuestions, beaten, beatenLent, roundQuestions, roundBy, met, metLent, deliveryWords, metWords}
-use Rattle.rule.proofs.TableLaws.{climbs-tableWith, climbs-kept, insertClaim-mem, kept-mem, length-tableWith, length-kept}
+use Rattle.rule.proofs.TableLaws.{climbs-tableWith, climbs-kept, tableWith-mem, kept-mem, length-tableWith, length-kept}
 use Rattle.rule.proofs.NodeLaws.{Fits, fits-sub, Ordered, ordered-nodeInOrder, nodeInOrder-ordered, ordered-nodeOf}
 use Rattle.rule.proofs.RoundLaws.{Rounded, rounded}
 
 -- ---- taking
+
+-- questions 2 to 5 of a claim, then 6 of its ends: as taking asks, and a reply
+pub claimQuestions-6 : (c : Claim) (l : List ℕ) → firstNo (claimQuestions c ++ (question6 (ends c) l ∷ [])) ≡ 0 →
+    (firstNo (claimQuestions c) ≡ 0) × (length (insertAll (ends c) l) ≤ limit)
+claimQuestions-6 c l h =
+    let q = question6 (ends c) l in
+    let a : firstNo (q ∷ []) ≡ 0 = firstNo-rest (claimQuestions c) (q ∷ []) (claimQuestions-numbered c) h in
+    let b : length (insertAll (ends c) l) < limit + 1 = ltb-true (length (insertAll (ends c) l)) (limit + 1) (firstNo-zero q [] (omega arith) a .0) in
+    (firstNo-front (claimQuestions c) (q ∷ []) h, omega arith)
 
 pub record TakeYes (n : Node) (c : Claim) : Type 0 where
   pub node : Ordered n
@@ -42,21 +52,8 @@ pub record TakeYes (n : Node) (c : Claim) : Type 0 where
 pub takeQuestions-yes : (n : Node) (c : Claim) → firstNo (takeQuestions n c) ≡ 0 → TakeYes n c
 takeQuestions-yes n c h =
     let a = firstNo-zero (nodeQuestion1 n) (claimQuestions c ++ (question6 (ends c) (nodeKeys n) ∷ [])) (omega arith) h in
-    let j : firstNo (claimQuestions c) ≡ 0
-    = ⊎-elim
-    {C = firstNo (claimQuestions c) ≡ 0}
-    (λ (e : firstNo (claimQuestions c) ≡ 0). e)
-    (λ (f : firstNo (claimQuestions c) ≡ 0 → ⊥). absurd (f (sym (firstNo-append-no (claimQuestions c) (question6 (ends c) (nodeKeys n) ∷ []) f) ∙ a .1)))
-    (eq-or-ne (firstNo (claimQuestions c)) 0) in
-    let b : firstNo (question6 (ends c) (nodeKeys n) ∷ []) ≡ 0
-    = sym (firstNo-append-zero (claimQuestions c) (question6 (ends c) (nodeKeys n) ∷ []) (claimQuestions-numbered c) j) ∙ a .1 in
-    let d = firstNo-zero (question6 (ends c) (nodeKeys n)) [] (omega arith) b in
-    record {
-      node = nodeInOrder-ordered n (a .0);
-      judged = judged-firstNo c ∙ j;
-      room =
-          let z : length (insertAll (ends c) (nodeKeys n)) < limit + 1 = ltb-true (length (insertAll (ends c) (nodeKeys n))) (limit + 1) (d .0) in omega arith;
-    }
+    let b = claimQuestions-6 c (nodeKeys n) (a .1) in
+    record { node = nodeInOrder-ordered n (a .0); judged = judged-firstNo c ∙ b .0; room = b .1 }
 
 -- what is left to ask of a claim that passes 2 to 5, of a node in order, is 6
 pub takeQuestions-6 : (n : Node) (c : Claim) → Ordered n → judged c ≡ 0 → firstNo (takeQuestions n c) ≡ firstNo (question6 (ends c) (nodeKeys n) ∷ [])
@@ -67,15 +64,11 @@ takeQuestions-6 n c o pass =
 pub taken-done : (n : Node) (c : Claim) → firstNo (takeQuestions n c) ≡ 0 →
     taken n c ≡ record { number = 0; node = nodeOf (hear c (nodeKeys n)) (tableWith c (pendingOf n)) }
 unfolding taken
-taken-done n c h =
-    settle-done (firstNo (takeQuestions n c)) (record { number = 0; node = nodeOf (hear c (nodeKeys n)) (tableWith c (pendingOf n)) })
-    (λ x. record { number = x; node = n }) h
+taken-done n c h = settle-done _ _ (λ x. record { number = x; node = n }) h
 
 pub taken-refused : (n : Node) (c : Claim) → (firstNo (takeQuestions n c) ≡ 0 → ⊥) → taken n c ≡ record { number = firstNo (takeQuestions n c); node = n }
 unfolding taken
-taken-refused n c f =
-    settle-refused (firstNo (takeQuestions n c)) (record { number = 0; node = nodeOf (hear c (nodeKeys n)) (tableWith c (pendingOf n)) })
-    (λ x. record { number = x; node = n }) f
+taken-refused n c f = settle-refused _ _ (λ x. record { number = x; node = n }) f
 
 -- ---- a beat
 
@@ -83,23 +76,17 @@ pub beaten-done : (n : Node) (lent : List ℕ) → firstNo (beatQuestions n lent
     beaten n lent ≡ record
     { number = 0; node = nodeOf (nodeKeys n) (serve (nodeKeys n) (pendingOf n) .kept); written = length (sending (nodeKeys n) (pendingOf n)) }
 unfolding beaten
-beaten-done n lent h =
-    settle-done (firstNo (beatQuestions n lent))
-    (record { number = 0; node = nodeOf (nodeKeys n) (serve (nodeKeys n) (pendingOf n) .kept); written = length (sending (nodeKeys n) (pendingOf n)) })
-    (λ x. record { number = x; node = n; written = 0 }) h
+beaten-done n lent h = settle-done _ _ (λ x. record { number = x; node = n; written = 0 }) h
 
 pub beaten-refused : (n : Node) (lent : List ℕ) → (firstNo (beatQuestions n lent) ≡ 0 → ⊥) →
     beaten n lent ≡ record { number = firstNo (beatQuestions n lent); node = n; written = 0 }
 unfolding beaten
-beaten-refused n lent f =
-    settle-refused (firstNo (beatQuestions n lent))
-    (record { number = 0; node = nodeOf (nodeKeys n) (serve (nodeKeys n) (pendingOf n) .kept); written = length (sending (nodeKeys n) (pendingOf n)) })
-    (λ x. record { number = x; node = n; written = 0 }) f
+beaten-refused n lent f = settle-refused _ _ (λ x. record { number = x; node = n; written = 0 }) f
 
 pub beatenLent-done : (n : Node) (lent : List ℕ) → firstNo (beatQuestions n lent) ≡ 0 →
     beatenLent n lent ≡ writtenOver (claimWords (sending (nodeKeys n) (pendingOf n))) lent
 unfolding beatenLent
-beatenLent-done n lent h = settle-done (firstNo (beatQuestions n lent)) (writtenOver (claimWords (sending (nodeKeys n) (pendingOf n))) lent) (λ x. lent) h
+beatenLent-done n lent h = settle-done _ _ (λ x. lent) h
 
 -- ---- a round
 
@@ -127,18 +114,12 @@ roundQuestions-yes s t n h =
 pub met-done : (s t : Store) (n : ℕ) → firstNo (roundQuestions s t n) ≡ 0 →
     met s t n ≡ record { number = 0; left = storeOf (roundBy s t .stores .left); right = storeOf (roundBy s t .stores .right); deliveries = length (roundBy s t .lines) }
 unfolding met
-met-done s t n h =
-    settle-done (firstNo (roundQuestions s t n))
-    (record { number = 0; left = storeOf (roundBy s t .stores .left); right = storeOf (roundBy s t .stores .right); deliveries = length (roundBy s t .lines) })
-    (λ x. record { number = x; left = s; right = t; deliveries = 0 }) h
+met-done s t n h = settle-done _ _ (λ x. record { number = x; left = s; right = t; deliveries = 0 }) h
 
 pub met-refused : (s t : Store) (n : ℕ) → (firstNo (roundQuestions s t n) ≡ 0 → ⊥) →
     met s t n ≡ record { number = firstNo (roundQuestions s t n); left = s; right = t; deliveries = 0 }
 unfolding met
-met-refused s t n f =
-    settle-refused (firstNo (roundQuestions s t n))
-    (record { number = 0; left = storeOf (roundBy s t .stores .left); right = storeOf (roundBy s t .stores .right); deliveries = length (roundBy s t .lines) })
-    (λ x. record { number = x; left = s; right = t; deliveries = 0 }) f
+met-refused s t n f = settle-refused _ _ (λ x. record { number = x; left = s; right = t; deliveries = 0 }) f
 
 -- a round that answers 0 was not refused
 pub met-zero : (s t : Store) (n : ℕ) → met s t n .number ≡ 0 → firstNo (roundQuestions s t n) ≡ 0
@@ -152,22 +133,20 @@ met-zero s t n h =
 pub metLent-done : (s t : Store) (lent : List Delivery) → firstNo (roundQuestions s t (length lent)) ≡ 0 →
     metLent s t lent ≡ writtenOver (transcript (roundBy s t)) lent
 unfolding metLent
-metLent-done s t lent h = settle-done (firstNo (roundQuestions s t (length lent))) (writtenOver (transcript (roundBy s t)) lent) (λ x. lent) h
+metLent-done s t lent h = settle-done _ _ (λ x. lent) h
 
 pub metLent-refused : (s t : Store) (lent : List Delivery) → (firstNo (roundQuestions s t (length lent)) ≡ 0 → ⊥) → metLent s t lent ≡ lent
 unfolding metLent
-metLent-refused s t lent f = settle-refused (firstNo (roundQuestions s t (length lent))) (writtenOver (transcript (roundBy s t)) lent) (λ x. lent) f
+metLent-refused s t lent f = settle-refused _ _ (λ x. lent) f
 
 pub metWords-done : (s t : Store) (lent : List ℕ) → firstNo (roundQuestions s t (length lent / 5)) ≡ 0 →
     metWords s t lent ≡ writtenOver (deliveryWords (transcript (roundBy s t))) lent
 unfolding metWords
-metWords-done s t lent h =
-    settle-done (firstNo (roundQuestions s t (length lent / 5))) (writtenOver (deliveryWords (transcript (roundBy s t))) lent) (λ x. lent) h
+metWords-done s t lent h = settle-done _ _ (λ x. lent) h
 
 pub metWords-refused : (s t : Store) (lent : List ℕ) → (firstNo (roundQuestions s t (length lent / 5)) ≡ 0 → ⊥) → metWords s t lent ≡ lent
 unfolding metWords
-metWords-refused s t lent f =
-    settle-refused (firstNo (roundQuestions s t (length lent / 5))) (writtenOver (deliveryWords (transcript (roundBy s t))) lent) (λ x. lent) f
+metWords-refused s t lent f = settle-refused _ _ (λ x. lent) f
 
 -- ---- what comes out is in order
 
@@ -181,10 +160,7 @@ ordered-taken n c y =
     {C = Fits d (hear c l)}
     (λ (e : d ≡ c). subst (λ (x : Claim). Fits x (hear c l)) (sym e) (record { passes = y .judged; held = hear-new c l }))
     (λ (o : List·Memᴰ d (pendingOf n)). fits-sub d l (hear c l) (hear-old c l) (y .node .fit d o))
-    (insertClaim-mem c (pendingOf n) d (take-mem tableLimit (insertClaim c (pendingOf n)) d m)))
-  where
-    take-mem : (k : ℕ) (t : List Claim) (d : Claim) → List·Memᴰ d (take k t) → List·Memᴰ d t
-    take-mem k t d m = subst (λ (x : List Claim). List·Memᴰ d x) (take-append-drop k t) (Memᴰ·append-left (drop k t) m)
+    (tableWith-mem c (pendingOf n) d m))
 
 pub length-nodeKeys : (n : Node) → Ordered n → length (nodeKeys n) ≤ limit
 length-nodeKeys n o = rw (length-take (n .store .count) (n .store .keys)) (omega (arith, inOrder-count (n .store) (o .store)))

@@ -1,13 +1,12 @@
 -- One delivery in a round: `delivered` and `answers` of Round. In order: it adds only keys of the union; claims of spans of a store wait soundly, so
 -- the answers do; they weigh at least 1 less than what was delivered. `u` is the union of both stores. Assumes nothing.
 use Prim.Native.Nat.{ℕ, _+_, _-_, _≤_, _<_}
-use mathlib.Core.List.{List, [], _∷_, List·Memᴰ, List·Memᴰ·head, List·Memᴰ·tail, List·Memᴰ·not-nil, Memᴰ·cast}
-use mathlib.Core.Logic.{⊎-elim}
+use mathlib.Core.List.{List, [], _∷_, List·Memᴰ, List·Memᴰ·head, List·Memᴰ·tail, List·Memᴰ·not-nil}
 use mathlib.Core.Path.{_≡_, refl, sym, ap, _∙_, subst}
 use native.Mathlib.Omega.{arith}
 use lib.ListN.{length}
 use Rattle.keys.specs.Store.{limit}
-use Rattle.keys.proofs.Rising.{Rising, Sub, sub-refl, sub-trans, rising-length}
+use Rattle.keys.proofs.Rising.{Rising, Sub, sub-refl, rising-length}
 use Rattle.claims.specs.declared.claim.Claim.{Claim}
 use Rattle.claims.specs.declared.answer.Answer.{Answer}
 use Rattle.claims.specs.Claim.{between}
@@ -16,15 +15,12 @@ use Rattle.claims.proofs.Between.{inside, between-rising, length-between-within
 use Rattle.claims.proofs.Span.{first, last}
 use Rattle.claims.proofs.QuestionLaws.{Passes}
 use Rattle.claims.proofs.ClaimLaws.{spanClaim, rangeClaim, spanClaim-range}
-use Rattle.claims.proofs.ReplyLaws.{adding-mem, hear-rising, hear-old, hear-lo, hear-hi, Answered, matched, asked, helped-one, helped-two, reply-answered, Spanned, reply-spanned}
+use Rattle.claims.proofs.ReplyLaws.{adding-sub, hear-rising, hear-old, hear-lo, hear-hi, Answered, matched, asked, helped-one, helped-two, reply-answered, Spanned, reply-spanned}
 use Rattle.rule.specs.Round.{End, other, Pair, keysAt, Entry, waits, receiver, keysBefore, delivered, answers}
 use Rattle.rule.proofs.Pair.{Rises, Within, other-other, keysAt-receiver, keysAt-sender}
-use Rattle.rule.proofs.Entry.{Sound, sound-ends, sound-cnt, sound-sub-between, sound-limit, AllSound, entry, sound-entry, weight, weights, weight-le, weight-ge, weight-full, weight-less, weight-least}
+use Rattle.rule.proofs.Entry.{Sound, sound-ends, sound-cnt, sound-sub-between, sound-within, sound-limit, AllSound, entry, sound-entry, weight, weights, weight-le, weight-ge, weight-full, weight-less, weight-least}
 
 -- ---- what is added
-
-pub sound-within : (u : List ℕ) (p : Pair) (e : Entry) → Sound p e → Within p u → Sub (e .held) u
-sound-within u p e s w = sub-trans (e .held) (keysAt (e .sender) p) u (s .there) (w (e .sender))
 
 pub mem-lo : (u : List ℕ) (p : Pair) (e : Entry) → Sound p e → Within p u → List·Memᴰ (e .claim .lo) u
 mem-lo u p e s w = sound-within u p e s w (e .claim .lo) (sound-ends p e s (e .claim .lo) (List·Memᴰ·head refl))
@@ -33,12 +29,7 @@ pub mem-hi : (u : List ℕ) (p : Pair) (e : Entry) → Sound p e → Within p u 
 mem-hi u p e s w = sound-within u p e s w (e .claim .hi) (sound-ends p e s (e .claim .hi) (List·Memᴰ·tail (List·Memᴰ·head refl)))
 
 pub adding-within : (u : List ℕ) (p : Pair) (e : Entry) → Sound p e → Within p u → Sub (adding (e .claim) (keysBefore e p)) u
-adding-within u p e s w k m =
-    ⊎-elim
-    {C = List·Memᴰ k u}
-    (λ (h : k ≡ e .claim .lo). Memᴰ·cast h (mem-lo u p e s w))
-    (λ (h : k ≡ e .claim .hi). Memᴰ·cast h (mem-hi u p e s w))
-    (adding-mem (e .claim) (keysBefore e p) k m)
+adding-within u p e s w = adding-sub (e .claim) (keysBefore e p) u (mem-lo u p e s w) (mem-hi u p e s w)
 
 -- ---- the answers are sound
 

@@ -56,19 +56,22 @@ sound-sub-between p e l s h k m = let t = sound-range p e s k m in mem-between (
 pub sound-passes : (p : Pair) (e : Entry) → Sound p e → length (e .held) ≤ limit → Passes (e .claim)
 sound-passes p e s h = subst Passes (sym (s .is)) (spanClaim-passes (e .held) (s .rises) (s .some) h)
 
--- where its sender's keys lie within u, no more were held than u has from lo to hi
+-- where its sender's keys lie within u, so does what was held ..
+pub sound-within : (u : List ℕ) (p : Pair) (e : Entry) → Sound p e → Within p u → Sub (e .held) u
+sound-within u p e s w = sub-trans (e .held) (keysAt (e .sender) p) u (s .there) (w (e .sender))
+
+-- .. and no more was held than u has from lo to hi
 pub sound-length : (p : Pair) (e : Entry) (u : List ℕ) → Sound p e → Within p u → Rising u → e .claim .cnt ≤ length (between (e .claim .lo) (e .claim .hi) u)
 sound-length p e u s w r =
     let c : e .claim .cnt ≡ length (e .held) = sound-cnt p e s in
     let h : length (e .held) ≤ length (between (e .claim .lo) (e .claim .hi) u)
     = rising-length (e .held) (between (e .claim .lo) (e .claim .hi) u) (s .rises) (between-rising (e .claim .lo) (e .claim .hi) u r)
-    (sound-sub-between p e u s (sub-trans (e .held) (keysAt (e .sender) p) u (s .there) (w (e .sender)))) in
+    (sound-sub-between p e u s (sound-within u p e s w)) in
     omega arith
 
 pub sound-limit : (p : Pair) (e : Entry) (u : List ℕ) → Sound p e → Within p u → Rising u → length u ≤ limit → Passes (e .claim)
 sound-limit p e u s w r h =
-    sound-passes p e s
-    (let a : length (e .held) ≤ length u = rising-length (e .held) u (s .rises) r (sub-trans (e .held) (keysAt (e .sender) p) u (s .there) (w (e .sender))) in omega arith)
+    sound-passes p e s (let a : length (e .held) ≤ length u = rising-length (e .held) u (s .rises) r (sound-within u p e s w) in omega arith)
 
 pub sound-grown : (p p′ : Pair) (e : Entry) → Grows p p′ → Sound p e → Sound p′ e
 sound-grown p p′ e g s = record {

@@ -3,7 +3,7 @@
 -- without its bound; a half. Each delivery takes at least 1 off the weights of what waits. Not here: the round, of two halves (RoundLaws).
 -- Assumes nothing.
 use Prim.Native.Nat.{ℕ, zero, suc, _+_, _≤_}
-use mathlib.Core.List.{List, [], _∷_, _++_, List·Memᴰ, List·Memᴰ·head, List·Memᴰ·tail, List·Memᴰ·not-nil}
+use mathlib.Core.List.{List, [], _∷_, _++_, List·Memᴰ·head, List·Memᴰ·tail, List·Memᴰ·not-nil, List·Memᴰ·eq-of-singleton}
 use mathlib.Core.Path.{_≡_, refl, sym, ap, _∙_, subst}
 use native.Mathlib.Omega.{arith}
 use lib.ListN.{length}
@@ -14,7 +14,7 @@ use Rattle.claims.proofs.Between.{length-between}
 use Rattle.claims.proofs.Span.{first, last, between-first-last}
 use Rattle.claims.proofs.QuestionLaws.{Passes}
 use Rattle.claims.proofs.ClaimLaws.{spanClaim, wholeClaim-span}
-use Rattle.rule.specs.Round.{union, End, Pair, keysAt, Entry, waits, delivered, answers, line, noting, run, runAll, half}
+use Rattle.rule.specs.Round.{End, Pair, keysAt, Entry, waits, delivered, answers, line, noting, run, runAll, half}
 use Rattle.rule.proofs.Pair.{Rises, Within, Grows, grows-refl, grows-trans, unionOf, unionOf-rising, unionOf-grown, within-unionOf, delivered-rises, delivered-within, delivered-grows}
 use Rattle.rule.proofs.Entry.{Sound, sound-limit, AllSound, allSound-grown, allSound-append, entry, sound-entry, weight, weights, weights-append, weights-grown, weight-le, length-weights}
 use Rattle.rule.proofs.Deliver.{answers-sound, answers-weight, adding-within}
@@ -131,11 +131,17 @@ pub record Halfway (p : Pair) (q : List Entry) : Type 0 where
   pub fine : Fine (unionOf p) p q
   pub light : weights (unionOf p) p q ≤ length (unionOf p)
 
+-- its deliveries leave the union as it is
+halfway-union : (p : Pair) (e : Entry) (q : List Entry) → Halfway p (e ∷ q) → unionOf (delivered e p) ≡ unionOf p
+halfway-union p e q h =
+    let f : Fine (unionOf p) (delivered e p) (q ++ answers e p) = fine-step (unionOf p) p e q (h .fine) in
+    unionOf-grown p (delivered e p) (h .fine .rises) (f .rises) (delivered-grows e p) (f .within)
+
 -- a delivery leads to the next such state: with `runAll-cons`, an induction over a half's deliveries, as counting them will want it
 pub halfway-step : (p : Pair) (e : Entry) (q : List Entry) → Halfway p (e ∷ q) → Halfway (delivered e p) (q ++ answers e p)
 halfway-step p e q h =
     let f : Fine (unionOf p) (delivered e p) (q ++ answers e p) = fine-step (unionOf p) p e q (h .fine) in
-    let k : unionOf (delivered e p) ≡ unionOf p = unionOf-grown p (delivered e p) (h .fine .rises) (f .rises) (delivered-grows e p) (f .within) in
+    let k : unionOf (delivered e p) ≡ unionOf p = halfway-union p e q h in
     let w : weights (unionOf p) (delivered e p) (q ++ answers e p) ≤ length (unionOf p) = omega (arith, weights-step (unionOf p) p e q (h .fine), h .light) in
     record {
       fine = subst (λ (u : List ℕ). Fine u (delivered e p) (q ++ answers e p)) (sym k) f;
@@ -158,16 +164,13 @@ runAll-cons p e q h = go (length (unionOf p)) refl
     f : Fine u (delivered e p) (q ++ answers e p)
     f = fine-step u p e q (h .fine)
 
-    k : unionOf (delivered e p) ≡ u
-    k = unionOf-grown p (delivered e p) (h .fine .rises) (f .rises) (delivered-grows e p) (f .within)
-
     go : (n : ℕ) → length u ≡ n → run n p (e ∷ q) ≡ noting (line e p) (run (length (unionOf (delivered e p))) (delivered e p) (q ++ answers e p))
     go zero z = absurd (omega (arith, weights-step u p e q (h .fine), h .light))
     go (suc n) z =
         run-cons n p e q
         ∙ ap (noting (line e p))
         (run-more n (length u) u (delivered e p) (q ++ answers e p) f (omega (arith, weights-step u p e q (h .fine), h .light)) (omega (arith, weights-step u p e q (h .fine), h .light))
-        ∙ ap (λ (v : List ℕ). run (length v) (delivered e p) (q ++ answers e p)) (sym k))
+        ∙ ap (λ (v : List ℕ). run (length v) (delivered e p) (q ++ answers e p)) (sym (halfway-union p e q h)))
 
 pub runAll-ends : (p : Pair) (q : List Entry) → Halfway p q → runAll p q .waiting ≡ []
 unfolding runAll
@@ -191,20 +194,16 @@ opening-whole s p (k ∷ ks) r e h =
     let a : Sound p x = sound-entry p s l l rl (subst (λ (m : List ℕ). Sub l m) e (sub-refl l)) (omega arith) (between-first-last l rl) in
     let b : weight (unionOf p) p x ≤ length (between (first l) (last l) (unionOf p)) = weight-le (unionOf p) p x in
     let c : length (between (first l) (last l) (unionOf p)) ≤ length (unionOf p) = length-between (first l) (last l) (unionOf p) in
-    subst (λ (q : List Entry). Halfway p q) (sym i) (record {
+    subst (Halfway p) (sym i) (record {
       fine = record {
         whole = unionOf-rising p r;
         fits = h;
         rises = r;
         within = within-unionOf p;
-        sound = λ y m. one x y a m;
+        sound = λ y m. subst (Sound p) (sym (List·Memᴰ·eq-of-singleton m)) a;
       };
       light = omega arith;
     })
-  where
-    one : (x y : Entry) → Sound p x → List·Memᴰ y (x ∷ []) → Sound p y
-    one x y a (List·Memᴰ·head z) = subst (λ (t : Entry). Sound p t) (sym z) a
-    one x y a (List·Memᴰ·tail m) = absurd (List·Memᴰ·not-nil m)
 
 pub halfway-opening : (s : End) (p : Pair) → Rises p → length (unionOf p) ≤ limit → Halfway p (opening s p)
 halfway-opening s p r h = opening-whole s p (keysAt s p) r refl h

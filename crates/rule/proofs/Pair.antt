@@ -6,8 +6,8 @@ use mathlib.Core.Path.{_≡_, refl, ap, _∙_}
 use native.Mathlib.Omega.{arith}
 use lib.ListN.{length}
 use Rattle.keys.proofs.Rising.{Rising, Sub, sub-refl, sub-trans}
-use Rattle.keys.proofs.Insert.{insertAll-rising, mem-insertAll-old, insertAll-sub, length-insertAll-ge, insertAll-same}
 use Rattle.claims.specs.Reply.{adding, hear}
+use Rattle.claims.proofs.ReplyLaws.{hear-old, hear-sub, hear-rising, length-hear-ge, hear-same}
 use Rattle.rule.specs.Round.{union, End, leftEnd, rightEnd, other, Pair, pair, keysAt, holding, Entry, receiver, keysBefore, delivered}
 use Rattle.rule.proofs.Union.{union-rising, union-left, union-right, union-grown}
 
@@ -83,17 +83,17 @@ unionOf-grown p p′ r r′ g w =
 pub delivered-rises : (e : Entry) (p : Pair) → Rises p → Rises (delivered e p)
 delivered-rises e p r =
     holding-each (λ (s : End) (l : List ℕ). Rising l) (receiver e) (hear (e .claim) (keysBefore e p)) p
-    (insertAll-rising (adding (e .claim) (keysBefore e p)) (keysBefore e p) (r (receiver e))) r
+    (hear-rising (e .claim) (keysBefore e p) (r (receiver e))) r
 
 pub delivered-within : (e : Entry) (p : Pair) (u : List ℕ) → Sub (adding (e .claim) (keysBefore e p)) u → Within p u → Within (delivered e p) u
 delivered-within e p u h w =
     holding-each (λ (s : End) (l : List ℕ). Sub l u) (receiver e) (hear (e .claim) (keysBefore e p)) p
-    (insertAll-sub (adding (e .claim) (keysBefore e p)) (keysBefore e p) u h (w (receiver e))) w
+    (hear-sub (e .claim) (keysBefore e p) u h (w (receiver e))) w
 
 pub delivered-grows : (e : Entry) (p : Pair) → Grows p (delivered e p)
 delivered-grows e p =
     holding-each (λ (s : End) (l : List ℕ). Sub (keysAt s p) l) (receiver e) (hear (e .claim) (keysBefore e p)) p
-    (mem-insertAll-old (adding (e .claim) (keysBefore e p)) (keysBefore e p)) (grows-refl p)
+    (hear-old (e .claim) (keysBefore e p)) (grows-refl p)
 
 -- ---- how many keys both have
 
@@ -109,12 +109,12 @@ holding-size-le leftEnd l p h = omega arith
 holding-size-le rightEnd l p h = omega arith
 
 pub delivered-size : (e : Entry) (p : Pair) → size p ≤ size (delivered e p)
-delivered-size e p = holding-size (receiver e) (hear (e .claim) (keysBefore e p)) p (length-insertAll-ge (adding (e .claim) (keysBefore e p)) (keysBefore e p))
+delivered-size e p = holding-size (receiver e) (hear (e .claim) (keysBefore e p)) p (length-hear-ge (e .claim) (keysBefore e p))
 
 -- a delivery after which there are no more keys changed nothing
 pub delivered-heard : (e : Entry) (p : Pair) → Rises p → size (delivered e p) ≤ size p → hear (e .claim) (keysBefore e p) ≡ keysBefore e p
 delivered-heard e p r h =
-    insertAll-same (adding (e .claim) (keysBefore e p)) (keysBefore e p) (r (receiver e)) (holding-size-le (receiver e) (hear (e .claim) (keysBefore e p)) p h)
+    hear-same (e .claim) (keysBefore e p) (r (receiver e)) (holding-size-le (receiver e) (hear (e .claim) (keysBefore e p)) p h)
 
 pub delivered-same : (e : Entry) (p : Pair) → Rises p → size (delivered e p) ≤ size p → delivered e p ≡ p
 delivered-same e p r h = ap (λ (l : List ℕ). holding (receiver e) l p) (delivered-heard e p r h) ∙ holding-same (receiver e) p

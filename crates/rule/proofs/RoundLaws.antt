@@ -6,8 +6,8 @@ use mathlib.Core.Path.{_≡_, refl, sym, _∙_, subst}
 use native.Mathlib.Omega.{arith}
 use lib.ListN.{length, length-append}
 use Rattle.keys.specs.Store.{limit}
-use Rattle.keys.proofs.Rising.{Rising}
-use Rattle.rule.specs.Round.{union, leftEnd, rightEnd, Pair, pair, Run, half, followed, roundOf}
+use Rattle.keys.proofs.Rising.{Rising, rising-length}
+use Rattle.rule.specs.Round.{union, End, leftEnd, rightEnd, Pair, pair, keysAt, Run, half, followed, roundOf}
 use Rattle.rule.proofs.Pair.{Rises, Within, Grows, grows-trans, unionOf, rises-pair}
 use Rattle.rule.proofs.Half.{Fine, half-fine, half-ends, length-half, half-grows, half-union}
 
@@ -19,6 +19,7 @@ roundOf-halves l r = refl
 pub record RoundedBy (l r : List ℕ) (x : Run) : Type 0 where
   pub rises : Rises (x .stores)
   pub within : Within (x .stores) (union l r)
+  pub fits : (s : End) → length (keysAt s (x .stores)) ≤ limit
   pub grown : Grows (pair l r) (x .stores)
   pub same-union : unionOf (x .stores) ≡ union l r
   pub ends : x .waiting ≡ []
@@ -42,6 +43,10 @@ rounded l r rl rr h =
     subst (RoundedBy l r) (sym (roundOf-halves l r)) (record {
       rises = f .rises;
       within = subst (λ (v : List ℕ). Within (half rightEnd p′ .stores) v) u (f .within);
+      fits = λ s.
+          let c : length (keysAt s (half rightEnd p′ .stores)) ≤ length (unionOf p′)
+          = rising-length (keysAt s (half rightEnd p′ .stores)) (unionOf p′) (f .rises s) (f .whole) (f .within s) in
+          omega arith;
       grown = grows-trans p p′ (half rightEnd p′ .stores) (half-grows leftEnd p) (half-grows rightEnd p′);
       same-union = half-union rightEnd p′ rp′ h′ ∙ u;
       ends = rw (half-ends leftEnd p rp h, half-ends rightEnd p′ rp′ h′);

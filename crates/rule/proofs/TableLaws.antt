@@ -3,12 +3,12 @@
 -- Not here: the node around the table (NodeLaws). Assumes nothing.
 use Prim.Native.Nat.{ℕ, zero, suc, _*_, _≤_, _<_}
 use mathlib.Core.Bool.{Bool, true, false, cond, _&&_, false≢true}
-use mathlib.Core.List.{List, [], _∷_, List·Memᴰ, List·Memᴰ·head, List·Memᴰ·tail, List·Memᴰ·not-nil, List·Memᴰ·append-cases}
+use mathlib.Core.List.{List, [], _∷_, List·Memᴰ, List·Memᴰ·head, List·Memᴰ·tail, List·Memᴰ·not-nil, List·Memᴰ·append-cases, Memᴰ·append-left}
 use mathlib.Core.Logic.{_⊎_, inl, inr, ⊎-elim}
-use mathlib.Core.Path.{_≡_, refl, sym, _∙_}
+use mathlib.Core.Path.{_≡_, refl, sym, _∙_, subst}
 use native.Mathlib.Omega.{arith}
 use borrow.Author.Tests.{lt-ltb, le-ltb, eq-eqb, ne-eqb}
-use lib.ListN.{length, take, length-append, length-take}
+use lib.ListN.{length, take, drop, length-append, length-take, take-append-drop}
 use Rattle.keys.proofs.Tests.{and-left, and-right, and-both, Order, less, equal, greater, order}
 use Rattle.claims.specs.declared.claim.Claim.{Claim}
 use Rattle.claims.specs.declared.answer.Answer.{Answer}
@@ -164,6 +164,11 @@ insertClaim-mem c (b ∷ bs) d m = go (before b c) (same b c) m (insertClaim-mem
     go false true n below = inr n
     go false false (List·Memᴰ·head e) below = inl e
     go false false (List·Memᴰ·tail n) below = inr n
+
+pub tableWith-mem : (c : Claim) (t : List Claim) (d : Claim) → List·Memᴰ d (tableWith c t) → (d ≡ c) ⊎ List·Memᴰ d t
+tableWith-mem c t d m =
+    insertClaim-mem c t d
+    (subst (λ (x : List Claim). List·Memᴰ d x) (take-append-drop tableLimit (insertClaim c t)) (Memᴰ·append-left (drop tableLimit (insertClaim c t)) m))
 
 pub kept-mem : (l : List ℕ) (t : List Claim) (d : Claim) → List·Memᴰ d (serve l t .kept) → List·Memᴰ d t
 kept-mem l [] d m = m
