@@ -76,7 +76,8 @@ pub apart-round : (l r : List ℕ) → Rising l → Rising r → length (union l
 apart-round l r p q h honest =
     let o : Rounded l r = rounded l r p q h in
     let a : length l + length r + apart l r ≡ 2 * length (union l r) = apart-size l r p q in
-    let b : size (roundOf l r .stores) + apart (roundOf l r .stores .left) (roundOf l r .stores .right) ≡ 2 * length (union (roundOf l r .stores .left) (roundOf l r .stores .right))
+    let b : size (roundOf l r .stores) + apart (roundOf l r .stores .left) (roundOf l r .stores .right)
+    ≡ 2 * length (union (roundOf l r .stores .left) (roundOf l r .stores .right))
     = apart-size (roundOf l r .stores .left) (roundOf l r .stores .right) (o .rises leftEnd) (o .rises rightEnd) in
     let c : length (union (roundOf l r .stores .left) (roundOf l r .stores .right)) ≡ length (union l r) = ap length (o .same-union) in
     ⊎-elim

@@ -51,7 +51,8 @@ pub keysEntered-append : (a b : List Event) (w : World) →
 keysEntered-append [] b w = refl
 keysEntered-append (e ∷ es) b w =
     ap (λ (x : List ℕ). enteredBy e (outcome e (w .kiosks) .number) ++ x) (keysEntered-append es b (after e w))
-    ∙ sym (append-assoc (enteredBy e (outcome e (w .kiosks) .number)) (keysEntered es (numbers es (after e w))) (keysEntered b (numbers b (afterAll es (after e w)))))
+    ∙ sym (append-assoc (enteredBy e (outcome e (w .kiosks) .number)) (keysEntered es (numbers es (after e w)))
+    (keysEntered b (numbers b (afterAll es (after e w)))))
 
 pub enteredIn-before : (a b : List Event) → Sub (enteredIn a) (enteredIn (a ++ b))
 enteredIn-before a b k m = subst (λ (x : List ℕ). List·Memᴰ k x) (sym (keysEntered-append a b start)) (Memᴰ·append-left (keysEntered b (numbers b (end a))) m)

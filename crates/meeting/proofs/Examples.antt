@@ -25,7 +25,8 @@ use Rattle.meeting.proofs.Meeting.{BothEnd}
 
 -- all that has to be opened to compute with the calls
 opened : Unit {0}
-unfolding zeros storeOf emptyStore inOrder answer judged entered made replied blanks nodeOf emptyNode nodeInOrder run runAll half roundOf taken beaten beatenLent met metLent outcome
+unfolding zeros storeOf emptyStore inOrder answer judged entered made replied blanks nodeOf emptyNode nodeInOrder
+    run runAll half roundOf taken beaten beatenLent met metLent outcome
 opened = tt
 
 zero-one : _≡_ {A = ℕ} 0 1 → ⊥
@@ -42,7 +43,10 @@ unfolding opened
 crossing-meant =
     let late = List·Memᴰ·head refl in
     let by-the-beat = List·Memᴰ·tail (List·Memᴰ·tail (List·Memᴰ·tail (List·Memᴰ·head refl))) in
-    (lit< tt, (lit< tt, (lit< tt, ((lit< tt, lit< tt, zero-one), (lit< tt, (lit< tt, ((lit< tt, inl by-the-beat), (lit< tt, ((lit< tt, inl late), ((lit< tt, inl late), ((lit< tt, inr two-zero), tt)))))))))))
+    let k0 = lit< tt in
+    let k1 = lit< tt in
+    let k2 = lit< tt in
+    (k0, (k0, (k1, ((k0, k1, zero-one), (k0, (k0, ((k2, inl by-the-beat), (k2, ((k2, inl late), ((k2, inl late), ((k1, inr two-zero), tt)))))))))))
 
 pub crossing-few : different (enteredIn crossing) ≤ limit
 unfolding opened

@@ -2,7 +2,8 @@
 -- store of its keys, these among ks, each of ks is in some store, and every claim made is the claim of some span of ks (Backed). In order: the
 -- invariant and the start; nodes that grew; the next world; one law for each kind of event; one event; a list of events. Assumes nothing.
 use Prim.Native.Nat.{ℕ, _≤_, _<_}
-use mathlib.Core.List.{List, [], _∷_, _++_, map, List·Memᴰ, List·Memᴰ·head, List·Memᴰ·tail, List·Memᴰ·not-nil, List·Memᴰ·append-cases, List·Memᴰ·eq-of-singleton, Memᴰ·append-right, Memᴰ·cast, append-nil, append-assoc}
+use mathlib.Core.List.{List, [], _∷_, _++_, map, List·Memᴰ, List·Memᴰ·head, List·Memᴰ·tail}
+use mathlib.Core.List.{List·Memᴰ·not-nil, List·Memᴰ·append-cases, List·Memᴰ·eq-of-singleton, Memᴰ·append-right, Memᴰ·cast, append-nil, append-assoc}
 use mathlib.Core.Logic.{_⊎_, inl, inr, ⊎-elim}
 use mathlib.Core.Path.{_≡_, refl, sym, ap, _∙_, subst}
 use native.Mathlib.Omega.{arith}
@@ -29,13 +30,16 @@ use Rattle.rule.specs.Call.{takeQuestions, beatQuestions, roundQuestions, round
 use Rattle.rule.proofs.NodeLaws.{Ordered, restored, ordered-restored, nodeKeys-nodeOf, store-nodeOf, emptyNode-nodeOf, ordered-emptyNode}
 use Rattle.rule.proofs.Union.{union-sub}
 use Rattle.rule.proofs.RoundLaws.{Rounded}
-use Rattle.rule.proofs.CallLaws.{TakeYes, takeQuestions-yes, ordered-taken, ordered-beaten, length-nodeKeys, length-pendingOf, RoundYes, roundQuestions-yes, roundYes-rounded}
+use Rattle.rule.proofs.CallLaws.{TakeYes, takeQuestions-yes, ordered-taken, ordered-beaten, length-nodeKeys}
+use Rattle.rule.proofs.CallLaws.{length-pendingOf, RoundYes, roundQuestions-yes, roundYes-rounded}
 use Rattle.meeting.specs.Event.{Event, To, enters, makes, delivers, beats, meets}
 use Rattle.meeting.specs.World.{World, start, withNode, withStore, Outcome, outcome, after, afterAll, numbers, enteredBy, keysEntered}
 use Rattle.meeting.specs.Premise.{Refused, Meant, AllMeant}
 use Rattle.meeting.specs.Statement.{keysIn, InSome}
 use Rattle.meeting.proofs.Backed.{Backed, backed-sub, backed-adding, claimOf-backed, reply-backed, sending-backed, round-backed}
-use Rattle.meeting.proofs.WorldLaws.{numbered, refusal, withNode-each, withNode-here, withNode-there, EnterYes, enterQuestions-yes, enters-done, enters-refused, MakeYes, makeQuestions-yes, makes-done, makes-refused, ReplyYes, replyQuestions-yes, replies-done, replies-refused, takes-done, takes-refused, beats-done, beats-refused, meets-done, meets-refused, enteredBy-refused}
+use Rattle.meeting.proofs.WorldLaws.{numbered, refusal, withNode-each, withNode-here, withNode-there, EnterYes, enterQuestions-yes, enters-done}
+use Rattle.meeting.proofs.WorldLaws.{enters-refused, MakeYes, makeQuestions-yes, makes-done, makes-refused, ReplyYes, replyQuestions-yes, replies-done}
+use Rattle.meeting.proofs.WorldLaws.{replies-refused, takes-done, takes-refused, beats-done, beats-refused, meets-done, meets-refused, enteredBy-refused}
 
 -- ---- the invariant
 
@@ -201,7 +205,8 @@ module _ (n : ℕ) (w : World) (ks : List ℕ) (g : Good n w ks) where
           let q : s .count ≡ length (keysOf s) = ap (λ (t : Store). t .count) (g .laid k) ∙ count-storeOf (keysOf s) in
           let b : j < s .count = y .below in
           subst (Backed ks) (sym e)
-          (claimOf-backed ks (keysOf s) i j (inOrder-rising s (y .store)) (length-nodeKeys (w .kiosks k) (g .ordered k)) (g .within k) (y .ordered) (omega arith))
+          (claimOf-backed ks (keysOf s) i j (inOrder-rising s (y .store)) (length-nodeKeys (w .kiosks k) (g .ordered k)) (g .within k) (y .ordered)
+          (omega arith))
 
       done : firstNo (makeQuestions s i j) ≡ 0 → GoodAfter n w ks (makes k i j)
       done z =
@@ -284,7 +289,8 @@ module _ (n : ℕ) (w : World) (ks : List ℕ) (g : Good n w ks) where
           good-after n w ks (beats k lent) o (beats-done k lent (w .kiosks) z) refl
           (good-next n w ks o g
           (grew-one n w ks ks g (sub-refl ks) k (nodeOf l kept) (grew-nodeOf ks a l kept order (sub-refl l) (g .within k)))
-          (sending-backed ks l (pendingOf a) (inOrder-rising (a .store) (g .ordered k .store)) (length-nodeKeys a (g .ordered k)) (g .within k) (g .ordered k .fit)))
+          (sending-backed ks l (pendingOf a) (inOrder-rising (a .store) (g .ordered k .store)) (length-nodeKeys a (g .ordered k)) (g .within k)
+          (g .ordered k .fit)))
 
   good-meets : (k m : ℕ) (lent : List Delivery) → (k ≡ m → ⊥) → GoodAfter n w ks (meets k m lent)
   good-meets k m lent different = good-settled n w ks (meets k m lent) (firstNo (roundQuestions s t (length lent))) g (meets-refused k m lent (w .kiosks)) done

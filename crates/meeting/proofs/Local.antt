@@ -141,7 +141,8 @@ line-local p p′ e r r′ q a =
 -- where two pairs agree on a range, they do so after the same delivery to both
 pub delivered-local : (p p′ : Pair) (e f : Entry) → Rises p → Rises p′ → AgreeOn p p′ f → AgreeOn (delivered e p) (delivered e p′) f
 delivered-local p p′ e f r r′ a =
-    both (receiver e) (hear-local (e .claim) (f .claim .lo) (f .claim .hi) (keysBefore e p) (keysBefore e p′) (r (receiver e)) (r′ (receiver e)) (a (receiver e)))
+    both (receiver e)
+    (hear-local (e .claim) (f .claim .lo) (f .claim .hi) (keysBefore e p) (keysBefore e p′) (r (receiver e)) (r′ (receiver e)) (a (receiver e)))
   where
     b : List ℕ → List ℕ
     b = between (f .claim .lo) (f .claim .hi)
@@ -180,7 +181,8 @@ run-local (suc n) u p p′ (e ∷ q) f f′ a =
     ⊎-elim
     {C = AgreeOn (delivered e p) (delivered e p′) x}
     (λ (i : List·Memᴰ x q). delivered-local p p′ e x (f .rises) (f′ .rises) (a x (List·Memᴰ·tail i)))
-    (λ (i : List·Memᴰ x (answers e p)). agreeOn-within (delivered e p) (delivered e p′) e x (delivered-local p p′ e e (f .rises) (f′ .rises) here) (answers-range p e (f .rises) k x i))
+    (λ (i : List·Memᴰ x (answers e p)).
+    agreeOn-within (delivered e p) (delivered e p′) e x (delivered-local p p′ e e (f .rises) (f′ .rises) here) (answers-range p e (f .rises) k x i))
     (List·Memᴰ·append-cases q m)) in
     ap₂ (λ (x : Line) (y : List Line). x ∷ y) (line-local p p′ e (f .rises) (f′ .rises) k here)
     (later ∙ ap (λ (x : List Entry). run n (delivered e p′) (q ++ x) .lines) same-answers)

@@ -120,7 +120,8 @@ meeting w k m different (straight lent ∷ ts) a b h carried honest =
     let later : Bool = allZero (numbers (rounds k m ts) w′) in
     let here : Bool = not (falseIn e w) in
     let c : Stepped w k m w′
-    = meets-stepped w k m lent different (eqb-true n 0 (and-left (eqb n 0) later carried)) (not-true (falseIn e w) (and-left here (noneFalse (rounds k m ts) w′) honest)) in
+    = meets-stepped w k m lent different (eqb-true n 0 (and-left (eqb n 0) later carried))
+    (not-true (falseIn e w) (and-left here (noneFalse (rounds k m ts) w′) honest)) in
     let d : apart (keysIn w′ k) (keysIn w′ m) ≤ apart (keysIn w k) (keysIn w m) - 1 = c .closer in
     subst (λ (u : List ℕ). BothEnd (afterAll (rounds k m ts) w′) k m u) (c .same-union)
     (meeting w′ k m different ts (c .left) (c .right) (omega arith) (and-right (eqb n 0) later carried) (and-right here (noneFalse (rounds k m ts) w′) honest))

@@ -3,7 +3,8 @@
 -- all keys of the other. In order: growth by sizes; fresh entries; entries that agree; a half; a round. Assumes nothing.
 use Prim.Native.Nat.{ℕ, zero, suc, _+_, _≤_}
 use mathlib.Core.Bool.{Bool, true, false, _||_, false≢true, or-assoc}
-use mathlib.Core.List.{List, [], _∷_, _++_, List·Memᴰ, List·Memᴰ·head, List·Memᴰ·tail, List·Memᴰ·not-nil, List·Memᴰ·append-cases, Memᴰ·append-left, Memᴰ·append-right, Memᴰ·cast}
+use mathlib.Core.List.{List, [], _∷_, _++_, List·Memᴰ, List·Memᴰ·head}
+use mathlib.Core.List.{List·Memᴰ·tail, List·Memᴰ·not-nil, List·Memᴰ·append-cases, Memᴰ·append-left, Memᴰ·append-right, Memᴰ·cast}
 use mathlib.Core.Logic.{⊎-elim}
 use mathlib.Core.Path.{_≡_, refl, sym, ap, _∙_, subst}
 use native.Mathlib.Omega.{arith}
@@ -20,16 +21,20 @@ use Rattle.claims.proofs.Span.{first, last, between-first-last}
 use Rattle.claims.proofs.QuestionLaws.{Passes}
 use Rattle.claims.proofs.ClaimLaws.{spanClaim, rangeClaim, spanClaim-range, wholeClaim-span}
 use Rattle.claims.proofs.ReplyLaws.{hear-rising, hear-lo, hear-hi, Answered, matched, asked, helped-one, helped-two, reply-answered, match-same}
-use Rattle.rule.specs.Round.{union, End, leftEnd, rightEnd, other, Pair, pair, keysAt, Entry, waits, receiver, keysBefore, delivered, answers, Line, Run, anyFalse, run, half, roundOf}
+use Rattle.rule.specs.Round.{union, End, leftEnd, rightEnd, other, Pair, pair, keysAt, Entry, waits}
+use Rattle.rule.specs.Round.{receiver, keysBefore, delivered, answers, Line, Run, anyFalse, run, half, roundOf}
 use Rattle.rule.proofs.Pair.{other-other, keysAt-receiver, Rises, Grows, unionOf, rises-pair, size, delivered-size, delivered-heard, delivered-same}
 use Rattle.rule.proofs.Entry.{Sound, sound-ends, sound-cnt, entry}
-use Rattle.rule.proofs.Half.{Fine, fine-passes, fine-step, run-fine, run-grows, halfway-opening, opening, half-run, half-fine, half-ends, half-grows, half-union}
+use Rattle.rule.proofs.Half.{Fine, fine-passes, fine-step, run-fine, run-grows, halfway-opening}
+use Rattle.rule.proofs.Half.{opening, half-run, half-fine, half-ends, half-grows, half-union}
 
 -- ---- growth, by sizes
 
 pub grows-size : (p p′ : Pair) → Rises p → Rises p′ → Grows p p′ → size p ≤ size p′
 grows-size p p′ r r′ g =
-    omega (arith, rising-length (p .left) (p′ .left) (r leftEnd) (r′ leftEnd) (g leftEnd), rising-length (p .right) (p′ .right) (r rightEnd) (r′ rightEnd) (g rightEnd))
+    let a : length (p .left) ≤ length (p′ .left) = rising-length (p .left) (p′ .left) (r leftEnd) (r′ leftEnd) (g leftEnd) in
+    let b : length (p .right) ≤ length (p′ .right) = rising-length (p .right) (p′ .right) (r rightEnd) (r′ rightEnd) (g rightEnd) in
+    omega arith
 
 pub grows-same : (p p′ : Pair) → Rises p → Rises p′ → Grows p p′ → size p′ ≤ size p → p ≡ p′
 grows-same p p′ r r′ g h =
@@ -149,7 +154,8 @@ agrees-step u p e q f fresh still honest below = go
         ⊎-elim
         {C = Fresh (delivered e p) x}
         (λ (i : List·Memᴰ x q). subst (λ (y : Pair). Fresh y x) (sym same) (fresh x (List·Memᴰ·tail i)))
-        (λ (i : List·Memᴰ x (answers e p)). waits-fresh (delivered e p) (receiver e) l (claimsOf (reply (e .claim) (keysBefore e p))) (sym (keysAt-receiver e p)) x i)
+        (λ (i : List·Memᴰ x (answers e p)).
+        waits-fresh (delivered e p) (receiver e) l (claimsOf (reply (e .claim) (keysBefore e p))) (sym (keysAt-receiver e p)) x i)
         (List·Memᴰ·append-cases q m)
 
     agrees′ : (x : Entry) → List·Memᴰ x (q ++ answers e p) → Agrees p x

@@ -104,7 +104,8 @@ pub separate-agree : (p : Pair) (e f : Entry) → Passes (e .claim) → Separate
 separate-agree p e f q s =
     holding-each (λ (t : End) (l : List ℕ). between (f .claim .lo) (f .claim .hi) (keysAt t p) ≡ between (f .claim .lo) (f .claim .hi) l) (receiver e)
     (hear (e .claim) (keysBefore e p)) p
-    (sym (between-insertAll-outside (f .claim .lo) (f .claim .hi) (adding (e .claim) (keysBefore e p)) (keysBefore e p) (λ k m. outside k s (adding-mem (e .claim) (keysBefore e p) k m))))
+    (sym (between-insertAll-outside (f .claim .lo) (f .claim .hi) (adding (e .claim) (keysBefore e p)) (keysBefore e p)
+    (λ k m. outside k s (adding-mem (e .claim) (keysBefore e p) k m))))
     (λ t. refl)
   where
     outside : (k : ℕ) → Separate e f → (k ≡ e .claim .lo) ⊎ (k ≡ e .claim .hi) → (k < f .claim .lo) ⊎ (f .claim .hi < k)

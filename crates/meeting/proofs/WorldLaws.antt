@@ -170,7 +170,11 @@ takes-refused k c kiosks f = rw (taken-refused (kiosks k) c f) (ap (refusal (fir
 
 pub beats-done : (k : ℕ) (lent : List ℕ) (kiosks : ℕ → Node) → firstNo (beatQuestions (kiosks k) lent) ≡ 0 →
     outcome (beats k lent) kiosks
-    ≡ record { number = 0; kiosks = withNode k (nodeOf (nodeKeys (kiosks k)) (serve (nodeKeys (kiosks k)) (pendingOf (kiosks k)) .kept)) kiosks; claims = sending (nodeKeys (kiosks k)) (pendingOf (kiosks k)) }
+    ≡ record {
+      number = 0;
+      kiosks = withNode k (nodeOf (nodeKeys (kiosks k)) (serve (nodeKeys (kiosks k)) (pendingOf (kiosks k)) .kept)) kiosks;
+      claims = sending (nodeKeys (kiosks k)) (pendingOf (kiosks k));
+    }
 unfolding outcome
 beats-done k lent kiosks h =
     let cs : List Claim = sending (nodeKeys (kiosks k)) (pendingOf (kiosks k)) in

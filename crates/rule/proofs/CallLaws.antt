@@ -28,7 +28,8 @@ use Rattle.rule.specs.Table.{tableLimit, tableWith, serve, sending}
 use Rattle.rule.specs.Node.{nodeKeys, pendingOf, nodeOf}
 use Rattle.rule.specs.Round.{union, transcript}
 use Rattle.rule.specs.Question.{nodeQuestion1, question8, question9}
-use Rattle.rule.specs.Call.{writtenOver, takeQuestions, taken, claimWords, beatQuestions, beaten, beatenLent, roundQuestions, roundBy, met, metLent, deliveryWords, metWords}
+use Rattle.rule.specs.Call.{writtenOver, takeQuestions, taken, claimWords, beatQuestions, beaten, beatenLent}
+use Rattle.rule.specs.Call.{roundQuestions, roundBy, met, metLent, deliveryWords, metWords}
 use Rattle.rule.proofs.TableLaws.{climbs-tableWith, climbs-kept, tableWith-mem, kept-mem, length-tableWith, length-kept}
 use Rattle.rule.proofs.NodeLaws.{Fits, fits-sub, Ordered, ordered-nodeInOrder, nodeInOrder-ordered, ordered-nodeOf}
 use Rattle.rule.proofs.RoundLaws.{Rounded, rounded}
@@ -112,7 +113,13 @@ roundQuestions-yes s t n h =
     }
 
 pub met-done : (s t : Store) (n : ℕ) → firstNo (roundQuestions s t n) ≡ 0 →
-    met s t n ≡ record { number = 0; left = storeOf (roundBy s t .stores .left); right = storeOf (roundBy s t .stores .right); deliveries = length (roundBy s t .lines) }
+    met s t n
+    ≡ record {
+      number = 0;
+      left = storeOf (roundBy s t .stores .left);
+      right = storeOf (roundBy s t .stores .right);
+      deliveries = length (roundBy s t .lines);
+    }
 unfolding met
 met-done s t n h = settle-done _ _ (λ x. record { number = x; left = s; right = t; deliveries = 0 }) h
 

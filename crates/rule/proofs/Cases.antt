@@ -10,5 +10,6 @@ use Rattle.rule.specs.Call.{taken, beaten, beatenLent, met, metLent, met
 use Rattle.rule.specs.Cases.{Row, rows}
 
 pub cases-hold : map (λ (r : Row). r .gives) rows ≡ map (λ (r : Row). r .wanted) rows
-unfolding zeros storeOf emptyStore inOrder answer judged blanks nodeOf emptyNode nodeInOrder run runAll half roundOf taken beaten beatenLent met metLent metWords
+unfolding zeros storeOf emptyStore inOrder answer judged blanks nodeOf emptyNode nodeInOrder
+    run runAll half roundOf taken beaten beatenLent met metLent metWords
 cases-hold = refl

@@ -15,10 +15,12 @@ use Rattle.claims.proofs.Between.{inside, between-rising, length-between-within
 use Rattle.claims.proofs.Span.{first, last}
 use Rattle.claims.proofs.QuestionLaws.{Passes}
 use Rattle.claims.proofs.ClaimLaws.{spanClaim, rangeClaim, spanClaim-range}
-use Rattle.claims.proofs.ReplyLaws.{adding-sub, hear-rising, hear-old, hear-lo, hear-hi, Answered, matched, asked, helped-one, helped-two, reply-answered, Spanned, reply-spanned}
+use Rattle.claims.proofs.ReplyLaws.{adding-sub, hear-rising, hear-old, hear-lo, hear-hi, Answered, matched}
+use Rattle.claims.proofs.ReplyLaws.{asked, helped-one, helped-two, reply-answered, Spanned, reply-spanned}
 use Rattle.rule.specs.Round.{End, other, Pair, keysAt, Entry, waits, receiver, keysBefore, delivered, answers}
 use Rattle.rule.proofs.Pair.{Rises, Within, other-other, keysAt-receiver, keysAt-sender}
-use Rattle.rule.proofs.Entry.{Sound, sound-ends, sound-cnt, sound-sub-between, sound-within, sound-limit, AllSound, entry, sound-entry, weight, weights, weight-le, weight-ge, weight-full, weight-less, weight-least}
+use Rattle.rule.proofs.Entry.{Sound, sound-ends, sound-cnt, sound-sub-between, sound-within, sound-limit, AllSound, entry}
+use Rattle.rule.proofs.Entry.{sound-entry, weight, weights, weight-le, weight-ge, weight-full, weight-less, weight-least}
 
 -- ---- what is added
 

@@ -15,8 +15,10 @@ use Rattle.claims.proofs.Span.{first, last, between-first-last}
 use Rattle.claims.proofs.QuestionLaws.{Passes}
 use Rattle.claims.proofs.ClaimLaws.{spanClaim, wholeClaim-span}
 use Rattle.rule.specs.Round.{End, Pair, keysAt, Entry, waits, delivered, answers, line, noting, run, runAll, half}
-use Rattle.rule.proofs.Pair.{Rises, Within, Grows, grows-refl, grows-trans, unionOf, unionOf-rising, unionOf-grown, within-unionOf, delivered-rises, delivered-within, delivered-grows}
-use Rattle.rule.proofs.Entry.{Sound, sound-limit, AllSound, allSound-grown, allSound-append, entry, sound-entry, weight, weights, weights-append, weights-grown, weight-le, length-weights}
+use Rattle.rule.proofs.Pair.{Rises, Within, Grows, grows-refl, grows-trans, unionOf}
+use Rattle.rule.proofs.Pair.{unionOf-rising, unionOf-grown, within-unionOf, delivered-rises, delivered-within, delivered-grows}
+use Rattle.rule.proofs.Entry.{Sound, sound-limit, AllSound, allSound-grown, allSound-append, entry, sound-entry}
+use Rattle.rule.proofs.Entry.{weight, weights, weights-append, weights-grown, weight-le, length-weights}
 use Rattle.rule.proofs.Deliver.{answers-sound, answers-weight, adding-within}
 
 -- ---- a fine state of a half
@@ -169,7 +171,8 @@ runAll-cons p e q h = go (length (unionOf p)) refl
     go (suc n) z =
         run-cons n p e q
         ∙ ap (noting (line e p))
-        (run-more n (length u) u (delivered e p) (q ++ answers e p) f (omega (arith, weights-step u p e q (h .fine), h .light)) (omega (arith, weights-step u p e q (h .fine), h .light))
+        (run-more n (length u) u (delivered e p) (q ++ answers e p) f (omega (arith, weights-step u p e q (h .fine), h .light))
+        (omega (arith, weights-step u p e q (h .fine), h .light))
         ∙ ap (λ (v : List ℕ). run (length v) (delivered e p) (q ++ answers e p)) (sym (halfway-union p e q h)))
 
 pub runAll-ends : (p : Pair) (q : List Entry) → Halfway p q → runAll p q .waiting ≡ []

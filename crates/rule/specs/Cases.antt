@@ -1,5 +1,5 @@
--- Worked examples over the call definitions, as one list of rows: document 01's rehearsal, record by record; a false match; a 65th claim; a beat; nodes in order and not.
--- That each row gives what is wanted is one law, `cases-hold` of proofs/Cases. Assumes nothing.
+-- Worked examples over the call definitions, as one list of rows: document 01's rehearsal, record by record; a false match; a 65th claim; a beat; nodes
+-- in order and not. That each row gives what is wanted is one law, `cases-hold` of proofs/Cases. Assumes nothing.
 use Prim.Native.Nat.{ℕ, zero, suc}
 use mathlib.Core.Bool.{Bool, true, false}
 use mathlib.Core.List.{List, [], _∷_, _++_, map}
@@ -83,14 +83,16 @@ rows =
     -- the rehearsal of document 01: both stores, the count, every record, as records and as words; the places past it keep their contents
     row (round-is (met rehearsedLeft rehearsedRight 10)) (round-is (metWith 0 (0 ∷ 1 ∷ 5 ∷ 6 ∷ 10 ∷ []) (0 ∷ 1 ∷ 5 ∷ 6 ∷ 10 ∷ []) 4))
     ∷ row (records-are (metLent rehearsedLeft rehearsedRight (replicate 10 stale))) (records-are (rehearsedRecords ++ replicate 6 stale))
-    ∷ row (words-are (metWords rehearsedLeft rehearsedRight (replicate 52 7))) (words-are (0 ∷ 0 ∷ 10 ∷ 11 ∷ 3 ∷ 1 ∷ 5 ∷ 6 ∷ 3 ∷ 2 ∷ 1 ∷ 0 ∷ 10 ∷ 9 ∷ 4 ∷ 0 ∷ 1 ∷ 6 ∷ 2 ∷ 3 ∷ replicate 32 7))
+    ∷ row (words-are (metWords rehearsedLeft rehearsedRight (replicate 52 7)))
+    (words-are (0 ∷ 0 ∷ 10 ∷ 11 ∷ 3 ∷ 1 ∷ 5 ∷ 6 ∷ 3 ∷ 2 ∷ 1 ∷ 0 ∷ 10 ∷ 9 ∷ 4 ∷ 0 ∷ 1 ∷ 6 ∷ 2 ∷ 3 ∷ replicate 32 7))
     ∷ row (truth-is (anyFalse (roundBy rehearsedLeft rehearsedRight .lines))) (truth-is false)
     -- one record too few: 9, both stores as given, and nothing written
     ∷ row (round-is (met rehearsedLeft rehearsedRight 9)) (round-is (metWith 9 (0 ∷ 1 ∷ 10 ∷ []) (0 ∷ 5 ∷ 6 ∷ 10 ∷ []) 0))
     ∷ row (records-are (metLent rehearsedLeft rehearsedRight (replicate 9 stale))) (records-are (replicate 9 stale))
     -- first come, first served: of two claims that wait, the second is delivered before what follows from the first
     ∷ row (records-are (metLent (storeOf (1 ∷ 32 ∷ [])) (storeOf (1 ∷ 2 ∷ 4 ∷ 8 ∷ 16 ∷ 32 ∷ [])) (replicate 12 stale)))
-    (records-are (record5 0 1 32 33 2 ∷ record5 1 2 8 14 3 ∷ record5 1 16 16 16 1 ∷ record5 0 2 8 10 2 ∷ record5 1 4 4 4 1 ∷ record5 1 1 32 63 6 ∷ replicate 6 stale))
+    (records-are (record5 0 1 32 33 2 ∷ record5 1 2 8 14 3 ∷ record5 1 16 16 16 1 ∷ record5 0 2 8 10 2 ∷ record5 1 4 4 4 1 ∷ record5 1 1 32 63 6
+    ∷ replicate 6 stale))
     -- {1, 2, 5, 16} with {1, 3, 4, 16}: both matches are false, and the stores stay unequal
     ∷ row (round-is (met alikeLeft alikeRight 12)) (round-is (metWith 0 (1 ∷ 2 ∷ 5 ∷ 16 ∷ []) (1 ∷ 3 ∷ 4 ∷ 16 ∷ []) 2))
     ∷ row (truth-is (anyFalse (roundBy alikeLeft alikeRight .lines))) (truth-is true)
@@ -99,7 +101,8 @@ rows =
     ∷ row (records-are (metLent (storeOf (7 ∷ [])) emptyStore (replicate 2 stale))) (records-are (record5 0 7 7 7 1 ∷ record5 1 7 7 7 1 ∷ []))
     -- a 65th claim that comes last in order is dropped, its lo and hi are added all the same; one that comes first pushes the last one out
     ∷ row (take-is (taken fullNode (claim 70 80 (bitXor 70 80) 2))) (take-is (record { number = 0; node = nodeOf (upFrom 0 65 ++ 70 ∷ 80 ∷ []) fullTable }))
-    ∷ row (take-is (taken fullNode (claim 9 9 9 1))) (take-is (record { number = 0; node = nodeOf (upFrom 0 65) (claim 9 9 9 1 ∷ map (λ (k : ℕ). claim 0 k k 2) (upFrom 1 63)) }))
+    ∷ row (take-is (taken fullNode (claim 9 9 9 1)))
+    (take-is (record { number = 0; node = nodeOf (upFrom 0 65) (claim 9 9 9 1 ∷ map (λ (k : ℕ). claim 0 k k 2) (upFrom 1 63)) }))
     -- a claim that is pending already changes nothing
     ∷ row (take-is (taken fullNode (claim 0 9 9 2))) (take-is (record { number = 0; node = fullNode }))
     -- a beat: the whole claim, then the claims of each reply; the asked claim is kept, the helped one and the matched one are gone
