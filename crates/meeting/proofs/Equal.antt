@@ -18,12 +18,11 @@ use Rattle.claims.specs.Reply.{hear, own, same, answer, reply, claimsOf}
 use Rattle.claims.proofs.Span.{mem-first, mem-last, first-le-last, between-first-last}
 use Rattle.claims.proofs.ClaimLaws.{spanClaim, claim-same, wholeClaim-span}
 use Rattle.claims.proofs.ReplyLaws.{adding-sub, hear-held, own-between}
-use Rattle.rule.specs.Round.{End, leftEnd, rightEnd, other, Pair, pair, keysAt, holding, Entry}
+use Rattle.rule.specs.Round.{End, leftEnd, rightEnd, other, Pair, pair, keysAt, holding, Entry, entry}
 use Rattle.rule.specs.Round.{waits, delivered, answers, line, Run, noting, runAll, half, roundOf}
 use Rattle.rule.specs.Call.{roundQuestions, met}
 use Rattle.rule.proofs.Union.{union-self}
 use Rattle.rule.proofs.Pair.{rises-pair, holding-same}
-use Rattle.rule.proofs.Entry.{entry}
 use Rattle.rule.proofs.Half.{Halfway, halfway-opening, opening, half-opening, runAll-nil, runAll-cons}
 use Rattle.rule.proofs.CallLaws.{RoundYes, roundQuestions-yes, met-done}
 

@@ -21,10 +21,10 @@ use Rattle.claims.proofs.Span.{first, last, between-first-last}
 use Rattle.claims.proofs.QuestionLaws.{Passes}
 use Rattle.claims.proofs.ClaimLaws.{spanClaim, rangeClaim, spanClaim-range, wholeClaim-span}
 use Rattle.claims.proofs.ReplyLaws.{hear-rising, hear-lo, hear-hi, Answered, matched, asked, helped-one, helped-two, reply-answered, match-same}
-use Rattle.rule.specs.Round.{union, End, leftEnd, rightEnd, other, Pair, pair, keysAt, Entry, waits}
+use Rattle.rule.specs.Round.{union, End, leftEnd, rightEnd, other, Pair, pair, keysAt, Entry, entry, waits}
 use Rattle.rule.specs.Round.{receiver, keysBefore, delivered, answers, Line, Run, anyFalse, run, half, roundOf}
 use Rattle.rule.proofs.Pair.{other-other, keysAt-receiver, Rises, Grows, unionOf, rises-pair, size, delivered-size, delivered-heard, delivered-same}
-use Rattle.rule.proofs.Entry.{Sound, sound-ends, sound-cnt, entry}
+use Rattle.rule.proofs.Entry.{Sound, sound-ends, sound-cnt}
 use Rattle.rule.proofs.Half.{Fine, fine-passes, fine-step, run-fine, run-grows, halfway-opening}
 use Rattle.rule.proofs.Half.{opening, half-run, half-fine, half-ends, half-grows, half-union}
 

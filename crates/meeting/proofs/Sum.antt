@@ -16,9 +16,9 @@ use Rattle.claims.specs.Reply.{adding, hear, reply, claimsOf}
 use Rattle.claims.proofs.Span.{last}
 use Rattle.claims.proofs.QuestionLaws.{Passes}
 use Rattle.claims.proofs.ReplyLaws.{adding-mem, Answered, matched, asked, helped-one, helped-two, reply-answered}
-use Rattle.rule.specs.Round.{End, Pair, keysAt, Entry, waits, receiver, keysBefore, delivered, answers, Run, run, runAll}
+use Rattle.rule.specs.Round.{End, Pair, keysAt, Entry, entry, waits, receiver, keysBefore, delivered, answers, Run, run, runAll}
 use Rattle.rule.proofs.Pair.{Rises, unionOf, holding-each}
-use Rattle.rule.proofs.Entry.{entry, weight, weights, weights-append, weight-least}
+use Rattle.rule.proofs.Entry.{weight, weights, weights-append, weight-least}
 use Rattle.rule.proofs.Half.{Fine, fine-passes, fine-step, weights-step, run-more, Halfway, opening, halfway-opening}
 use Rattle.meeting.proofs.Local.{between-insertAll-outside, AgreeOn, answers-range, run-local}
 

@@ -17,9 +17,9 @@ use Rattle.claims.proofs.QuestionLaws.{Passes}
 use Rattle.claims.proofs.ClaimLaws.{spanClaim, rangeClaim, spanClaim-range}
 use Rattle.claims.proofs.ReplyLaws.{adding-sub, hear-rising, hear-old, hear-lo, hear-hi, Answered, matched}
 use Rattle.claims.proofs.ReplyLaws.{asked, helped-one, helped-two, reply-answered, Spanned, reply-spanned}
-use Rattle.rule.specs.Round.{End, other, Pair, keysAt, Entry, waits, receiver, keysBefore, delivered, answers}
+use Rattle.rule.specs.Round.{End, other, Pair, keysAt, Entry, entry, waits, receiver, keysBefore, delivered, answers}
 use Rattle.rule.proofs.Pair.{Rises, Within, other-other, keysAt-receiver, keysAt-sender}
-use Rattle.rule.proofs.Entry.{Sound, sound-ends, sound-cnt, sound-sub-between, sound-within, sound-limit, AllSound, entry}
+use Rattle.rule.proofs.Entry.{Sound, sound-ends, sound-cnt, sound-sub-between, sound-within, sound-limit, AllSound}
 use Rattle.rule.proofs.Entry.{sound-entry, weight, weights, weight-le, weight-ge, weight-full, weight-less, weight-least}
 
 -- ---- what is added

@@ -16,7 +16,7 @@ use Rattle.claims.proofs.Between.{mem-between, between-rising, between-sub, len
 use Rattle.claims.proofs.Span.{first, last, first-le, le-last, mem-first, mem-last}
 use Rattle.claims.proofs.QuestionLaws.{Passes}
 use Rattle.claims.proofs.ClaimLaws.{spanClaim, spanClaim-passes}
-use Rattle.rule.specs.Round.{End, Pair, keysAt, Entry, receiver, keysBefore, waits}
+use Rattle.rule.specs.Round.{End, Pair, keysAt, Entry, entry, receiver, keysBefore, waits}
 use Rattle.rule.proofs.Pair.{Rises, Within, Grows}
 
 -- ---- a sound entry
@@ -91,10 +91,6 @@ allSound-grown p p′ q g s e m = sound-grown p p′ e g (s e m)
 
 pub allSound-append : (p : Pair) (q r : List Entry) → AllSound p q → AllSound p r → AllSound p (q ++ r)
 allSound-append p q r s t e m = ⊎-elim {C = Sound p e} (s e) (t e) (List·Memᴰ·append-cases q m)
-
--- one entry that waits: the claim of a part of the keys that its sender has now
-abbrev pub entry : End → List ℕ → Claim → Entry
-entry s l c = record { sender = s; claim = c; held = between (c .lo) (c .hi) l }
 
 -- a claim whose keys from lo to hi are y is sound where it is the claim of y
 pub sound-entry : (p : Pair) (s : End) (l y : List ℕ) → Rising l → Sub l (keysAt s p) → 0 < length y → between (first y) (last y) l ≡ y →

@@ -14,10 +14,10 @@ use Rattle.claims.proofs.Between.{length-between}
 use Rattle.claims.proofs.Span.{first, last, between-first-last}
 use Rattle.claims.proofs.QuestionLaws.{Passes}
 use Rattle.claims.proofs.ClaimLaws.{spanClaim, wholeClaim-span}
-use Rattle.rule.specs.Round.{End, Pair, keysAt, Entry, waits, delivered, answers, line, noting, run, runAll, half}
+use Rattle.rule.specs.Round.{End, Pair, keysAt, Entry, entry, waits, delivered, answers, line, noting, run, runAll, half}
 use Rattle.rule.proofs.Pair.{Rises, Within, Grows, grows-refl, grows-trans, unionOf}
 use Rattle.rule.proofs.Pair.{unionOf-rising, unionOf-grown, within-unionOf, delivered-rises, delivered-within, delivered-grows}
-use Rattle.rule.proofs.Entry.{Sound, sound-limit, AllSound, allSound-grown, allSound-append, entry, sound-entry}
+use Rattle.rule.proofs.Entry.{Sound, sound-limit, AllSound, allSound-grown, allSound-append, sound-entry}
 use Rattle.rule.proofs.Entry.{weight, weights, weights-append, weights-grown, weight-le, length-weights}
 use Rattle.rule.proofs.Deliver.{answers-sound, answers-weight, adding-within}
 

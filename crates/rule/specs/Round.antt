@@ -52,10 +52,14 @@ pub record Entry : Type 0 where
   pub claim : Claim
   pub held : List ℕ
 
+-- a claim that one end makes when its keys are l
+abbrev pub entry : End → List ℕ → Claim → Entry
+entry s l c = record { sender = s; claim = c; held = between (c .lo) (c .hi) l }
+
 -- claims that one end makes when its keys are l wait for the other, in their order
 abbrev pub waits : End → List ℕ → List Claim → List Entry
 waits s l [] = []
-waits s l (c ∷ cs) = record { sender = s; claim = c; held = between (c .lo) (c .hi) l } ∷ waits s l cs
+waits s l (c ∷ cs) = entry s l c ∷ waits s l cs
 
 abbrev pub receiver : Entry → End
 receiver e = other (e .sender)
