@@ -5,10 +5,12 @@
 --   Reply     The reply to one claim; a false match
 --   Call      what each public call returns, for any content
 --   Lent      the calls on a lent run of keys: an interface between our own crates, and no rule of document 01
+--   Words     a claim in a lent run of words: as Lent
 --   Cases     the twelve lettered cases
 pub mod Claim
 pub mod Question
 pub mod Reply
 pub mod Call
 pub mod Lent
+pub mod Words
 pub mod Cases

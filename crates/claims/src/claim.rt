@@ -15,6 +15,9 @@ pub struct Claim {
 }
 
 impl Claim {
+    // The words of a claim in a lent run. `claimWidth` in specs/Words.
+    pub const WORDS: usize = 4;
+
     // The claim of zeros, which stands where there is none.
     pub const NONE: Claim = Claim {
         lo: 0,
