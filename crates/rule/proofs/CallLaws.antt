@@ -29,7 +29,7 @@ use Rattle.rule.specs.Node.{nodeKeys, pendingOf, nodeOf}
 use Rattle.rule.specs.Round.{union, transcript}
 use Rattle.rule.specs.Question.{nodeQuestion1, question8, question9}
 use Rattle.rule.specs.Call.{writtenOver, takeQuestions, taken, claimWords, beatQuestions, beaten, beatenLent}
-use Rattle.rule.specs.Call.{roundQuestions, roundBy, met, metLent, deliveryWords, metWords}
+use Rattle.rule.specs.Call.{roundQuestions, roundBy, met, metLent, deliveryWords, recordsIn, metWords}
 use Rattle.rule.proofs.TableLaws.{climbs-tableWith, climbs-kept, tableWith-mem, kept-mem, length-tableWith, length-kept}
 use Rattle.rule.proofs.NodeLaws.{Fits, fits-sub, Ordered, ordered-nodeInOrder, nodeInOrder-ordered, ordered-nodeOf}
 use Rattle.rule.proofs.RoundLaws.{Rounded, rounded}
@@ -146,12 +146,12 @@ pub metLent-refused : (s t : Store) (lent : List Delivery) → (firstNo (roundQu
 unfolding metLent
 metLent-refused s t lent f = settle-refused _ _ (λ x. lent) f
 
-pub metWords-done : (s t : Store) (lent : List ℕ) → firstNo (roundQuestions s t (length lent / 5)) ≡ 0 →
+pub metWords-done : (s t : Store) (lent : List ℕ) → firstNo (roundQuestions s t (recordsIn lent)) ≡ 0 →
     metWords s t lent ≡ writtenOver (deliveryWords (transcript (roundBy s t))) lent
 unfolding metWords
 metWords-done s t lent h = settle-done _ _ (λ x. lent) h
 
-pub metWords-refused : (s t : Store) (lent : List ℕ) → (firstNo (roundQuestions s t (length lent / 5)) ≡ 0 → ⊥) → metWords s t lent ≡ lent
+pub metWords-refused : (s t : Store) (lent : List ℕ) → (firstNo (roundQuestions s t (recordsIn lent)) ≡ 0 → ⊥) → metWords s t lent ≡ lent
 unfolding metWords
 metWords-refused s t lent f = settle-refused _ _ (λ x. lent) f
 

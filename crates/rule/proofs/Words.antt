@@ -10,18 +10,19 @@ use Rattle.keys.specs.declared.store.Store.{Store}
 use Rattle.keys.proofs.Tests.{eq-or-ne}
 use Rattle.claims.specs.declared.claim.Claim.{Claim}
 use Rattle.claims.specs.Question.{firstNo}
+use Rattle.claims.specs.Words.{claimWidth, wordsOf}
 use Rattle.rule.specs.declared.delivery.Delivery.{Delivery}
 use Rattle.rule.specs.Round.{transcript}
-use Rattle.rule.specs.Call.{writtenOver, claimWords, roundQuestions, roundBy, metLent, deliveryWords, metWords}
+use Rattle.rule.specs.Call.{writtenOver, claimWords, roundQuestions, roundBy, metLent, recordWidth, recordWords, deliveryWords, recordsIn, metWords}
 use Rattle.rule.proofs.CallLaws.{metLent-done, metLent-refused, metWords-done, metWords-refused}
 
 -- ---- how many words
 
-pub length-claimWords : (cs : List Claim) → length (claimWords cs) ≡ 4 * length cs
+pub length-claimWords : (cs : List Claim) → length (claimWords cs) ≡ claimWidth * length cs
 length-claimWords [] = refl
 length-claimWords (c ∷ cs) = omega (arith, length-claimWords cs)
 
-pub length-deliveryWords : (ds : List Delivery) → length (deliveryWords ds) ≡ 5 * length ds
+pub length-deliveryWords : (ds : List Delivery) → length (deliveryWords ds) ≡ recordWidth * length ds
 length-deliveryWords [] = refl
 length-deliveryWords (d ∷ ds) = omega (arith, length-deliveryWords ds)
 
@@ -29,11 +30,11 @@ length-deliveryWords (d ∷ ds) = omega (arith, length-deliveryWords ds)
 
 pub claimWords-append : (a b : List Claim) → claimWords (a ++ b) ≡ claimWords a ++ claimWords b
 claimWords-append [] b = refl
-claimWords-append (c ∷ cs) b = ap (λ (x : List ℕ). c .lo ∷ c .hi ∷ c .sum ∷ c .cnt ∷ x) (claimWords-append cs b)
+claimWords-append (c ∷ cs) b = ap (λ (x : List ℕ). wordsOf c ++ x) (claimWords-append cs b)
 
 pub deliveryWords-append : (a b : List Delivery) → deliveryWords (a ++ b) ≡ deliveryWords a ++ deliveryWords b
 deliveryWords-append [] b = refl
-deliveryWords-append (d ∷ ds) b = ap (λ (x : List ℕ). d .sender ∷ d .claim .lo ∷ d .claim .hi ∷ d .claim .sum ∷ d .claim .cnt ∷ x) (deliveryWords-append ds b)
+deliveryWords-append (d ∷ ds) b = ap (λ (x : List ℕ). recordWords d ++ x) (deliveryWords-append ds b)
 
 -- ---- parts
 
@@ -63,9 +64,9 @@ metWords-records s t lent =
     metWords-done s t (deliveryWords lent) (ap (λ (n : ℕ). firstNo (roundQuestions s t n)) records ∙ z)
     ∙ sym (ap deliveryWords (metLent-done s t lent z) ∙ deliveryWords-writtenOver (transcript (roundBy s t)) lent))
     (λ (f : firstNo (roundQuestions s t (length lent)) ≡ 0 → ⊥).
-    metWords-refused s t (deliveryWords lent) (λ (z : firstNo (roundQuestions s t (length (deliveryWords lent) / 5)) ≡ 0). f (sym (ap (λ (n : ℕ). firstNo (roundQuestions s t n)) records) ∙ z))
+    metWords-refused s t (deliveryWords lent) (λ (z : firstNo (roundQuestions s t (recordsIn (deliveryWords lent))) ≡ 0). f (sym (ap (λ (n : ℕ). firstNo (roundQuestions s t n)) records) ∙ z))
     ∙ sym (ap deliveryWords (metLent-refused s t lent f)))
     (eq-or-ne (firstNo (roundQuestions s t (length lent))) 0)
   where
-    records : length (deliveryWords lent) / 5 ≡ length lent
+    records : recordsIn (deliveryWords lent) ≡ length lent
     records = omega (arith, length-deliveryWords lent)

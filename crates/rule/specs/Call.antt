@@ -1,7 +1,7 @@
 -- What taking a claim, a beat and a round return, for any content of what they are given, and what every lent place holds afterwards: the first
 -- question answered no decides, and then the rule. "A refusal returns its number, the given store or node, and zeros for any claim or count. On success,
 -- output past what was written keeps its contents." Assumes nothing.
-use Prim.Native.Nat.{ℕ, _/_}
+use Prim.Native.Nat.{ℕ, _+_, _/_}
 use mathlib.Core.List.{List, [], _∷_, _++_}
 use lib.ListN.{length, drop}
 use Rattle.keys.specs.declared.store.Store.{Store}
@@ -9,6 +9,7 @@ use Rattle.keys.specs.Store.{keysOf, storeOf}
 use Rattle.claims.specs.declared.claim.Claim.{Claim}
 use Rattle.claims.specs.Question.{Question, firstNo, settle, question1, question6, claimQuestions}
 use Rattle.claims.specs.Reply.{ends, hear}
+use Rattle.claims.specs.Words.{claimWidth, wordsOf}
 use Rattle.rule.specs.declared.node.Node.{Node}
 use Rattle.rule.specs.declared.delivery.Delivery.{Delivery}
 use Rattle.rule.specs.declared.answer.Taken.{Taken}
@@ -19,7 +20,8 @@ use Rattle.rule.specs.Node.{nodeKeys, pendingOf, nodeOf}
 use Rattle.rule.specs.Round.{Run, roundOf, transcript}
 use Rattle.rule.specs.Question.{nodeQuestion1, question8, question9, question15}
 
--- a lent run after something was written to its beginning: what was written, then what stood there before
+-- A lent run after something was written to its beginning: what was written, then what stood there before. It is `putAt lent 0 new` of Place
+-- (`putAt-zero` of proofs/PlaceLaws), said without a place.
 abbrev pub writtenOver : {A : Type 0} → List A → List A → List A
 writtenOver new lent = new ++ drop (length new) lent
 
@@ -33,14 +35,14 @@ taken n c =
     (record { number = 0; node = nodeOf (hear c (nodeKeys n)) (tableWith c (pendingOf n)) })
     (λ x. record { number = x; node = n })
 
--- a claim in a lent run of words: four to a claim
+-- claims in a lent run of words, one after the other
 abbrev pub claimWords : List Claim → List ℕ
 claimWords [] = []
-claimWords (c ∷ cs) = c .lo ∷ c .hi ∷ c .sum ∷ c .cnt ∷ claimWords cs
+claimWords (c ∷ cs) = wordsOf c ++ claimWords cs
 
 -- `beat` asks 1 and 15, of the places for claims in the words that it is lent.
 abbrev pub beatQuestions : Node → List ℕ → List Question
-beatQuestions n lent = nodeQuestion1 n ∷ question15 (length lent / 4) beatLimit ∷ []
+beatQuestions n lent = nodeQuestion1 n ∷ question15 (length lent / claimWidth) beatLimit ∷ []
 
 -- "It returns the node and the number written. A beat adds no key."
 unfoldable pub beaten : Node → List ℕ → Beaten
@@ -82,13 +84,23 @@ metLent s t lent =
     (writtenOver (transcript (roundBy s t)) lent)
     (λ x. lent)
 
--- .. and as words, five to a record: sender, lo, hi, sum, cnt. The records are then a fifth of the words.
+-- .. and as words: a record is its sender, then its claim. How many those are, code knows as `Delivery::WORDS`.
+abbrev pub recordWidth : ℕ
+recordWidth = 1 + claimWidth
+
+abbrev pub recordWords : Delivery → List ℕ
+recordWords d = d .sender ∷ wordsOf (d .claim)
+
 abbrev pub deliveryWords : List Delivery → List ℕ
 deliveryWords [] = []
-deliveryWords (d ∷ ds) = d .sender ∷ d .claim .lo ∷ d .claim .hi ∷ d .claim .sum ∷ d .claim .cnt ∷ deliveryWords ds
+deliveryWords (d ∷ ds) = recordWords d ++ deliveryWords ds
+
+-- how many records some words have
+abbrev pub recordsIn : List ℕ → ℕ
+recordsIn words = length words / recordWidth
 
 unfoldable pub metWords : Store → Store → List ℕ → List ℕ
 metWords s t lent =
-    settle (firstNo (roundQuestions s t (length lent / 5)))
+    settle (firstNo (roundQuestions s t (recordsIn lent)))
     (writtenOver (deliveryWords (transcript (roundBy s t))) lent)
     (λ x. lent)

@@ -12,14 +12,12 @@ impl Delivery {
     // The records that no round exceeds: twice the keys of the greatest union.
     pub const RECORDS: usize = 2 * Store::LIMIT;
 
+    // The words of a record in a lent run: the sender, then the claim. `recordWidth` in specs/Call.
+    pub const WORDS: usize = 1 + Claim::WORDS;
+
     // The record of zeros.
     pub const NONE: Delivery = Delivery {
         sender: 0,
-        claim: Claim {
-            lo: 0,
-            hi: 0,
-            sum: 0,
-            cnt: 0,
-        },
+        claim: Claim::NONE,
     };
 }
