@@ -1,5 +1,5 @@
 -- The beat (src/beats.rt): one law for each way that the code goes, over the definitions of specs/Lent. What these mean is in LentLaws. In order:
--- `write_claim`, `write_answer`, the loop of `serve_table`, `write_whole`, `beat_in`, `beat`. Assumes nothing.
+-- `write_answer`, the loop of `serve_table`, `write_whole`, `beat_in`, `beat`. Assumes nothing.
 use mathlib.Core.Path.{_≡_, refl, sym, _∙_, ap}
 use mathlib.Core.Bool.{Bool, true, false, cond, not}
 use mathlib.Core.List.{List, [], _∷_, _++_}
@@ -19,6 +19,7 @@ use Rattle.claims.specs.declared.answer.Made.{Made}
 use Rattle.claims.specs.Claim.{noClaim}
 use Rattle.claims.specs.Reply.{claimsOf}
 use Rattle.claims.specs.Lent.{makeIn, answerIn}
+use Rattle.claims.specs.Words.{claimWidth, putClaim}
 use Rattle.rule.specs.declared.node.Node.{Node}
 use Rattle.rule.specs.declared.answer.Beaten.{Beaten}
 use Rattle.rule.specs.Table.{tableLimit, beatLimit, remains, Served}
@@ -29,19 +30,10 @@ use Rattle.rule.proofs.NodeLaws.{length-blanks, nodeInOrder-ordered}
 use Rattle.rule.proofs.Words.{length-claimWords}
 use Rattle.nodes.specs.Lent.{nodeWith}
 use Rattle.beats.specs.declared.beats.Kept.{Kept}
-use Rattle.beats.specs.Lent.{serveIn, wholeIn, sendingIn, claimSize, wroteAt, Wrote, keptWith, ServedAt}
+use Rattle.beats.specs.Lent.{serveIn, wholeIn, sendingIn, wroteAt, Wrote, keptWith, ServedAt}
 use Rattle.beats.specs.Lent.{beatenWith, unbeaten, beatIn, beatInLent, BeatsIn}
-use Rattle.beats.proofs.LentLaws.{sets-writtenOver, wroteAt-append, length-wholeIn, length-sendingIn, length-keptIn}
+use Rattle.beats.proofs.LentLaws.{sets-writtenOver, putClaim-wroteAt, wroteAt-append, length-wholeIn, length-sendingIn, length-keptIn}
 use Rattle.beats.proofs.LentLaws.{beatIn-beaten, beatInLent-beatenLent}
-
--- ---- `write_claim`
-
-pub wrote-claim : (lent : List ℕ) (i : ℕ) (c : Claim)
-    → set (set (set (set lent i (c .lo)) (i + 1) (c .hi)) (i + 2) (c .sum)) (i + 3) (c .cnt) ≡ sets lent i (claimWords (c ∷ []))
-wrote-claim lent i c =
-    let two : i + 2 ≡ suc (suc i) = omega arith in
-    let three : i + 3 ≡ suc (suc (suc i)) = omega arith in
-    rw (add-one i, two, three)
 
 -- ---- `write_answer`
 
@@ -50,13 +42,20 @@ module _ (a b : Answer) (is : a ≡ b) (at : ℕ) (lent : List ℕ) where
   pub wrote-none : claimsOf b ≡ [] → Wrote at (claimsOf a) lent at lent
   wrote-none e = rw (is, e) (record { place = sym (add-zero at); words = refl })
 
-  pub wrote-one : (c : Claim) → claimsOf b ≡ c ∷ [] → (after : List ℕ) → after ≡ wroteAt at (c ∷ []) lent → Wrote at (claimsOf a) lent (at + 1) after
-  wrote-one c e after f = rw (is, e) (record { place = refl; words = f })
+  module _ (room : claimWidth * (at + 2) ≤ length lent) where
+    pub wrote-one : (c : Claim) → claimsOf b ≡ c ∷ [] → (after : List ℕ) → after ≡ putClaim lent (claimWidth * at) c → Wrote at (claimsOf a) lent (at + 1) after
+    wrote-one c e after f = rw (is, e) (record { place = refl; words = f ∙ putClaim-wroteAt at c lent (omega arith) })
 
-  pub wrote-two : (c d : Claim) → claimsOf b ≡ c ∷ d ∷ [] → (half after : List ℕ)
-      → half ≡ wroteAt at (c ∷ []) lent → after ≡ wroteAt (at + 1) (d ∷ []) half → Wrote at (claimsOf a) lent (at + 2) after
-  wrote-two c d e half after f g =
-      rw (is, e) (record { place = refl; words = g ∙ (ap (λ (l : List ℕ). wroteAt (at + 1) (d ∷ []) l) f ∙ sym (wroteAt-append at (c ∷ []) (d ∷ []) lent)) })
+    pub wrote-two : (c d : Claim) → claimsOf b ≡ c ∷ d ∷ [] → (half after : List ℕ)
+        → half ≡ putClaim lent (claimWidth * at) c → after ≡ putClaim half (claimWidth * (at + 1)) d → Wrote at (claimsOf a) lent (at + 2) after
+    wrote-two c d e half after f g =
+        let first : half ≡ wroteAt at (c ∷ []) lent = f ∙ putClaim-wroteAt at c lent (omega arith) in
+        let same : length half ≡ length lent = ap length first ∙ length-sets lent (claimWidth * at) (claimWords (c ∷ [])) in
+        let second : after ≡ wroteAt (at + 1) (d ∷ []) half = g ∙ putClaim-wroteAt (at + 1) d half (omega arith) in
+        rw (is, e) (record {
+          place = refl;
+          words = second ∙ (ap (λ (l : List ℕ). wroteAt (at + 1) (d ∷ []) l) first ∙ sym (wroteAt-append at (c ∷ []) (d ∷ []) lent));
+        })
 
 -- ---- `serve_table`
 
@@ -84,13 +83,13 @@ module _ (s : Store) (table : List Claim) (pending at : ℕ) (lent₀ : List ℕ
     pub passed : i ≤ pending
     pub few : n ≤ i
     pub long : length lent ≡ length lent₀
-    pub room : claimSize * (next + 2 * (pending - i)) ≤ length lent
+    pub room : claimWidth * (next + 2 * (pending - i)) ≤ length lent
     pub words : wroteAt next (rest i .sent) lent ≡ wroteAt at (rest 0 .sent) lent₀
     pub written : next + length (rest i .sent) ≡ at + length (rest 0 .sent)
     pub places : sets kept n (rest i .kept) ≡ sets (blanks tableLimit) 0 (rest 0 .kept)
     pub stayed : n + length (rest i .kept) ≡ length (rest 0 .kept)
 
-  pub left-all : claimSize * (at + 2 * pending) ≤ length lent₀ → Left 0 at lent₀ 0 (blanks tableLimit)
+  pub left-all : claimWidth * (at + 2 * pending) ≤ length lent₀ → Left 0 at lent₀ 0 (blanks tableLimit)
   left-all h = record {
     passed = omega arith;
     few = omega arith;
@@ -130,7 +129,7 @@ module _ (s : Store) (table : List Claim) (pending at : ℕ) (lent₀ : List ℕ
       on : {n′ : ℕ} {kept′ : List Claim} → n′ ≤ i + 1 → sets kept′ n′ (rest (i + 1) .kept) ≡ sets kept n (rest i .kept)
           → n′ + length (rest (i + 1) .kept) ≡ n + length (rest i .kept) → Left (i + 1) next′ lent′ n′ kept′
       on m t k =
-          let same : length lent′ ≡ length lent = ap length (wrote .words) ∙ length-sets lent (claimSize * next) (claimWords (claimsOf a)) in
+          let same : length lent′ ≡ length lent = ap length (wrote .words) ∙ length-sets lent (claimWidth * next) (claimWords (claimsOf a)) in
           let two : length (claimsOf a) ≤ 2 = length-claimsOf a in
           let place = wrote .place in
           record {
@@ -181,9 +180,10 @@ module _ (keys : List ℕ) (count : ℕ) (lent : List ℕ) where
   whole-none e = rw (eq-eqb count 0 e) (record { place = refl; words = refl })
 
   pub whole-one : (count ≡ 0 → ⊥) → (made : Made) → made ≡ makeIn (storeWith keys count) 0 (count - 1)
-      → (after : List ℕ) → after ≡ wroteAt 0 (made .claim ∷ []) lent → Wrote 0 (wholeIn (storeWith keys count)) lent 1 after
+      → claimWidth ≤ length lent → (after : List ℕ) → after ≡ putClaim lent 0 (made .claim) → Wrote 0 (wholeIn (storeWith keys count)) lent 1 after
   unfolding wholeIn
-  whole-one f made e after g = rw (ne-eqb count 0 f, ← e) (record { place = refl; words = g })
+  whole-one f made e room after g =
+      rw (ne-eqb count 0 f, ← e) (record { place = refl; words = g ∙ putClaim-wroteAt 0 (made .claim) lent (omega arith) })
 
 -- ---- `beat_in`
 
@@ -196,14 +196,14 @@ module _ (keys : List ℕ) (held : ℕ) (table : List Claim) (count : ℕ) (lent
   unfolding beatIn beatInLent
   beat-many h = record { result = rw (lt-leb count tableLimit h); words = rw (lt-leb count tableLimit h) }
 
-  pub beat-short : count ≤ tableLimit → length lent / claimSize < beatLimit → BeatsIn node lent (unbeaten node 15) lent
+  pub beat-short : count ≤ tableLimit → length lent / claimWidth < beatLimit → BeatsIn node lent (unbeaten node 15) lent
   unfolding beatIn beatInLent
   beat-short h g = record {
-    result = rw (le-leb count tableLimit h, lt-leb beatLimit (length lent / claimSize) g);
-    words = rw (le-leb count tableLimit h, lt-leb beatLimit (length lent / claimSize) g);
+    result = rw (le-leb count tableLimit h, lt-leb beatLimit (length lent / claimWidth) g);
+    words = rw (le-leb count tableLimit h, lt-leb beatLimit (length lent / claimWidth) g);
   }
 
-  module _ (h : count ≤ tableLimit) (g : beatLimit ≤ length lent / claimSize) {at : ℕ} {half : List ℕ}
+  module _ (h : count ≤ tableLimit) (g : beatLimit ≤ length lent / claimWidth) {at : ℕ} {half : List ℕ}
       (whole : Wrote 0 (wholeIn (storeWith keys held)) lent at half) where
     abbrev s : Store
     s = storeWith keys held
@@ -212,9 +212,9 @@ module _ (keys : List ℕ) (held : ℕ) (table : List Claim) (count : ℕ) (lent
     served = serveIn s (take count table)
 
     -- there are words for the table, after the whole claim
-    pub beat-room : claimSize * (at + 2 * count) ≤ length half
+    pub beat-room : claimWidth * (at + 2 * count) ≤ length half
     beat-room =
-        let same : length half ≡ length lent = ap length (whole .words) ∙ length-sets lent (claimSize * 0) (claimWords (wholeIn s)) in
+        let same : length half ≡ length lent = ap length (whole .words) ∙ length-sets lent (claimWidth * 0) (claimWords (wholeIn s)) in
         omega (arith, whole .place, length-wholeIn s)
 
     fits : length (claimWords (sendingIn s (take count table))) ≤ length lent
@@ -228,8 +228,8 @@ module _ (keys : List ℕ) (held : ℕ) (table : List Claim) (count : ℕ) (lent
         = rw (whole .place, whole .words) (sym (wroteAt-append 0 (wholeIn s) (served .sent) lent)) in
         let kept-is : kept ≡ keptWith (length (wholeIn s)) served = done .result ∙ ap (λ (m : ℕ). keptWith m served) place in
         record {
-          result = rw (le-leb count tableLimit h, le-leb beatLimit (length lent / claimSize) g) (ap (beatenWith keys held) kept-is);
-          words = rw (le-leb count tableLimit h, le-leb beatLimit (length lent / claimSize) g)
+          result = rw (le-leb count tableLimit h, le-leb beatLimit (length lent / claimWidth) g) (ap (beatenWith keys held) kept-is);
+          words = rw (le-leb count tableLimit h, le-leb beatLimit (length lent / claimWidth) g)
               (done .words ∙ (joined ∙ sets-writtenOver lent (claimWords (sendingIn s (take count table))) fits));
         }
 

@@ -19,9 +19,11 @@ use Rattle.claims.specs.Claim.{claimOf, wholeClaim}
 use Rattle.claims.specs.Question.{firstNo, settle}
 use Rattle.claims.specs.Reply.{answer, reply, claimsOf}
 use Rattle.claims.specs.Lent.{makeIn, answerIn}
+use Rattle.claims.specs.Words.{claimWidth, putClaim}
 use Rattle.claims.proofs.QuestionLaws.{passes, judged-firstNo, settle-kept}
 use Rattle.claims.proofs.ReplyLaws.{hear-held}
 use Rattle.claims.proofs.LentLaws.{makeIn-store, answerIn-store}
+use Rattle.claims.proofs.WordsLaws.{putClaim-fits}
 use Rattle.rule.specs.declared.node.Node.{Node}
 use Rattle.rule.specs.declared.answer.Beaten.{Beaten}
 use Rattle.rule.specs.Table.{tableLimit, beatLimit, remains, Served, serve, sending}
@@ -30,7 +32,7 @@ use Rattle.rule.specs.Call.{writtenOver, claimWords, beaten, beatenLent}
 use Rattle.rule.proofs.TableLaws.{length-claimsOf}
 use Rattle.rule.proofs.NodeLaws.{Fits, Ordered, ordered-nodeInOrder}
 use Rattle.rule.proofs.Words.{length-claimWords, claimWords-append}
-use Rattle.beats.specs.Lent.{serveIn, wholeIn, sendingIn, claimSize, wroteAt, keptWith, unbeaten, beatInQuestions, beatIn, beatInLent}
+use Rattle.beats.specs.Lent.{serveIn, wholeIn, sendingIn, wroteAt, keptWith, unbeaten, beatInQuestions, beatIn, beatInLent}
 
 -- ---- claims in lent words
 
@@ -45,12 +47,16 @@ module _ {A : Type 0} where
   pub sets-writtenOver : (l xs : List A) → length xs ≤ length l → sets l 0 xs ≡ writtenOver xs l
   sets-writtenOver l xs h = sets-eq xs l 0 (omega arith) ∙ ap (λ (n : ℕ). xs ++ drop n l) (zero-add (length xs))
 
+-- one claim, where there are words for it
+pub putClaim-wroteAt : (at : ℕ) (c : Claim) (lent : List ℕ) → claimWidth * (at + 1) ≤ length lent → putClaim lent (claimWidth * at) c ≡ wroteAt at (c ∷ []) lent
+putClaim-wroteAt at c lent h = putClaim-fits lent (claimWidth * at) c (omega arith)
+
 -- claims right after claims
 pub wroteAt-append : (at : ℕ) (cs ds : List Claim) (lent : List ℕ) → wroteAt at (cs ++ ds) lent ≡ wroteAt (at + length cs) ds (wroteAt at cs lent)
 wroteAt-append at cs ds lent =
-    let e : claimSize * at + length (claimWords cs) ≡ claimSize * (at + length cs) = omega (arith, length-claimWords cs) in
-    ap (λ (ws : List ℕ). sets lent (claimSize * at) ws) (claimWords-append cs ds)
-    ∙ (sets-append lent (claimSize * at) (claimWords cs) (claimWords ds)
+    let e : claimWidth * at + length (claimWords cs) ≡ claimWidth * (at + length cs) = omega (arith, length-claimWords cs) in
+    ap (λ (ws : List ℕ). sets lent (claimWidth * at) ws) (claimWords-append cs ds)
+    ∙ (sets-append lent (claimWidth * at) (claimWords cs) (claimWords ds)
     ∙ ap (λ (n : ℕ). sets (wroteAt at cs lent) n (claimWords ds)) e)
 
 -- ---- how many claims are sent and kept
@@ -154,7 +160,7 @@ module _ (n : Node) (lent : List ℕ) (long : length (n .store .keys) ≡ limit)
   unfolding beatIn keptWith beaten nodeOf
   beatIn-beaten =
       rw (le-leb (n .count) tableLimit (o .count), ordered-nodeInOrder n o)
-      (λ i. settle (cond (leb beatLimit (length lent / claimSize)) 0 15)
+      (λ i. settle (cond (leb beatLimit (length lent / claimWidth)) 0 15)
       (record {
         number = 0;
         node = record {
@@ -170,4 +176,4 @@ module _ (n : Node) (lent : List ℕ) (long : length (n .store .keys) ≡ limit)
   unfolding beatInLent beatenLent
   beatInLent-beatenLent =
       rw (le-leb (n .count) tableLimit (o .count), ordered-nodeInOrder n o)
-      (λ i. settle (cond (leb beatLimit (length lent / claimSize)) 0 15) (writtenOver (claimWords (sent-is i)) lent) (λ x. lent))
+      (λ i. settle (cond (leb beatLimit (length lent / claimWidth)) 0 15) (writtenOver (claimWords (sent-is i)) lent) (λ x. lent))

@@ -15,6 +15,7 @@ use Rattle.claims.specs.declared.claim.Claim.{Claim}
 use Rattle.claims.specs.Question.{Question, firstNo, settle, question}
 use Rattle.claims.specs.Reply.{claimsOf}
 use Rattle.claims.specs.Lent.{makeIn, answerIn}
+use Rattle.claims.specs.Words.{claimWidth}
 use Rattle.rule.specs.declared.node.Node.{Node}
 use Rattle.rule.specs.declared.answer.Beaten.{Beaten}
 use Rattle.rule.specs.Table.{tableLimit, beatLimit, Served, remains}
@@ -44,13 +45,9 @@ sendingIn s t = wholeIn s ++ serveIn s t .sent
 
 -- ---- claims in lent words
 
--- the words of a claim: lo, hi, sum, cnt
-abbrev pub claimSize : ℕ
-claimSize = 4
-
 -- lent words once some claims are written from the place `at` on
 abbrev pub wroteAt : ℕ → List Claim → List ℕ → List ℕ
-wroteAt at cs lent = sets lent (claimSize * at) (claimWords cs)
+wroteAt at cs lent = sets lent (claimWidth * at) (claimWords cs)
 
 -- some claims are written from the place `at` on: `next` is the place after them, `after` the words then
 pub record Wrote (at : ℕ) (cs : List Claim) (lent : List ℕ) (next : ℕ) (after : List ℕ) : Type 0 where
@@ -77,7 +74,7 @@ unbeaten n x = record { number = x; node = n; written = 0 }
 
 -- asked is whether the count of pending claims is that of a table, which is a part of question 1; and 15
 abbrev pub beatInQuestions : Node → List ℕ → List Question
-beatInQuestions n lent = question 1 (leb (n .count) tableLimit) ∷ question15 (length lent / claimSize) beatLimit ∷ []
+beatInQuestions n lent = question 1 (leb (n .count) tableLimit) ∷ question15 (length lent / claimWidth) beatLimit ∷ []
 
 -- `beat_in`: what it returns ..
 unfoldable pub beatIn : Node → List ℕ → Beaten

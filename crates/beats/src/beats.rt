@@ -3,54 +3,40 @@ use claims::Answer;
 use claims::Claim;
 use claims::answer_in;
 use claims::make_in;
+use claims::put_claim;
 use nodes::ordered;
 use rule::Beaten;
 use rule::Node;
 ghost use mathlib.Core.Path.{_≡_};
-ghost use mathlib.Core.List.{[], _∷_};
 ghost use Prim.Native.Nat.{_+_, _*_, _≤_};
 ghost use lib.ListN.{length, take};
 ghost use Rattle.keys.specs.Lent.{storeWith};
 ghost use Rattle.claims.specs.Reply.{claimsOf};
+ghost use Rattle.claims.specs.Words.{claimWidth};
 ghost use Rattle.rule.specs.Table.{tableLimit, remains};
 ghost use Rattle.rule.specs.Call.{beaten, beatenLent};
 ghost use Rattle.nodes.specs.Lent.{nodeWith};
-ghost use Rattle.beats.specs.Lent.{serveIn, wholeIn, claimSize, wroteAt, Wrote, ServedAt, beatenWith, BeatsIn};
-
-// The words of a claim in a lent run: lo, hi, sum, cnt. `claimSize` in specs/Lent.
-const WORDS: usize = 4;
-
-// Writes a claim to a place.
-fn write_claim(lent: &mut [u64], at: usize, claim: Claim)
-    requires { ⌜ claimSize * (at + 1) ≤ length (now lent) ⌝ }
-    ensures { λ r. ⌜ now (lent .exit) ≡ wroteAt at (claim ∷ []) (now (lent .entry)) ⌝ }
-{
-    let i = WORDS * at;
-    lent[i] = claim.lo;
-    lent[i + 1] = claim.hi;
-    lent[i + 2] = claim.sum;
-    lent[i + 3] = claim.cnt as u64;
-}
+ghost use Rattle.beats.specs.Lent.{serveIn, wholeIn, Wrote, ServedAt, beatenWith, BeatsIn};
 
 // Writes the claims that an answer carries, and returns the place after them.
 fn write_answer(lent: &mut [u64], at: usize, answer: Answer) -> usize
-    requires { ⌜ claimSize * (at + 2) ≤ length (now lent) ⌝ }
+    requires { ⌜ claimWidth * (at + 2) ≤ length (now lent) ⌝ }
     ensures { λ r. ⌜ Wrote at (claimsOf answer) (now (lent .entry)) r (now (lent .exit)) ⌝ }
 {
     match answer {
         Answer::Refused(_) => at,
         Answer::Match => at,
         Answer::Ask(own) => {
-            write_claim(lent, at, own);
+            put_claim(lent, Claim::WORDS * at, own);
             at + 1
         }
         Answer::One(claim) => {
-            write_claim(lent, at, claim);
+            put_claim(lent, Claim::WORDS * at, claim);
             at + 1
         }
         Answer::Two(one, two) => {
-            write_claim(lent, at, one);
-            write_claim(lent, at + 1, two);
+            put_claim(lent, Claim::WORDS * at, one);
+            put_claim(lent, Claim::WORDS * (at + 1), two);
             at + 2
         }
     }
@@ -87,7 +73,7 @@ fn serve_table(
     lent: &mut [u64],
     at: usize,
 ) -> Kept
-    requires { ⌜ (pending ≤ tableLimit) × (claimSize * (at + 2 * pending) ≤ length (now lent)) ⌝ }
+    requires { ⌜ (pending ≤ tableLimit) × (claimWidth * (at + 2 * pending) ≤ length (now lent)) ⌝ }
     ensures { λ r. ⌜ ServedAt at (serveIn (storeWith (now (keys .entry)) count) (take pending table)) (now (lent .entry)) r (now (lent .exit)) ⌝ }
 {
     let mut kept = [Claim::NONE; Node::TABLE];
@@ -114,14 +100,14 @@ fn serve_table(
 
 // Writes the whole claim to the first place, if there is one, and returns the place after it.
 fn write_whole(keys: &[u64], count: usize, lent: &mut [u64]) -> usize
-    requires { ⌜ claimSize ≤ length (now lent) ⌝ }
+    requires { ⌜ claimWidth ≤ length (now lent) ⌝ }
     ensures { λ r. ⌜ Wrote 0 (wholeIn (storeWith (now (keys .entry)) count)) (now (lent .entry)) r (now (lent .exit)) ⌝ }
 {
     if count == 0 {
         return 0;
     }
     let made = make_in(keys, count, 0, count - 1);
-    write_claim(lent, 0, made.claim);
+    put_claim(lent, 0, made.claim);
     1
 }
 
@@ -143,7 +129,7 @@ pub fn beat_in(
             written: 0,
         };
     }
-    if lent.len() / WORDS < Node::BEAT {
+    if lent.len() / Claim::WORDS < Node::BEAT {
         return Kept {
             number: 15,
             table,
@@ -155,7 +141,7 @@ pub fn beat_in(
     serve_table(keys, held, table, count, lent, at)
 }
 
-// The beat of a node: the whole claim and the claims of the replies to the pending ones are written, four words to a claim. Asks 1 and 15.
+// The beat of a node: the whole claim and the claims of the replies to the pending ones are written, one after the other. Asks 1 and 15.
 pub fn beat(node: Node, lent: &mut [u64]) -> Beaten
     ensures { λ r. ⌜ (r ≡ beaten node (now (lent .entry))) × (now (lent .exit) ≡ beatenLent node (now (lent .entry))) ⌝ }
 {

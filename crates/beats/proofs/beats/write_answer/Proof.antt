@@ -13,8 +13,11 @@ enum-told-2 c = search needs
 enum-known-answer : tie.Need-enum-known-answer
 enum-known-answer c = search needs
 
-write-claim-requires : tie.Need-write-claim-requires
-write-claim-requires c κs = search needs
+mul-put-claim : tie.Need-mul-put-claim
+mul-put-claim c = search needs
+
+put-claim-requires : tie.Need-put-claim-requires
+put-claim-requires c κs = search needs
 
 add-result : tie.Need-add-result
 add-result c = search needs
@@ -22,8 +25,11 @@ add-result c = search needs
 enum-known-answer-2 : tie.Need-enum-known-answer-2
 enum-known-answer-2 c = search needs
 
-write-claim-requires-2 : tie.Need-write-claim-requires-2
-write-claim-requires-2 c κs = search needs
+mul-put-claim-2 : tie.Need-mul-put-claim-2
+mul-put-claim-2 c = search needs
+
+put-claim-requires-2 : tie.Need-put-claim-requires-2
+put-claim-requires-2 c κs = search needs
 
 add-result-2 : tie.Need-add-result-2
 add-result-2 c = search needs
@@ -31,14 +37,20 @@ add-result-2 c = search needs
 enum-known-answer-3 : tie.Need-enum-known-answer-3
 enum-known-answer-3 c = search needs
 
-write-claim-requires-3 : tie.Need-write-claim-requires-3
-write-claim-requires-3 c κs = search needs
+mul-put-claim-3 : tie.Need-mul-put-claim-3
+mul-put-claim-3 c = search needs
 
-add-write-claim : tie.Need-add-write-claim
-add-write-claim c = search needs
+put-claim-requires-3 : tie.Need-put-claim-requires-3
+put-claim-requires-3 c κs = search needs
 
-write-claim-requires-4 : tie.Need-write-claim-requires-4
-write-claim-requires-4 c κs = search needs
+add-put-claim : tie.Need-add-put-claim
+add-put-claim c = search needs
+
+mul-put-claim-4 : tie.Need-mul-put-claim-4
+mul-put-claim-4 c = search needs
+
+put-claim-requires-4 : tie.Need-put-claim-requires-4
+put-claim-requires-4 c κs = search needs
 
 add-result-3 : tie.Need-add-result-3
 add-result-3 c = search needs
@@ -74,15 +86,19 @@ write-answer-spec =
     enum-told
     enum-told-2
     enum-known-answer
-    write-claim-requires
+    mul-put-claim
+    put-claim-requires
     add-result
     enum-known-answer-2
-    write-claim-requires-2
+    mul-put-claim-2
+    put-claim-requires-2
     add-result-2
     enum-known-answer-3
-    write-claim-requires-3
-    add-write-claim
-    write-claim-requires-4
+    mul-put-claim-3
+    put-claim-requires-3
+    add-put-claim
+    mul-put-claim-4
+    put-claim-requires-4
     add-result-3
     returns
     returns-2

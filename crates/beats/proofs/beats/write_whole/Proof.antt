@@ -13,8 +13,8 @@ sub-make-in c = search needs
 make-in-requires : tie.Need-make-in-requires
 make-in-requires c κs = search needs
 
-write-claim-requires : tie.Need-write-claim-requires
-write-claim-requires c κs = search needs
+put-claim-requires : tie.Need-put-claim-requires
+put-claim-requires c κs = search needs
 
 same-length : tie.Need-same-length
 same-length c = search needs
@@ -25,4 +25,4 @@ returns-2 c = search (needs, whole-one)
 pub write-whole-spec : {M : Type 1} → statement M
 write-whole-spec =
     tie.close
-    (tie.spec returns sub-make-in make-in-requires write-claim-requires same-length returns-2)
+    (tie.spec returns sub-make-in make-in-requires put-claim-requires same-length returns-2)
