@@ -19,10 +19,10 @@ use Rattle.claims.specs.Question.{firstNo, settle}
 use Rattle.rule.specs.declared.delivery.Delivery.{Delivery}
 use Rattle.rule.specs.declared.answer.Met.{Met}
 use Rattle.rule.specs.Round.{union, Line, transcript}
-use Rattle.rule.specs.Call.{writtenOver, deliveryWords, roundQuestions, roundBy, met, metLent, metWords}
+use Rattle.rule.specs.Call.{writtenOver, recordWidth, recordsIn, deliveryWords, roundQuestions, roundBy, met, metLent, metWords}
 use Rattle.rule.proofs.CallLaws.{RoundYes, roundQuestions-yes, met-done, met-refused, roundYes-rounded, metLent-done, metLent-refused, metWords-done}
 use Rattle.rule.proofs.Words.{length-deliveryWords}
-use Rattle.transcript.specs.Core.{recordsIn, claimIn}
+use Rattle.transcript.specs.Core.{claimIn}
 use Rattle.transcript.proofs.WordsLaws.{length-over, sender-at, claim-at}
 use Rattle.rounds.specs.Log.{noDelivery, deliveryIn, copied, frontRecords, frontWords, recorded}
 use Rattle.rounds.proofs.Narrow.{Narrow, AllNarrow, allNarrow-getD, round-narrow}
@@ -30,7 +30,7 @@ use Rattle.rounds.proofs.Narrow.{Narrow, AllNarrow, allNarrow-getD, rou
 -- ---- a record in words
 
 module _ (words : List ℕ) (at : ℕ) where
-  pub deliveryIn-some : at < recordsIn words → (c : Claim) → c ≡ claimIn words at → record { sender = getD words (at * 5) 0 % 256; claim = c } ≡ deliveryIn words at
+  pub deliveryIn-some : at < recordsIn words → (c : Claim) → c ≡ claimIn words at → record { sender = getD words (at * recordWidth) 0 % 256; claim = c } ≡ deliveryIn words at
   unfolding deliveryIn
   deliveryIn-some h c e = rw (lt-ltb at (recordsIn words) h, e)
 
@@ -41,16 +41,16 @@ module _ (words : List ℕ) (at : ℕ) where
 -- ---- the first words
 
 module _ (words : List ℕ) (records n : ℕ) (e : n ≡ frontRecords words records) where
-  pub length-take-front : length (take (n * 5) words) ≡ n * 5
-  length-take-front = length-take-le (n * 5) words (omega (arith, e))
+  pub length-take-front : length (take (n * recordWidth) words) ≡ n * recordWidth
+  length-take-front = length-take-le (n * recordWidth) words (omega (arith, e))
 
-  pub front-met : (s t : Store) (r : Met) (after : List ℕ) → (r ≡ met s t (length (take (n * 5) words) / 5)) × (after ≡ metWords s t (take (n * 5) words))
-      → (r ≡ met s t (frontRecords words records)) × (after ++ drop (n * 5) words ≡ frontWords s t words records)
+  pub front-met : (s t : Store) (r : Met) (after : List ℕ) → (r ≡ met s t (recordsIn (take (n * recordWidth) words))) × (after ≡ metWords s t (take (n * recordWidth) words))
+      → (r ≡ met s t (frontRecords words records)) × (after ++ drop (n * recordWidth) words ≡ frontWords s t words records)
   unfolding frontWords
   front-met s t r after h =
-      let k : length (take (n * 5) words) / 5 ≡ frontRecords words records = omega (arith, e, length-take-front) in (
+      let k : recordsIn (take (n * recordWidth) words) ≡ frontRecords words records = omega (arith, e, length-take-front) in (
         h .0 ∙ ap (met s t) k,
-        ap (λ (v : List ℕ). v ++ drop (n * 5) words) (h .1) ∙ ap (λ (m : ℕ). metWords s t (take (m * 5) words) ++ drop (m * 5) words) e,
+        ap (λ (v : List ℕ). v ++ drop (n * recordWidth) words) (h .1) ∙ ap (λ (m : ℕ). metWords s t (take (m * recordWidth) words) ++ drop (m * recordWidth) words) e,
       )
 
 -- ---- records stored one after the other
@@ -67,7 +67,7 @@ module _ (lent : List ℕ) where
       let all : List ℕ = writtenOver (deliveryWords (done ++ (d ∷ rest))) lent in
       let same : length all ≡ length lent = length-over (done ++ (d ∷ rest)) lent h in
       let some : length done < recordsIn all = omega (arith, length-append done (d ∷ rest)) in
-      let byte : getD all (length done * 5) 0 % 256 ≡ d .sender = let e : getD all (length done * 5) 0 ≡ d .sender = sender-at done d rest lent in omega (arith, w .sender) in
+      let byte : getD all (length done * recordWidth) 0 % 256 ≡ d .sender = let e : getD all (length done * recordWidth) 0 ≡ d .sender = sender-at done d rest lent in omega (arith, w .sender) in
       sym (deliveryIn-some all (length done) some (d .claim) (sym (claim-at done d rest lent h (w .cnt))))
       ∙ (λ i. record { sender = byte i; claim = d .claim })
 
@@ -139,12 +139,12 @@ module _ (s t : Store) (words : List ℕ) (long : 2 * limit ≤ recordsIn words)
   unfolding frontWords
   frontWords-done n h =
       let k : ℕ = frontRecords words n in
-      let most : k ≤ length words / 5 = omega arith in
-      let cut : length (take (k * 5) words) ≡ k * 5 = length-take-front words n k refl in
-      let same : length (take (k * 5) words) / 5 ≡ k = omega arith in
+      let most : k ≤ recordsIn words = omega arith in
+      let cut : length (take (k * recordWidth) words) ≡ k * recordWidth = length-take-front words n k refl in
+      let same : recordsIn (take (k * recordWidth) words) ≡ k = omega arith in
       let fit : length (transcript (roundBy s t)) ≤ k = lines-fit n (roundQuestions-yes s t n h) in
-      ap (λ (l : List ℕ). l ++ drop (k * 5) words) (metWords-done s t (take (k * 5) words) (ap (λ (m : ℕ). firstNo (roundQuestions s t m)) same ∙ (roundQuestions-min s t n (recordsIn words) long ∙ h)))
-      ∙ writtenOver-front (deliveryWords (transcript (roundBy s t))) words (k * 5) (omega (arith, length-deliveryWords (transcript (roundBy s t)))) (omega arith)
+      ap (λ (l : List ℕ). l ++ drop (k * recordWidth) words) (metWords-done s t (take (k * recordWidth) words) (ap (λ (m : ℕ). firstNo (roundQuestions s t m)) same ∙ (roundQuestions-min s t n (recordsIn words) long ∙ h)))
+      ∙ writtenOver-front (deliveryWords (transcript (roundBy s t))) words (k * recordWidth) (omega (arith, length-deliveryWords (transcript (roundBy s t)))) (omega arith)
 
   met-lent-done : (lent : List Delivery) → firstNo (roundQuestions s t (length lent)) ≡ 0 → copied (met s t (length lent) .deliveries) (frontWords s t words (length lent)) lent ≡ metLent s t lent
   met-lent-done lent h =

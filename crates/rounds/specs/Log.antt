@@ -10,8 +10,8 @@ use Rattle.keys.specs.declared.store.Store.{Store}
 use Rattle.keys.specs.Store.{limit}
 use Rattle.claims.specs.Claim.{noClaim}
 use Rattle.rule.specs.declared.delivery.Delivery.{Delivery}
-use Rattle.rule.specs.Call.{met, metLent, metWords}
-use Rattle.transcript.specs.Core.{recordsIn, claimIn}
+use Rattle.rule.specs.Call.{recordWidth, recordsIn, met, metLent, metWords}
+use Rattle.transcript.specs.Core.{claimIn}
 use Rattle.rounds.specs.declared.log.Recorded.{Recorded}
 
 -- the record of zeros, which stands where there is none
@@ -22,7 +22,7 @@ noDelivery = record { sender = 0; claim = noClaim }
 
 -- the record that lies in words, and the record of zeros past the last one
 unfoldable pub deliveryIn : List ℕ → ℕ → Delivery
-deliveryIn words at = cond (ltb at (recordsIn words)) (record { sender = getD words (at * 5) 0 % 256; claim = claimIn words at }) noDelivery
+deliveryIn words at = cond (ltb at (recordsIn words)) (record { sender = getD words (at * recordWidth) 0 % 256; claim = claimIn words at }) noDelivery
 
 -- the first n records that lie in words, stored one after the other
 abbrev pub copied : ℕ → List ℕ → List Delivery → List Delivery
@@ -36,7 +36,7 @@ frontRecords words records = min records (recordsIn words)
 -- the words after a round on the first of them
 unfoldable pub frontWords : Store → Store → List ℕ → ℕ → List ℕ
 frontWords s t words records =
-    metWords s t (take (frontRecords words records * 5) words) ++ drop (frontRecords words records * 5) words
+    metWords s t (take (frontRecords words records * recordWidth) words) ++ drop (frontRecords words records * recordWidth) words
 
 -- ---- a round over records of its own
 

@@ -21,17 +21,17 @@ use Rattle.claims.proofs.LentLaws.{replyIn-fits, makeIn-store}
 use Rattle.rule.specs.declared.delivery.Delivery.{Delivery}
 use Rattle.rule.specs.Round.{End, leftEnd, rightEnd, senderNumber, Pair, pair, Entry, waits, receiver, keysBefore, delivered, answers}
 use Rattle.rule.specs.Round.{Line, Run, run, half, roundOf, transcript, union}
-use Rattle.rule.specs.Call.{deliveryWords, writtenOver}
+use Rattle.rule.specs.Call.{recordsIn, deliveryWords, writtenOver}
 use Rattle.rule.proofs.Pair.{Rises, unionOf, rises-pair}
 use Rattle.rule.proofs.Entry.{Sound, weights, sound-limit, length-waits}
 use Rattle.rule.proofs.Deliver.{adding-within}
 use Rattle.rule.proofs.Half.{Fine, fine-step, weights-step, fine-length, run-nil, run-cons, run-more}
 use Rattle.rule.proofs.Half.{opening, halfway-opening, half-run, half-fine, half-union, length-half}
 use Rattle.rule.proofs.Union.{length-left-union, length-right-union}
-use Rattle.transcript.specs.Core.{recordsIn, senderIn, claimIn, Log, putRecords, putWhole}
-use Rattle.transcript.specs.Core.{Core, claimAt, step, steps, finish, opened, reopened, both}
+use Rattle.transcript.specs.Core.{senderIn, claimIn, Log, delivery, putRecords, putWhole}
+use Rattle.transcript.specs.Core.{Core, firstWaiting, step, steps, finish, opened, reopened, both}
 use Rattle.transcript.proofs.StepLaws.{steps-on, steps-off}
-use Rattle.transcript.proofs.WordsLaws.{delivery, length-over, sender-at, claim-at, logOf, putRecords-append}
+use Rattle.transcript.proofs.WordsLaws.{length-over, sender-at, claim-at, logOf, putRecords-append}
 
 -- ---- a state of the core
 
@@ -79,7 +79,7 @@ module _ (lent u : List ℕ) (p : Pair) (e : Entry) (q : List Entry) (done : Lis
   sender-is : senderIn (s .log .words) (s .head) ≡ senderNumber (e .sender)
   sender-is = ap₂ senderIn words-are (laid .head-is) ∙ sender-at done (noted e) (map noted q) lent
 
-  claim-is : claimAt s ≡ e .claim
+  claim-is : firstWaiting s ≡ e .claim
   claim-is = ap₂ claimIn words-are (laid .head-is) ∙ claim-at done (noted e) (map noted q) lent fits-words (passes .at-most)
 
   -- the receiver's keys after it have room
@@ -92,7 +92,7 @@ module _ (lent u : List ℕ) (p : Pair) (e : Entry) (q : List Entry) (done : Lis
 
   -- what the receiver replies, whose store has these keys
   replied : (own : Store) → own ≡ storeOf (keysBefore e p)
-      → replyIn own (claimAt s) ≡ record { store = storeOf (hear (e .claim) (keysBefore e p)); answer = reply (e .claim) (keysBefore e p) }
+      → replyIn own (firstWaiting s) ≡ record { store = storeOf (hear (e .claim) (keysBefore e p)); answer = reply (e .claim) (keysBefore e p) }
   replied own k = ap₂ replyIn k claim-is ∙ replyIn-fits (keysBefore e p) (fine .rises (receiver e)) (e .claim) passes heard-fits
 
   -- the answers' records go after the last one

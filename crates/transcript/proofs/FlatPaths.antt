@@ -21,10 +21,10 @@ use Rattle.claims.specs.Reply.{claimsOf}
 use Rattle.claims.specs.Lent.{makeIn, repliedWith, replyIn}
 use Rattle.rule.specs.declared.delivery.Delivery.{Delivery}
 use Rattle.rule.specs.Round.{union, Line, transcript}
-use Rattle.rule.specs.Call.{roundQuestions, roundBy, met, metWords}
+use Rattle.rule.specs.Call.{roundQuestions, roundBy, met, recordsIn, metWords}
 use Rattle.rule.proofs.CallLaws.{RoundYes, roundQuestions-yes, met-done, met-refused, metWords-done, metWords-refused}
 use Rattle.transcript.specs.declared.flat.Reached.{Reached}
-use Rattle.transcript.specs.Core.{recordsIn, senderIn, claimIn, Log, logWith, putRecord, putRecords, putWhole}
+use Rattle.transcript.specs.Core.{senderIn, claimIn, Log, logWith, putRecord, putRecords, putWhole}
 use Rattle.transcript.specs.Core.{Core, coreOf, step, finish, opened, reopened, both, asked, Stepped}
 use Rattle.transcript.proofs.StepLaws.{length-step, head-step, tail-step, finish-on, steps-off, length-putWhole, tail-putWhole, opened-bound}
 use Rattle.transcript.proofs.WordsLaws.{logOf}

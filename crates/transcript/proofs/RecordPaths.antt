@@ -1,49 +1,36 @@
 -- Records in a lent run of words (src/record.rt): one law for each way that the code goes, over the definitions of specs/Core. Assumes nothing.
-use Prim.Native.Nat.{ℕ, _+_, _*_, _%_, _≤_, _<_}
+use Prim.Native.Nat.{ℕ, _+_, _*_, _≤_, _<_}
 use mathlib.Core.List.{List}
-use mathlib.Core.Path.{_≡_, ap, _∙_}
-use native.Mathlib.Numerals.{add-one, add-two, add-three, add-four}
+use mathlib.Core.Path.{_≡_, sym, ap, _∙_}
+use native.Mathlib.Numerals.{add-one}
+use native.Mathlib.Omega.{arith}
 use borrow.Author.Tests.{lt-ltb, le-ltb}
-use lib.ListN.{getD, set}
+use lib.ListN.{length, set, length-set}
 use Rattle.claims.specs.declared.answer.Answer.{Answer}
 use Rattle.claims.specs.declared.answer.Answer.the-variants.{Refused, Match, Ask, One, Two}
 use Rattle.claims.specs.declared.claim.Claim.{Claim}
 use Rattle.claims.specs.Claim.{noClaim}
 use Rattle.claims.specs.Reply.{claimsOf}
-use Rattle.transcript.specs.Core.{recordSize, recordsIn, claimIn, Log, logWith, putRecord, putRecords}
+use Rattle.claims.specs.Words.{claimWidth, putClaim}
+use Rattle.claims.proofs.WordsLaws.{claimAt-past, putClaim-fits}
+use Rattle.rule.specs.Call.{recordWidth, recordsIn}
+use Rattle.transcript.specs.Core.{claimIn, Log, logWith, putRecord, putRecords}
 
 module _ (words : List ℕ) (at : ℕ) where
   -- `claim_in`
 
-  pub claimIn-some : at < recordsIn words
-      → record {
-        lo = getD words (at * recordSize + 1) 0;
-        hi = getD words (at * recordSize + 2) 0;
-        sum = getD words (at * recordSize + 3) 0;
-        cnt = getD words (at * recordSize + 4) 0 % 65536;
-      }
-      ≡ claimIn words at
-  unfolding claimIn
-  claimIn-some h = rw (lt-ltb at (recordsIn words) h)
-
   pub claimIn-none : recordsIn words ≤ at → noClaim ≡ claimIn words at
-  unfolding claimIn
-  claimIn-none h = rw (le-ltb at (recordsIn words) h)
+  claimIn-none h = sym (claimAt-past words (at * recordWidth + 1) (omega arith))
 
   -- `put_record`
 
   module _ (sender : ℕ) (c : Claim) where
-    pub put-some : at < recordsIn words
-        → logWith
-        (set
-        (set
-        (set (set (set words (at * recordSize) sender) (at * recordSize + 1) (c .lo)) (at * recordSize + 2) (c .hi))
-        (at * recordSize + 3) (c .sum))
-        (at * recordSize + 4) (c .cnt))
-        (at + 1)
-        ≡ putRecord (logWith words at) sender c
+    pub put-some : at < recordsIn words → (after : List ℕ) → after ≡ putClaim (set words (at * recordWidth) sender) (at * recordWidth + 1) c
+        → logWith after (at + 1) ≡ putRecord (logWith words at) sender c
     unfolding putRecord
-    put-some h = rw (lt-ltb at (recordsIn words) h, add-one, add-two, add-three, add-four)
+    put-some h after e =
+        let room : at * recordWidth + 1 + claimWidth ≤ length (set words (at * recordWidth) sender) = omega (arith, length-set words (at * recordWidth) sender) in
+        rw (lt-ltb at (recordsIn words) h) (ap (λ (ws : List ℕ). logWith ws (at + 1)) (e ∙ (putClaim-fits (set words (at * recordWidth) sender) (at * recordWidth + 1) c room ∙ rw add-one)))
 
     pub put-past : recordsIn words ≤ at → logWith words at ≡ putRecord (logWith words at) sender c
     unfolding putRecord

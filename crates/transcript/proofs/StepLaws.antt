@@ -13,8 +13,9 @@ use Rattle.keys.specs.declared.store.Store.{Store}
 use Rattle.claims.specs.declared.claim.Claim.{Claim}
 use Rattle.claims.specs.Reply.{claimsOf}
 use Rattle.claims.specs.Lent.{makeIn, replyIn}
-use Rattle.transcript.specs.Core.{recordSize, recordWords, recordsIn, senderIn, Log, logWith, putRecord, putRecords, putWhole}
-use Rattle.transcript.specs.Core.{Core, claimAt, toRight, toLeft, step, steps, finish, opened}
+use Rattle.rule.specs.Call.{recordWidth, recordWords, recordsIn}
+use Rattle.transcript.specs.Core.{senderIn, Log, logWith, delivery, putRecord, putRecords, putWhole}
+use Rattle.transcript.specs.Core.{Core, firstWaiting, toRight, toLeft, step, steps, finish, opened}
 
 -- ---- records written
 
@@ -22,14 +23,14 @@ module _ (log : Log) (sender : ℕ) where
   module _ (c : Claim) where
     -- the log with the record
     more : Log
-    more = logWith (sets (log .words) (log .tail * recordSize) (recordWords sender c)) (log .tail + 1)
+    more = logWith (sets (log .words) (log .tail * recordWidth) (recordWords (delivery sender c))) (log .tail + 1)
 
     length-putRecord : length (putRecord log sender c .words) ≡ length (log .words)
     unfolding putRecord more
     length-putRecord = go (ltb (log .tail) (recordsIn (log .words)))
       where
         go : (t : Bool) → length (cond t more log .words) ≡ length (log .words)
-        go true = length-sets (log .words) (log .tail * recordSize) (recordWords sender c)
+        go true = length-sets (log .words) (log .tail * recordWidth) (recordWords (delivery sender c))
         go false = refl
 
     tail-putRecord : log .tail ≤ recordsIn (log .words) → putRecord log sender c .tail ≤ recordsIn (log .words)
@@ -70,26 +71,26 @@ tail-putWhole s log sender h = go (eqb (s .count) 0)
 
 module _ (s : Core) where
   -- what holds whichever way it goes
-  step-cases : (P : Core → Type 0) → P (toRight s (replyIn (s .right) (claimAt s))) → P (toLeft s (replyIn (s .left) (claimAt s))) → P (step s)
+  step-cases : (P : Core → Type 0) → P (toRight s (replyIn (s .right) (firstWaiting s))) → P (toLeft s (replyIn (s .left) (firstWaiting s))) → P (step s)
   unfolding step
   step-cases P a b = go (eqb (senderIn (s .log .words) (s .head)) 0)
     where
-      go : (t : Bool) → P (cond t (toRight s (replyIn (s .right) (claimAt s))) (toLeft s (replyIn (s .left) (claimAt s))))
+      go : (t : Bool) → P (cond t (toRight s (replyIn (s .right) (firstWaiting s))) (toLeft s (replyIn (s .left) (firstWaiting s))))
       go true = a
       go false = b
 
   pub length-step : length (step s .log .words) ≡ length (s .log .words)
   length-step = step-cases (λ t. length (t .log .words) ≡ length (s .log .words))
-      (length-putRecords (s .log) 1 (claimsOf (replyIn (s .right) (claimAt s) .answer)))
-      (length-putRecords (s .log) 0 (claimsOf (replyIn (s .left) (claimAt s) .answer)))
+      (length-putRecords (s .log) 1 (claimsOf (replyIn (s .right) (firstWaiting s) .answer)))
+      (length-putRecords (s .log) 0 (claimsOf (replyIn (s .left) (firstWaiting s) .answer)))
 
   pub head-step : step s .head ≡ s .head + 1
   head-step = step-cases (λ t. t .head ≡ s .head + 1) refl refl
 
   pub tail-step : s .log .tail ≤ recordsIn (s .log .words) → step s .log .tail ≤ recordsIn (s .log .words)
   tail-step h = step-cases (λ t. t .log .tail ≤ recordsIn (s .log .words))
-      (tail-putRecords (s .log) 1 (claimsOf (replyIn (s .right) (claimAt s) .answer)) h)
-      (tail-putRecords (s .log) 0 (claimsOf (replyIn (s .left) (claimAt s) .answer)) h)
+      (tail-putRecords (s .log) 1 (claimsOf (replyIn (s .right) (firstWaiting s) .answer)) h)
+      (tail-putRecords (s .log) 0 (claimsOf (replyIn (s .left) (firstWaiting s) .answer)) h)
 
 -- ---- deliveries until none waits
 
@@ -102,7 +103,7 @@ finish-on s h g =
     let m : ℕ = recordsIn (s .log .words) - (s .head + 1) in
     let e : recordsIn (s .log .words) - s .head ≡ suc m = omega arith in
     let k : m ≡ recordsIn (step s .log .words) - step s .head =
-    ap (λ (n : ℕ). n / recordSize - (s .head + 1)) (sym (length-step s)) ∙ ap (λ (n : ℕ). recordsIn (step s .log .words) - n) (sym (head-step s)) in
+    ap (λ (n : ℕ). n / recordWidth - (s .head + 1)) (sym (length-step s)) ∙ ap (λ (n : ℕ). recordsIn (step s .log .words) - n) (sym (head-step s)) in
     ap (λ (n : ℕ). steps n s) e ∙ (steps-on m s h ∙ ap (λ (n : ℕ). steps n (step s)) k)
 
 -- the end

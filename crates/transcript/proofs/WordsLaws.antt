@@ -1,27 +1,23 @@
 -- Records laid out as words (specs/Core, `putRecord`, `claimIn`, against `deliveryWords` and `writtenOver` of `rule`, specs/Call): how long they are, what
 -- is read at a record, and that a record put after those that are written is one record more. Assumes nothing.
-use Prim.Native.Nat.{ℕ, _+_, _*_, _%_, _≤_, _<_}
+use Prim.Native.Nat.{ℕ, _+_, _*_, _≤_, _<_}
 use mathlib.Core.List.{List, [], _∷_, _++_, map, append-assoc, append-nil}
 use mathlib.Core.Path.{_≡_, sym, ap, ap₂, _∙_}
 use native.Mathlib.Omega.{arith}
 use borrow.Author.Tests.{lt-ltb}
 use lib.ListN.{length, take, drop, getD, length-append}
-use lib.Seq.{sets, sets-eq, getD-append-add, take-append-seam, drop-append-add, drop-drop}
+use lib.Seq.{sets, sets-eq, getD-drop, take-append-seam, drop-append-add, drop-drop}
 use Rattle.keys.specs.Store.{limit}
 use Rattle.claims.specs.declared.claim.Claim.{Claim}
-use Rattle.claims.proofs.ClaimLaws.{claim-ext}
+use Rattle.claims.specs.Words.{fromWords}
+use Rattle.claims.proofs.WordsLaws.{claimAt-small}
 use Rattle.rule.specs.declared.delivery.Delivery.{Delivery}
-use Rattle.rule.specs.Call.{deliveryWords, writtenOver}
+use Rattle.rule.specs.Call.{recordWidth, recordWords, recordsIn, deliveryWords, writtenOver}
 use Rattle.rule.proofs.Words.{length-deliveryWords, deliveryWords-append, length-writtenOver}
-use Rattle.transcript.specs.Core.{recordSize, recordWords, recordsIn, senderIn, claimIn, Log, logWith, putRecord, putRecords}
-use Rattle.transcript.proofs.RecordPaths.{claimIn-some}
-
--- the record of a claim from one end
-abbrev pub delivery : ℕ → Claim → Delivery
-delivery sender c = record { sender = sender; claim = c }
+use Rattle.transcript.specs.Core.{senderIn, claimIn, Log, logWith, delivery, putRecord, putRecords}
 
 -- so many words to a record
-words-of : (ds : List Delivery) → length (deliveryWords ds) ≡ length ds * recordSize
+words-of : (ds : List Delivery) → length (deliveryWords ds) ≡ length ds * recordWidth
 words-of ds = omega (arith, length-deliveryWords ds)
 
 -- the words keep their number
@@ -41,17 +37,17 @@ module _ (done : List Delivery) (d : Delivery) (rest : List Delivery) (lent : Li
       ap (λ (l : List ℕ). l ++ drop (length (deliveryWords (done ++ (d ∷ rest)))) lent) (deliveryWords-append done (d ∷ rest))
       ∙ append-assoc (deliveryWords done) (deliveryWords (d ∷ rest)) (drop (length (deliveryWords (done ++ (d ∷ rest)))) lent)
 
-  word-at : (n : ℕ) → getD (writtenOver (deliveryWords (done ++ (d ∷ rest))) lent) (length done * recordSize + n) 0 ≡ getD from n 0
-  word-at n =
-      ap (λ (l : List ℕ). getD l (length done * recordSize + n) 0) in-front
-      ∙ (ap (λ (k : ℕ). getD (deliveryWords done ++ from) (k + n) 0) (sym (words-of done))
-      ∙ getD-append-add (deliveryWords done) from n 0)
+  words-at : (n : ℕ) → drop (length done * recordWidth + n) (writtenOver (deliveryWords (done ++ (d ∷ rest))) lent) ≡ drop n from
+  words-at n =
+      ap (drop (length done * recordWidth + n)) in-front
+      ∙ (ap (λ (k : ℕ). drop (k + n) (deliveryWords done ++ from)) (sym (words-of done)) ∙ drop-append-add (deliveryWords done) from n)
 
   pub sender-at : senderIn (writtenOver (deliveryWords (done ++ (d ∷ rest))) lent) (length done) ≡ d .sender
   unfolding from
   sender-at =
-      let e : length done * recordSize ≡ length done * recordSize + 0 = omega arith in
-      ap (λ (k : ℕ). getD (writtenOver (deliveryWords (done ++ (d ∷ rest))) lent) k 0) e ∙ word-at 0
+      let w : List ℕ = writtenOver (deliveryWords (done ++ (d ∷ rest))) lent in
+      let e : length done * recordWidth ≡ length done * recordWidth + 0 = omega arith in
+      ap (λ (k : ℕ). getD w k 0) e ∙ (sym (getD-drop (length done * recordWidth) w 0 0) ∙ (ap (λ (k : ℕ). getD (drop k w) 0 0) e ∙ ap (λ (l : List ℕ). getD l 0 0) (words-at 0)))
 
   pub claim-at : length (done ++ (d ∷ rest)) ≤ recordsIn lent → d .claim .cnt ≤ limit
       → claimIn (writtenOver (deliveryWords (done ++ (d ∷ rest))) lent) (length done) ≡ d .claim
@@ -59,18 +55,9 @@ module _ (done : List Delivery) (d : Delivery) (rest : List Delivery) (lent : Li
   claim-at h g =
       let w : List ℕ = writtenOver (deliveryWords (done ++ (d ∷ rest))) lent in
       let same : length w ≡ length lent = length-over (done ++ (d ∷ rest)) lent h in
-      let some : length done < recordsIn w = omega (arith, length-append done (d ∷ rest)) in
-      let cnt : getD w (length done * recordSize + 4) 0 % 65536 ≡ d .claim .cnt =
-      let e : getD w (length done * recordSize + 4) 0 ≡ d .claim .cnt = word-at 4 in omega arith in
-      sym (claimIn-some w (length done) some)
-      ∙ claim-ext
-      (record {
-        lo = getD w (length done * recordSize + 1) 0;
-        hi = getD w (length done * recordSize + 2) 0;
-        sum = getD w (length done * recordSize + 3) 0;
-        cnt = getD w (length done * recordSize + 4) 0 % 65536;
-      })
-      (d .claim) (word-at 1) (word-at 2) (word-at 3) cnt
+      let e : fromWords (drop (length done * recordWidth + 1) w) ≡ d .claim = ap fromWords (words-at 1) in
+      let small : fromWords (drop (length done * recordWidth + 1) w) .cnt < 65536 = omega (arith, ap (λ (c : Claim). c .cnt) e) in
+      claimAt-small w (length done * recordWidth + 1) (omega (arith, length-append done (d ∷ rest))) small ∙ e
 
 -- ---- writing the record after those that are written
 
@@ -84,16 +71,16 @@ unfolding putRecord
 putRecord-append ds lent sender c h =
     let x : List ℕ = deliveryWords ds in
     let w : List ℕ = writtenOver x lent in
-    let v : List ℕ = recordWords sender c in
-    let len : length x ≡ length ds * recordSize = words-of ds in
+    let v : List ℕ = recordWords (delivery sender c) in
+    let len : length x ≡ length ds * recordWidth = words-of ds in
     let same : length w ≡ length lent = length-over ds lent (omega arith) in
     let some : length ds < recordsIn w = omega arith in
     let front : take (length x) w ≡ x = take-append-seam x (drop (length x) lent) in
-    let back : drop (length x + recordSize) w ≡ drop (length x + recordSize) lent =
-    drop-append-add x (drop (length x) lent) recordSize ∙ drop-drop recordSize (length x) lent in
+    let back : drop (length x + recordWidth) w ≡ drop (length x + recordWidth) lent =
+    drop-append-add x (drop (length x) lent) recordWidth ∙ drop-drop recordWidth (length x) lent in
     let all : deliveryWords (ds ++ (delivery sender c ∷ [])) ≡ x ++ v = deliveryWords-append ds (delivery sender c ∷ []) in
-    let long : length (x ++ v) ≡ length x + recordSize = length-append x v in
-    let put : sets w (length ds * recordSize) v ≡ writtenOver (deliveryWords (ds ++ (delivery sender c ∷ []))) lent =
+    let long : length (x ++ v) ≡ length x + recordWidth = length-append x v in
+    let put : sets w (length ds * recordWidth) v ≡ writtenOver (deliveryWords (ds ++ (delivery sender c ∷ []))) lent =
     rw (all, long, ← len) (sets-eq v w (length x) (omega arith) ∙ rw (front, back)) in
     rw (lt-ltb (length ds) (recordsIn w) some) (ap₂ logWith put (sym (length-append ds (delivery sender c ∷ []))))
 

@@ -4,7 +4,7 @@
 -- delivered, those from `head` to `tail` wait. In order: records in words; records written; one delivery; deliveries until none waits; both halves; the
 -- questions; and what the code says of a state. Assumes nothing.
 use mathlib.Core.Path.{_≡_}
-use Prim.Native.Nat.{ℕ, zero, suc, _+_, _-_, _*_, _/_, _%_}
+use Prim.Native.Nat.{ℕ, zero, suc, _+_, _-_, _*_}
 use mathlib.Core.Bool.{cond}
 use mathlib.Core.List.{List, [], _∷_}
 use lib.Dec.{ltb, eqb}
@@ -15,41 +15,24 @@ use Rattle.keys.specs.Store.{keysOf}
 use Rattle.keys.specs.Lent.{orderedIn, storeWith}
 use Rattle.claims.specs.declared.answer.Replied.{Replied}
 use Rattle.claims.specs.declared.claim.Claim.{Claim}
-use Rattle.claims.specs.Claim.{noClaim}
 use Rattle.claims.specs.Reply.{claimsOf}
 use Rattle.claims.specs.Lent.{makeIn, replyIn}
+use Rattle.claims.specs.Words.{claimAt}
 use Rattle.claims.specs.Question.{question, firstNo}
+use Rattle.rule.specs.declared.delivery.Delivery.{Delivery}
+use Rattle.rule.specs.Call.{recordWidth, recordWords, recordsIn}
 use Rattle.rule.specs.Question.{question8, question9}
 use Rattle.transcript.specs.declared.flat.Reached.{Reached}
 
 -- ---- records in words
 
--- the words of a record: sender, lo, hi, sum, cnt
-abbrev pub recordSize : ℕ
-recordSize = 5
-
-abbrev pub recordWords : ℕ → Claim → List ℕ
-recordWords sender c = sender ∷ c .lo ∷ c .hi ∷ c .sum ∷ c .cnt ∷ []
-
--- how many records the words have
-abbrev pub recordsIn : List ℕ → ℕ
-recordsIn words = length words / recordSize
-
 -- who sent a record: 0 is the left end
 abbrev pub senderIn : List ℕ → ℕ → ℕ
-senderIn words at = getD words (at * recordSize) 0
+senderIn words at = getD words (at * recordWidth) 0
 
--- the claim of a record, and zeros past the last one
-unfoldable pub claimIn : List ℕ → ℕ → Claim
-claimIn words at =
-    cond (ltb at (recordsIn words))
-    (record {
-      lo = getD words (at * recordSize + 1) 0;
-      hi = getD words (at * recordSize + 2) 0;
-      sum = getD words (at * recordSize + 3) 0;
-      cnt = getD words (at * recordSize + 4) 0 % 65536;
-    })
-    noClaim
+-- the claim of a record, after its sender; and zeros past the last one
+abbrev pub claimIn : List ℕ → ℕ → Claim
+claimIn words at = claimAt words (at * recordWidth + 1)
 
 -- ---- records written, one after the other
 
@@ -61,11 +44,15 @@ pub record Log : Type 0 where
 abbrev pub logWith : List ℕ → ℕ → Log
 logWith words tail = record { words = words; tail = tail }
 
+-- the record of a claim from one end
+abbrev pub delivery : ℕ → Claim → Delivery
+delivery sender c = record { sender = sender; claim = c }
+
 -- a record put last; where there is no place for it nothing changes
 unfoldable pub putRecord : Log → ℕ → Claim → Log
 putRecord log sender c =
     cond (ltb (log .tail) (recordsIn (log .words)))
-    (logWith (sets (log .words) (log .tail * recordSize) (recordWords sender c)) (log .tail + 1))
+    (logWith (sets (log .words) (log .tail * recordWidth) (recordWords (delivery sender c))) (log .tail + 1))
     log
 
 -- several claims of one sender
@@ -89,8 +76,8 @@ abbrev pub coreOf : Store → Store → Log → ℕ → Core
 coreOf left right log head = record { left = left; right = right; log = log; head = head }
 
 -- the first claim waiting
-abbrev pub claimAt : Core → Claim
-claimAt s = claimIn (s .log .words) (s .head)
+abbrev pub firstWaiting : Core → Claim
+firstWaiting s = claimIn (s .log .words) (s .head)
 
 -- it goes from the left end to the right one, which replied `r`
 abbrev pub toRight : Core → Replied → Core
@@ -100,7 +87,7 @@ abbrev pub toLeft : Core → Replied → Core
 toLeft s r = coreOf (r .store) (s .right) (putRecords (s .log) 0 (claimsOf (r .answer))) (s .head + 1)
 
 unfoldable pub step : Core → Core
-step s = cond (eqb (senderIn (s .log .words) (s .head)) 0) (toRight s (replyIn (s .right) (claimAt s))) (toLeft s (replyIn (s .left) (claimAt s)))
+step s = cond (eqb (senderIn (s .log .words) (s .head)) 0) (toRight s (replyIn (s .right) (firstWaiting s))) (toLeft s (replyIn (s .left) (firstWaiting s)))
 
 -- ---- deliveries until none waits, at most n
 

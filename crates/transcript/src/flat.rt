@@ -16,8 +16,8 @@ ghost use lib.ListN.{length};
 ghost use Rattle.keys.specs.Store.{limit, rising};
 ghost use Rattle.keys.specs.Lent.{storeWith};
 ghost use Rattle.rule.specs.Round.{union};
-ghost use Rattle.rule.specs.Call.{met, metWords};
-ghost use Rattle.transcript.specs.Core.{recordsIn, logWith, putWhole, coreOf, step, finish, opened, reopened, both, Stepped, asked};
+ghost use Rattle.rule.specs.Call.{met, recordsIn, metWords};
+ghost use Rattle.transcript.specs.Core.{logWith, putWhole, coreOf, step, finish, opened, reopened, both, Stepped, asked};
 
 // Where the core is: both counts, and where the next record goes.
 pub struct Reached {

@@ -1,26 +1,23 @@
-// Records of a transcript in a lent run of words, five to a record: sender, lo, hi, sum, cnt. Each function is total.
+// Records of a transcript in a lent run of words, one after the other: the sender, then the claim. Each function is total.
 use claims::Answer;
 use claims::Claim;
+use claims::claim_at;
+use claims::put_claim;
+use rule::Delivery;
 ghost use mathlib.Core.Path.{_≡_};
 ghost use Prim.Native.Nat.{_<_, _/_};
 ghost use Rattle.claims.specs.Reply.{claimsOf};
 ghost use Rattle.transcript.specs.Core.{claimIn, logWith, putRecord, putRecords};
 
 // The words of a record.
-pub const RECORD: usize = 5;
+pub const RECORD: usize = Delivery::WORDS;
 
 // The claim of a record, and zeros past the last one.
 pub fn claim_in(words: &[u64], at: usize) -> Claim
     ensures { λ r. ⌜ r ≡ claimIn (now (words .entry)) at ⌝ }
 {
     if at < words.len() / RECORD {
-        let base = at * RECORD;
-        return Claim {
-            lo: words[base + 1],
-            hi: words[base + 2],
-            sum: words[base + 3],
-            cnt: (words[base + 4] % 65536) as u16,
-        };
+        return claim_at(words, at * RECORD + 1);
     }
     Claim::NONE
 }
@@ -32,10 +29,7 @@ pub(crate) fn put_record(words: &mut [u64], at: usize, sender: u64, claim: Claim
     if at < words.len() / RECORD {
         let base = at * RECORD;
         words[base] = sender;
-        words[base + 1] = claim.lo;
-        words[base + 2] = claim.hi;
-        words[base + 3] = claim.sum;
-        words[base + 4] = claim.cnt as u64;
+        put_claim(words, base + 1, claim);
         return at + 1;
     }
     at

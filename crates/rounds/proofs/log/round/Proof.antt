@@ -53,12 +53,11 @@ use Rattle.keys.proofs.store.Store as S
 use Rattle.keys.proofs.store.Store.Laws as S′
 use Rattle.rule.specs.declared.delivery.Delivery.{Delivery}
 use Rattle.rule.specs.declared.answer.Met.{Met}
-use Rattle.rule.specs.Call.{met, metLent}
+use Rattle.rule.specs.Call.{recordWidth, recordsIn, met, metLent}
 use Rattle.rule.proofs.delivery.Delivery as D
 use Rattle.rule.proofs.delivery.Delivery.Laws as D′
 use Rattle.rule.proofs.answer.Met as R
 use Rattle.rule.proofs.answer.Met.Laws as R′
-use Rattle.transcript.specs.Core.{recordsIn}
 use Rattle.rounds.specs.Log.{copied, frontRecords, frontWords}
 use Rattle.rounds.proofs.LogLaws.{met-front, met-lent}
 use Rattle.rounds.proofs.LogWalk.{word, records}
@@ -122,7 +121,7 @@ spelled N = record {
 
 -- the code's own number of words, five for each record that a round can fill
 abbrev many : ℕ
-many = 2 * limit * 5
+many = 2 * limit * recordWidth
 
 spelled-is : spelled many ≡ code.function
 spelled-is = refl
@@ -329,7 +328,7 @@ module _ {M : Type 1} (𝓤 : URA M) (H : Heap 𝓤) (A : Atoms 𝓤) (W : Given
       (λ κs qs bounds a g are. via 𝓤 _ (fst∗ 𝓤 _ (emp 𝓤)) (walk 𝓤 H A W mem′ run (κs .0) (qs .0) (a .1 .1 .0 .ptr .0) (a .1 .1 .0 .ptr .1) (a .1 .1 .0 .name) (a .1 .1 .0 .now) (a .0) (a .1 .0) many (lit< tt, lit< tt) long (are .0) (are .1 .0) (are .1 .1 .0 .0 .1) C Λ fm front out))
     where
       long : 2 * limit ≤ recordsIn (zeros many)
-      long = subst (λ (m : ℕ). 2 * limit ≤ m / 5) (sym (length-zeros many)) (lit≤ tt)
+      long = subst (λ (m : ℕ). 2 * limit ≤ m / recordWidth) (sym (length-zeros many)) (lit≤ tt)
 
 round-meets : {M : Type 1} (𝓤 : URA M) (H : Heap 𝓤) (A : Atoms 𝓤) → Given 𝓤 H A → (mem′ : Memory → SProp 𝓤) (run : Routine → Fun 𝓤) (𝓣 : Tables 𝓤 H) → Triple 𝓤 (𝓣 .C #round-front) (RoundFront 𝓤 H A mem′ run) → Triple 𝓤 (𝓣 .C #copy-out) (CopyOut 𝓤 H A mem′ run)
     → Meets 𝓤 H A round.signature (WpFn 𝓤 H (𝓣 .C) (𝓣 .Λ) code.function) (round.spec 𝓤 H A mem′ run)

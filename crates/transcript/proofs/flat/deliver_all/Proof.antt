@@ -4,7 +4,8 @@ use Prim.Native.Nat.{_≤_, _-_}
 use borrow.Author.Needs.{needs}
 use lib.ListN.{length}
 use Rattle.keys.specs.Lent.{storeWith}
-use Rattle.transcript.specs.Core.{recordsIn, logWith, coreOf, finish}
+use Rattle.rule.specs.Call.{recordsIn}
+use Rattle.transcript.specs.Core.{logWith, coreOf, finish}
 use Rattle.transcript.proofs.FlatPaths.{turn-less, turn-fits, turn-same, turn-on, stopped}
 use Rattle.transcript.proofs.flat.deliver_all.Statement.{statement}
 use Rattle.transcript.proofs.flat.deliver_all.Tie as tie

@@ -1,5 +1,5 @@
 -- `transcript::record::put_record` meets its contract. Assumes nothing.
-use native.Mathlib.Omega.{arith}
+use mathlib.Core.Path.{_∙_}
 use borrow.Author.Needs.{needs}
 use lib.ListN.{length-set}
 use Rattle.transcript.proofs.RecordPaths.{put-some, put-past}
@@ -15,50 +15,17 @@ mul-words c = search needs
 slice-write-words : tie.Need-slice-write-words
 slice-write-words c = search needs
 
-add-words : tie.Need-add-words
-add-words c = search needs
+add-put-claim : tie.Need-add-put-claim
+add-put-claim c = search needs
 
-mul-words-2 : tie.Need-mul-words-2
-mul-words-2 c = search needs
-
-slice-write-words-2 : tie.Need-slice-write-words-2
-slice-write-words-2 c = simp length-set (omega arith)
-
-add-words-2 : tie.Need-add-words-2
-add-words-2 c = search needs
-
-mul-words-3 : tie.Need-mul-words-3
-mul-words-3 c = search needs
-
-slice-write-words-3 : tie.Need-slice-write-words-3
-slice-write-words-3 c = simp length-set (omega arith)
-
-add-words-3 : tie.Need-add-words-3
-add-words-3 c = search needs
-
-mul-words-4 : tie.Need-mul-words-4
-mul-words-4 c = search needs
-
-slice-write-words-4 : tie.Need-slice-write-words-4
-slice-write-words-4 c = simp length-set (omega arith)
-
-cast-words : tie.Need-cast-words
-cast-words c = search needs
-
-add-words-4 : tie.Need-add-words-4
-add-words-4 c = search needs
-
-mul-words-5 : tie.Need-mul-words-5
-mul-words-5 c = search needs
-
-slice-write-words-5 : tie.Need-slice-write-words-5
-slice-write-words-5 c = simp length-set (omega arith)
+put-claim-requires : tie.Need-put-claim-requires
+put-claim-requires c κs = search needs
 
 add-result : tie.Need-add-result
 add-result c = search needs
 
 same-length : tie.Need-same-length
-same-length c = search needs
+same-length c = c .before .before .put-claim .kept .0 ∙ simp length-set
 
 returns : tie.Need-returns
 returns c = search (needs, put-some)
@@ -73,19 +40,8 @@ put-record-spec =
     mul-base
     mul-words
     slice-write-words
-    add-words
-    mul-words-2
-    slice-write-words-2
-    add-words-2
-    mul-words-3
-    slice-write-words-3
-    add-words-3
-    mul-words-4
-    slice-write-words-4
-    cast-words
-    add-words-4
-    mul-words-5
-    slice-write-words-5
+    add-put-claim
+    put-claim-requires
     add-result
     same-length
     returns
