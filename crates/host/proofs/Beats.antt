@@ -11,6 +11,7 @@ use Rattle.keys.specs.Store.{limit}
 use Rattle.keys.proofs.Order.{inOrder-rising, inOrder-count, length-keysOf}
 use Rattle.claims.specs.declared.claim.Claim.{Claim}
 use Rattle.claims.specs.Question.{firstNo}
+use Rattle.claims.specs.Words.{claimWidth}
 use Rattle.rule.specs.declared.node.Node.{Node}
 use Rattle.rule.specs.declared.answer.Beaten.{Beaten}
 use Rattle.rule.specs.Table.{beatLimit, sending}
@@ -34,7 +35,7 @@ use Rattle.host.proofs.Words.{readRun-claimWords}
 pub record Ran (n : Node) (r : Beaten) (words : List ℕ) : Type 0 where
   pub node : r .node ≡ nodeServed n
   pub sent : readRun inWords (r .written) words ≡ sending (nodeKeys n) (pendingOf n)
-  pub room : 4 * r .written ≤ length words
+  pub room : claimWidth * r .written ≤ length words
   pub pass : allPass (readRun inWords (r .written) words) ≡ true
 
 module _ (n : Node) (ordered : nodeInOrder n ≡ true) where
@@ -54,10 +55,10 @@ module _ (n : Node) (ordered : nodeInOrder n ≡ true) where
   length-framesSent = rw (length-framesBytes sent) (framesLength-limit (length sent) sent-count)
 
   -- r and words are what the beat returned and left in the run of words that it was lent
-  module _ (long : length (n .store .keys) ≡ limit) (lent : List ℕ) (room : length lent ≡ 4 * beatLimit) {r : Beaten} {words : List ℕ}
+  module _ (long : length (n .store .keys) ≡ limit) (lent : List ℕ) (room : length lent ≡ claimWidth * beatLimit) {r : Beaten} {words : List ℕ}
       (beaten : r ≡ beatIn n lent) (left : words ≡ beatInLent n lent) where
     asked : firstNo (beatQuestions n lent) ≡ 0
-    asked = rw (ordered, le-leb beatLimit (length lent / 4) (omega arith))
+    asked = rw (ordered, le-leb beatLimit (length lent / claimWidth) (omega arith))
 
     done : r ≡ record { number = 0; node = nodeServed n; written = length sent }
     done = beaten ∙ (beatIn-beaten n lent long o ∙ beaten-done n lent asked)
@@ -71,7 +72,7 @@ module _ (n : Node) (ordered : nodeInOrder n ≡ true) where
     beat-read : readRun inWords (r .written) words ≡ sent
     beat-read = rw (beat-written, beat-words) (readRun-claimWords sent (drop (length (claimWords sent)) lent))
 
-    beat-room : 4 * r .written ≤ length words
+    beat-room : claimWidth * r .written ≤ length words
     beat-room =
         let m = length-claimWords sent in
         let k = sent-count in

@@ -1,4 +1,4 @@
--- The functions of src/sent.rt, one law for each way that the code goes. In order: a claim of a lent run; four of them; one frame; the frames. Assumes nothing.
+-- The functions of src/sent.rt, one law for each way that the code goes. In order: four claims of a lent run; one frame; the frames. Assumes nothing.
 use Prim.Native.Nat.{ℕ, zero, suc, _+_, _-_, _*_, _≤_, _<_, min}
 use native.Mathlib.Nat.{zero-add}
 use native.Mathlib.Omega.{arith}
@@ -9,14 +9,16 @@ use borrow.Rule.Slice.PartMut.{putMid, post-is}
 use borrow.Author.Tests.{eqb-true}
 use lib.Dec.{eqb}
 use lib.ListN.{length, take, drop, getD, set, length-append, length-drop, length-take, drop-of-length-le}
-use lib.Seq.{drop-drop, getD-drop, take-all}
+use lib.Seq.{drop-drop, take-all}
 use Rattle.keys.specs.Store.{limit}
 use Rattle.keys.proofs.Tests.{and-left, and-right}
 use Rattle.claims.specs.declared.claim.Claim.{Claim}
 use Rattle.claims.specs.Claim.{noClaim}
 use Rattle.claims.specs.Call.{judged}
 use Rattle.claims.specs.Question.{firstNo}
+use Rattle.claims.specs.Words.{claimWidth, fromWords, claimAt}
 use Rattle.claims.proofs.QuestionLaws.{passes, judged-firstNo}
+use Rattle.claims.proofs.WordsLaws.{claimAt-small}
 use Rattle.rule.specs.Node.{blanks}
 use Rattle.rule.specs.Call.{writtenOver}
 use Rattle.rule.specs.Place.{putAt}
@@ -52,46 +54,30 @@ allPass-drop zero cs p = p
 allPass-drop (suc n) [] p = refl
 allPass-drop (suc n) (c ∷ cs) p = allPass-drop n cs (and-right (eqb (judged c) 0) (allPass cs) p)
 
--- ---- a claim of a lent run
+-- ---- four claims of a lent run
 
--- word by word, as the code reads it
-pub inWords-at : (ws : List ℕ) (at : ℕ)
-    → record { lo = getD ws (4 * at) 0; hi = getD ws (4 * at + 1) 0; sum = getD ws (4 * at + 2) 0; cnt = getD ws (4 * at + 3) 0 }
-    ≡ inWords .read (drop (4 * at) ws)
-inWords-at ws at =
-    let e : 4 * at ≡ 4 * at + 0 = omega arith in
-    let first : getD ws (4 * at) 0 ≡ getD (drop (4 * at) ws) 0 0 = ap (λ (k : ℕ). getD ws k 0) e ∙ sym (getD-drop (4 * at) ws 0 0) in
-    λ i. record {
-      lo = first i;
-      hi = sym (getD-drop (4 * at) ws 1 0) i;
-      sum = sym (getD-drop (4 * at) ws 2 0) i;
-      cnt = sym (getD-drop (4 * at) ws 3 0) i;
-    }
-
-pub cnt-at : (ws : List ℕ) (at : ℕ) → getD ws (4 * at + 3) 0 ≡ inWords .read (drop (4 * at) ws) .cnt
-cnt-at ws at = ap (λ (c : Claim). c .cnt) (inWords-at ws at)
-
--- ---- four of them
-
-module _ (ws : List ℕ) (at i : ℕ) where
-  place : drop (4 * i) (drop (4 * at) ws) ≡ drop (4 * (at + i)) ws
-  place = let e : 4 * at + 4 * i ≡ 4 * (at + i) = omega arith in rw (drop-drop, e)
+module _ (ws : List ℕ) (at n : ℕ) (few : n ≤ frameLimit) (room : claimWidth * at + claimWidth * n ≤ length ws)
+    (pass : allPass (readRun inWords n (drop (claimWidth * at) ws)) ≡ true) {i : ℕ} (h : i < n) where
+  place : drop (claimWidth * i) (drop (claimWidth * at) ws) ≡ drop (claimWidth * (at + i)) ws
+  place = let e : claimWidth * at + claimWidth * i ≡ claimWidth * (at + i) = omega arith in rw (drop-drop, e)
 
   -- a claim that passes has a small count
-  pub four-small : (n : ℕ) → allPass (readRun inWords n (drop (4 * at) ws)) ≡ true → i < n → inWords .read (drop (4 * (at + i)) ws) .cnt < 65536
-  four-small n p h =
-      let cs = readRun inWords n (drop (4 * at) ws) in
-      let e : getD cs i noClaim ≡ inWords .read (drop (4 * (at + i)) ws) = getD-readRun inWords n i (drop (4 * at) ws) noClaim h ∙ ap (inWords .read) place in
-      let j = allPass-getD cs i p (rw length-readRun h) in
+  four-small : fromWords (drop (claimWidth * (at + i)) ws) .cnt < 65536
+  four-small =
+      let cs = readRun inWords n (drop (claimWidth * at) ws) in
+      let e : getD cs i noClaim ≡ fromWords (drop (claimWidth * (at + i)) ws) =
+      getD-readRun inWords n i (drop (claimWidth * at) ws) noClaim h ∙ ap fromWords place in
+      let j = allPass-getD cs i pass (rw length-readRun h) in
       let m : getD cs i noClaim .cnt ≤ limit = passes (getD cs i noClaim) (sym (judged-firstNo (getD cs i noClaim)) ∙ j) .at-most in
       let f = ap (λ (c : Claim). c .cnt) e in
       omega arith
 
-  pub four-turn : {out : List Claim} {x : Claim} → i < frameLimit → out ≡ putAt (blanks frameLimit) 0 (readRun inWords i (drop (4 * at) ws))
-      → x ≡ inWords .read (drop (4 * (at + i)) ws) → set out i x ≡ putAt (blanks frameLimit) 0 (readRun inWords (i + 1) (drop (4 * at) ws))
-  four-turn h e f =
-      let g : 4 * (at + i) ≡ 4 * at + 4 * i = omega arith in
-      set-readRun inWords (blanks frameLimit) ws (4 * at) i (rw (length-blanks frameLimit) h) e (f ∙ ap (λ (k : ℕ). inWords .read (drop k ws)) g)
+  pub four-turn : {out : List Claim} {x : Claim} → out ≡ putAt (blanks frameLimit) 0 (readRun inWords i (drop (claimWidth * at) ws))
+      → x ≡ claimAt ws (claimWidth * (at + i)) → set out i x ≡ putAt (blanks frameLimit) 0 (readRun inWords (i + 1) (drop (claimWidth * at) ws))
+  four-turn {out} {x} e f =
+      let g : claimWidth * (at + i) ≡ claimWidth * at + claimWidth * i = omega arith in
+      let read : x ≡ fromWords (drop (claimWidth * (at + i)) ws) = f ∙ claimAt-small ws (claimWidth * (at + i)) (omega arith) four-small in
+      set-readRun inWords (blanks frameLimit) ws (claimWidth * at) i (rw (length-blanks frameLimit) (omega arith)) e (read ∙ ap (λ (k : ℕ). fromWords (drop k ws)) g)
 
 -- ---- one frame, written to the part of the buffer from a place on
 

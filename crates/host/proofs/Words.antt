@@ -1,4 +1,4 @@
--- Claims in a lent run of words, four to a claim: the layout is that of `claimWords`, so what a beat wrote is read again; parts of what is read.
+-- Claims in a lent run of words: the layout is that of `claimWords`, so what a beat wrote is read again; parts of what is read.
 -- Assumes nothing.
 use Prim.Native.Nat.{ℕ, zero, suc, _+_, _*_, _≤_, _<_}
 use native.Mathlib.Nat.{mul-suc, mul-zero}
@@ -8,6 +8,8 @@ use mathlib.Core.Path.{_≡_, refl, ap, _∙_}
 use lib.ListN.{length, take, drop, getD}
 use lib.Seq.{drop-drop}
 use Rattle.claims.specs.declared.claim.Claim.{Claim}
+use Rattle.claims.specs.Words.{wordsOf}
+use Rattle.claims.proofs.WordsLaws.{wordsOf-fromWords}
 use Rattle.rule.specs.Call.{claimWords}
 use Rattle.wire.specs.Run.{Layout, readRun, writeRun, Each}
 use Rattle.wire.proofs.RunLaws.{Faithful, readRun-writeRun}
@@ -18,15 +20,8 @@ use Rattle.host.specs.Frames.{inWords}
 abbrev Any : Claim → Type 0
 Any c = Unit
 
-inWords-again : (ws : List ℕ) → 4 ≤ length ws → inWords .write (inWords .read ws) ≡ take 4 ws
-inWords-again [] h = absurd (omega arith)
-inWords-again (a ∷ []) h = absurd (omega arith)
-inWords-again (a ∷ (b ∷ [])) h = absurd (omega arith)
-inWords-again (a ∷ (b ∷ (c ∷ []))) h = absurd (omega arith)
-inWords-again (a ∷ (b ∷ (c ∷ (d ∷ ws)))) h = refl
-
 inWords-faithful : Faithful inWords Any
-inWords-faithful = record { long = λ c. refl; back = λ c f rest. refl; again = λ ws h p. inWords-again ws p; fits = λ ws h. tt }
+inWords-faithful = record { long = λ c. refl; back = λ c f rest. refl; again = λ ws h p. wordsOf-fromWords ws p; fits = λ ws h. tt }
 
 each-any : (cs : List Claim) → Each Any cs
 each-any [] = tt
@@ -34,7 +29,7 @@ each-any (c ∷ cs) = (tt, each-any cs)
 
 claimWords-writeRun : (cs : List Claim) → claimWords cs ≡ writeRun inWords cs
 claimWords-writeRun [] = refl
-claimWords-writeRun (c ∷ cs) = ap (λ (ws : List ℕ). c .lo ∷ c .hi ∷ c .sum ∷ c .cnt ∷ ws) (claimWords-writeRun cs)
+claimWords-writeRun (c ∷ cs) = ap (λ (ws : List ℕ). wordsOf c ++ ws) (claimWords-writeRun cs)
 
 pub readRun-claimWords : (cs : List Claim) (rest : List ℕ) → readRun inWords (length cs) (claimWords cs ++ rest) ≡ cs
 readRun-claimWords cs rest = rw (claimWords-writeRun cs) (readRun-writeRun inWords-faithful cs (each-any cs) rest)

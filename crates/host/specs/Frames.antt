@@ -2,8 +2,9 @@
 -- many claims are, and the claims in a lent run of words. Assumes nothing.
 use Prim.Native.Nat.{ℕ, zero, suc, _+_, _-_, _*_, _/_}
 use mathlib.Core.List.{List, [], _∷_, _++_}
-use lib.ListN.{length, take, drop, getD}
+use lib.ListN.{length, take, drop}
 use Rattle.claims.specs.declared.claim.Claim.{Claim}
+use Rattle.claims.specs.Words.{claimWidth, wordsOf, fromWords}
 use Rattle.rule.specs.Table.{beatLimit}
 use Rattle.wire.specs.Claim.{claimSize}
 use Rattle.wire.specs.Frame.{frameLimit, headSize, frameBytes}
@@ -38,10 +39,6 @@ framesLength m = headSize * framesFor m + claimSize * m
 abbrev pub framesLimit : ℕ
 framesLimit = framesLength beatLimit
 
--- how a claim lies in a lent run of words: four to a claim
+-- how a claim lies in a lent run of words
 abbrev pub inWords : Layout Claim
-inWords = record {
-  size = 4;
-  read = λ ws. record { lo = getD ws 0 0; hi = getD ws 1 0; sum = getD ws 2 0; cnt = getD ws 3 0 };
-  write = λ c. c .lo ∷ c .hi ∷ c .sum ∷ c .cnt ∷ [];
-}
+inWords = record { size = claimWidth; read = fromWords; write = wordsOf }

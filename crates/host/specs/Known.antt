@@ -12,6 +12,7 @@ use mir.Val.{SFits}
 use Rattle.keys.specs.Store.{limit}
 use Rattle.claims.specs.declared.claim.Claim.{Claim}
 use Rattle.claims.specs.Question.{Question, question, firstNo}
+use Rattle.claims.specs.Words.{claimWidth}
 use Rattle.rule.specs.declared.node.Node.{Node}
 use Rattle.rule.specs.declared.answer.Rest.{Rest}
 use Rattle.rule.specs.Node.{nodeInOrder}
@@ -77,7 +78,7 @@ pub record Turned (n : Node) (cs : List Claim) (keys : List ℕ) (r : Rest) : Ty
 
 -- given: a run of words with `count` claims, which pass 13, and room for their frames
 pub record FramesGiven (words : List ℕ) (count room : ℕ) : Type 0 where
-  pub long : 4 * count ≤ length words
+  pub long : claimWidth * count ≤ length words
   pub pass : allPass (readRun inWords count words) ≡ true
   pub fits : length (framesBytes (readRun inWords count words)) ≤ room
 

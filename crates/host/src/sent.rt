@@ -1,6 +1,7 @@
 // A beat, and the claims that it sends in frames.
 use beats::beat_in;
 use claims::Claim;
+use claims::claim_at;
 use keys::capped;
 use rule::Node;
 use wire::Framed;
@@ -8,8 +9,9 @@ use wire::write_frame;
 use wire::write_image_in;
 ghost use mathlib.Core.Path.{_≡_};
 ghost use mathlib.Core.Bool.{true};
-ghost use Prim.Native.Nat.{_+_, _*_, _≤_, _<_};
+ghost use Prim.Native.Nat.{_+_, _*_, _≤_};
 ghost use lib.ListN.{length, take, drop};
+ghost use Rattle.claims.specs.Words.{claimWidth};
 ghost use Rattle.rule.specs.Place.{putAt};
 ghost use Rattle.nodes.specs.Lent.{nodeWith};
 ghost use Rattle.wire.specs.Frame.{frameLimit, frameLength, frameBytes, countable, allPass, fourOf};
@@ -22,37 +24,15 @@ pub(crate) const FRAMES: usize = Framed::HEAD
     * ((Node::BEAT + (Framed::CLAIMS - 1)) / Framed::CLAIMS)
     + Framed::CLAIM * Node::BEAT;
 
-// The words of a claim in a lent run: lo, hi, sum, cnt.
-const WORDS: usize = 4;
-
-// The claim at a place of a lent run.
-fn claim_at(words: &[u64], at: usize) -> Claim
-    requires { ⌜ (4 * at + 4 ≤ length (now words)) × (inWords .read (drop (4 * at) (now words)) .cnt < 65536) ⌝ }
-    ensures { λ r. ⌜ r ≡ inWords .read (drop (4 * at) (now (words .entry))) ⌝ }
-{
-    let i = WORDS * at;
-    Claim {
-        lo: words[i],
-        hi: words[i + 1],
-        sum: words[i + 2],
-        cnt: words[i + 3] as u16,
-    }
-}
-
 // The n claims from a place of a lent run on, zeros past them.
 fn four_at(words: &[u64], at: usize, n: usize) -> [Claim; Framed::CLAIMS]
-    requires { ⌜ (n ≤ frameLimit) × (4 * at + 4 * n ≤ length (now words)) × (allPass (readRun inWords n (drop (4 * at) (now words))) ≡ true) ⌝ }
-    ensures { λ r. ⌜ r ≡ fourOf (readRun inWords n (drop (4 * at) (now (words .entry)))) ⌝ }
+    requires { ⌜ (n ≤ frameLimit) × (claimWidth * at + claimWidth * n ≤ length (now words)) × (allPass (readRun inWords n (drop (claimWidth * at) (now words))) ≡ true) ⌝ }
+    ensures { λ r. ⌜ r ≡ fourOf (readRun inWords n (drop (claimWidth * at) (now (words .entry)))) ⌝ }
 {
-    let mut claims = [Claim {
-        lo: 0,
-        hi: 0,
-        sum: 0,
-        cnt: 0,
-    }; Framed::CLAIMS];
+    let mut claims = [Claim::NONE; Framed::CLAIMS];
     let mut i: usize = 0;
     while i < n {
-        claims[i] = claim_at(words, at + i);
+        claims[i] = claim_at(words, Claim::WORDS * (at + i));
         i += 1;
     }
     claims
@@ -95,7 +75,7 @@ pub(crate) fn send(
     requires { ⌜ SendGiven (nodeWith (now keys) held table count) (length (now out)) (length (now frames)) ⌝ }
     ensures { λ r. ⌜ Sent (nodeWith (now (keys .entry)) held table count) (now (out .entry)) (now (out .exit)) (now (frames .entry)) (now (frames .exit)) r ⌝ }
 {
-    let mut words = [0; WORDS * Node::BEAT];
+    let mut words = [0; Claim::WORDS * Node::BEAT];
     let kept = beat_in(keys, held, table, count, &mut words);
     let places = kept.table;
     write_image_in(keys, held, places, kept.count, out);

@@ -4,6 +4,7 @@ use native.Mathlib.Omega.{arith}
 use mathlib.Core.Path.{_≡_, sym, _∙_}
 use borrow.Author.Needs.{needs}
 use lib.ListN.{drop}
+use Rattle.claims.specs.Words.{claimWidth}
 use Rattle.rule.specs.Node.{blanks}
 use Rattle.rule.specs.Place.{putAt}
 use Rattle.rule.proofs.PlaceLaws.{putAt-nil}
@@ -11,12 +12,12 @@ use Rattle.wire.specs.Frame.{frameLimit}
 use Rattle.wire.specs.Run.{readRun}
 use Rattle.wire.proofs.FrameLaws.{blanks-four, putAt-four}
 use Rattle.host.specs.Frames.{inWords}
-use Rattle.host.proofs.Sends.{four-small, four-turn}
+use Rattle.host.proofs.Sends.{four-turn}
 use Rattle.host.proofs.sent.four_at.Statement.{statement}
 use Rattle.host.proofs.sent.four_at.Tie as tie
 
 abbrev Inv-loop : tie.InvT-loop
-Inv-loop words at n claims₀ i₀ claims i = (i ≤ n) × (claims ≡ putAt (blanks frameLimit) 0 (readRun inWords i (drop (4 * at) words)))
+Inv-loop words at n claims₀ i₀ claims i = (i ≤ n) × (claims ≡ putAt (blanks frameLimit) 0 (readRun inWords i (drop (claimWidth * at) words)))
 
 abbrev μ-loop : tie.MeasureT-loop
 μ-loop words at n claims₀ i₀ claims i = n - i
@@ -27,8 +28,11 @@ loop-holds c = (search needs, blanks-four ∙ sym (putAt-nil (blanks frameLimit)
 add-claim-at : tie.Need-add-claim-at Inv-loop μ-loop
 add-claim-at c = search needs
 
+mul-claim-at : tie.Need-mul-claim-at Inv-loop μ-loop
+mul-claim-at c = search needs
+
 claim-at-requires : tie.Need-claim-at-requires Inv-loop μ-loop
-claim-at-requires c κs = search (needs, four-small)
+claim-at-requires c κs = search needs
 
 mul-claims : tie.Need-mul-claims Inv-loop μ-loop
 mul-claims c = search needs
@@ -44,14 +48,14 @@ loop-less c = search needs
 
 loop-again : tie.Need-loop-again Inv-loop μ-loop
 loop-again c =
-    (search needs, four-turn _ _ _ (omega arith) (c .before .before .loop .inv .1) (c .claim-at .ensures))
+    search (needs, four-turn)
 
 returns : tie.Need-returns Inv-loop μ-loop
 returns c =
     let l = c .before in
     let a = l .before .before .args in
     let e : l .loop .i ≡ a .n = omega arith in
-    rw (← e) (l .loop .inv .1 ∙ putAt-four (readRun inWords (l .loop .i) (drop (4 * a .at) (a .words .now))))
+    rw (← e) (l .loop .inv .1 ∙ putAt-four (readRun inWords (l .loop .i) (drop (claimWidth * a .at) (a .words .now))))
 
 pub four-at-spec : {M : Type 1} → statement M
 four-at-spec =
@@ -61,6 +65,7 @@ four-at-spec =
     μ-loop
     loop-holds
     add-claim-at
+    mul-claim-at
     claim-at-requires
     mul-claims
     array-set-from-claims

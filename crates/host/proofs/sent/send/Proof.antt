@@ -6,6 +6,7 @@ use mathlib.Core.List.{List}
 use mathlib.Core.Path.{_≡_, ap, sym, _∙_}
 use borrow.Author.Needs.{needs}
 use lib.ListN.{length, replicate, length-replicate}
+use Rattle.claims.specs.Words.{claimWidth}
 use Rattle.rule.specs.Table.{beatLimit}
 use Rattle.rule.specs.Node.{nodeInOrder}
 use Rattle.rule.specs.Call.{writtenOver}
@@ -33,13 +34,13 @@ left b = let a = given b .args in nodeWith (a .keys .now) (a .held) (b .beat-in 
 
 -- the words before the beat
 abbrev blank : List ℕ
-blank = replicate (4 * beatLimit) 0
+blank = replicate (claimWidth * beatLimit) 0
 
 ran : (b : tie.After-beat-in) → let a = given b .args in
     Ran (node b) (beatenWith (a .keys .now) (a .held) (b .beat-in .result)) (b .beat-in .last .1 .1 .1 .1 .0)
 ran b =
     let s = given b in
-    beat-ran (node b) (s .pre .ordered) (s .pre .long) blank (length-replicate {A = ℕ} (4 * beatLimit) 0) (b .beat-in .ensures .result) (b .beat-in .ensures .words)
+    beat-ran (node b) (s .pre .ordered) (s .pre .long) blank (length-replicate {A = ℕ} (claimWidth * beatLimit) 0) (b .beat-in .ensures .result) (b .beat-in .ensures .words)
 
 -- where the image was written, and the beat before it
 abbrev image : tie.After-write-frames-arg → tie.After-write-image-in

@@ -6,6 +6,7 @@ use mathlib.Core.Path.{_≡_, sym, _∙_}
 use borrow.Author.Needs.{needs}
 use lib.ListN.{length, take, drop}
 use Rattle.claims.specs.declared.claim.Claim.{Claim}
+use Rattle.claims.specs.Words.{claimWidth}
 use Rattle.wire.specs.Run.{readRun}
 use Rattle.wire.proofs.FrameLaws.{take-fourOf}
 use Rattle.wire.proofs.RunLaws.{length-readRun}
@@ -46,7 +47,7 @@ turn k =
 
 -- its claims, as they are read
 piece : (k : tie.After-capped Inv-loop μ-loop) → let l = k .before .before in
-    take (k .capped .result) (drop (l .loop .i) (sent l)) ≡ readRun inWords (k .capped .result) (drop (4 * l .loop .i) (given l .args .words .now))
+    take (k .capped .result) (drop (l .loop .i) (sent l)) ≡ readRun inWords (k .capped .result) (drop (claimWidth * l .loop .i) (given l .args .words .now))
 piece k =
     let l = k .before .before in
     readRun-part inWords (given l .args .count) (l .loop .i) (k .capped .result) (given l .args .words .now) (omega (arith, turn-inside (turn k), many l))
@@ -56,7 +57,7 @@ group : (c : tie.After-four-at Inv-loop μ-loop) → let n = c .before .capped .
 group c =
     let n = c .before .capped .result in
     let l = c .before .before .before in
-    let ws = drop (4 * l .loop .i) (given l .args .words .now) in
+    let ws = drop (claimWidth * l .loop .i) (given l .args .words .now) in
     rw (c .four-at .ensures) (take-fourOf (readRun inWords n ws) n (length-readRun inWords n ws) ∙ sym (piece (c .before)))
 
 -- the turn that ends
