@@ -5,11 +5,12 @@ use Prim.Native.Nat.{ℕ, zero, suc}
 use mathlib.Core.Bool.{cond}
 use mathlib.Core.List.{List, [], _∷_, _++_, map}
 use lib.Dec.{eqb}
-use lib.ListN.{length, take, drop, getD}
+use lib.ListN.{length, take, drop}
 use Rattle.keys.specs.declared.store.Store.{Store}
 use Rattle.claims.specs.declared.claim.Claim.{Claim}
 use Rattle.claims.specs.Reply.{numberOf, claimsOf}
 use Rattle.claims.specs.Call.{entered, made, replied}
+use Rattle.claims.specs.Words.{claimWidth, fromWords}
 use Rattle.rule.specs.declared.node.Node.{Node}
 use Rattle.rule.specs.declared.delivery.Delivery.{Delivery}
 use Rattle.rule.specs.Node.{emptyNode}
@@ -39,10 +40,10 @@ pub record Outcome : Type 0 where
   pub kiosks : ℕ → Node
   pub claims : List Claim
 
--- the first n claims in a lent run of words, four to a claim
+-- the first n claims in a lent run of words
 abbrev pub readClaims : ℕ → List ℕ → List Claim
 readClaims zero words = []
-readClaims (suc n) words = record { lo = getD words 0 0; hi = getD words 1 0; sum = getD words 2 0; cnt = getD words 3 0 } ∷ readClaims n (drop 4 words)
+readClaims (suc n) words = fromWords words ∷ readClaims n (drop claimWidth words)
 
 -- the claims in the first n of the lent records
 abbrev pub readRecords : ℕ → List Delivery → List Claim
