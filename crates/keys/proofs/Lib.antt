@@ -4,7 +4,7 @@
 --   Insert        entering keys
 --   Position      the position of a key
 --   Order         a store in order
--- The laws of the code. Not cited from outside, but for LentLaws.
+-- The laws of the code. Not cited from outside, but for Putting and LentLaws.
 --   Loops, Halving, Quartering, Putting     one loop each
 --   Lending, Adding     each way that the code of src/lent.rt goes
 --   Finding       what quartering finds among rising keys
@@ -17,7 +17,7 @@ pub mod Order
 mod Loops
 mod Halving
 mod Quartering
-mod Putting
+pub mod Putting
 mod Lending
 mod Adding
 mod Finding

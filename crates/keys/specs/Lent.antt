@@ -48,9 +48,9 @@ placeIn keys count key =
     (placeAt (quartered count keys key 0 count) (getD keys (quartered count keys key 0 count) 0) key)
     (record { at = 0; held = false })
 
--- the run with `key` put in at a place, and the keys from there to the count moved up by one
-unfoldable pub insertedAt : ℕ → ℕ → ℕ → List ℕ → List ℕ
-insertedAt at count key keys = take at keys ++ (key ∷ (take (count - at) (drop at keys) ++ drop (count + 1) keys))
+-- the run with x put in at a place, and what stands from there to the count moved up by one: keys here, claims in `nodes`
+unfoldable pub insertedAt : {A : Type 0} → ℕ → ℕ → A → List A → List A
+insertedAt at count x run = take at run ++ (x ∷ (take (count - at) (drop at run) ++ drop (count + 1) run))
 
 -- how many keys are missing at a place: one where it is not held
 abbrev pub lacking : Place → ℕ

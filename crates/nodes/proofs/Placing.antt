@@ -1,18 +1,17 @@
 -- A claim's place in a table, and putting it in there (specs/Lent; the loops of src/take.rt). In order: halving, a turn of its loop; how many claims
--- of a table come before one, which is what halving finds where the table rises; what stands at a place; putting a claim in, the loop that moves
--- the claims above it up by one, whose invariant is that whatever is set at place i, the run is then that with it put in at i. Then: on a rising
--- table this is `tableWith`. Assumes nothing.
+-- of a table come before one, which is what halving finds where the table rises; what stands at a place; what is found and put in is `tableWith` on a
+-- rising table; a claim put in. The loop that moves claims up is that of keys (`keys`, proofs/Putting). Assumes nothing.
 use mathlib.Core.Path.{_≡_, refl, sym, _∙_, ap}
 use mathlib.Core.Bool.{Bool, true, false, cond, not, _&&_, false≢true}
 use mathlib.Core.Logic.{⊎-elim}
 use mathlib.Core.List.{List, [], _∷_, _++_, append-assoc}
 use Prim.Native.Nat.{ℕ, zero, suc, _+_, _-_, _/_, _≤_, _<_}
-use native.Mathlib.Numerals.{add-one}
 use native.Mathlib.Omega.{arith}
 use borrow.Author.Tests.{lt-ltb, le-ltb, ltb-true, eqb-true, eqb-false, eq-eqb, ne-eqb}
 use lib.Dec.{ltb, eqb}
-use lib.ListN.{length, take, drop, getD, set, length-append, length-take, length-drop, List·getD-append}
-use lib.Seq.{set-split, set-at, getD-set-other, getD-take, take-suc, drop-cons, length-take-le, take-take, take-all, take-nil}
+use lib.ListN.{length, take, drop, getD, length-append, length-take, length-drop}
+use lib.Seq.{getD-take, length-take-le, take-take, take-all, take-nil}
+use Rattle.keys.specs.Lent.{insertedAt}
 use Rattle.keys.proofs.Tests.{and-left, and-right, lt-or-le}
 use Rattle.claims.specs.declared.claim.Claim.{Claim}
 use Rattle.claims.specs.Claim.{noClaim}
@@ -211,57 +210,11 @@ drop-take (suc p) zero l = let e : 0 - suc p ≡ 0 = omega arith in rw e
 drop-take (suc p) (suc n) [] = sym (take-nil (suc n - suc p))
 drop-take (suc p) (suc n) (x ∷ xs) = let e : suc n - suc p ≡ n - p = omega arith in rw e (drop-take p n xs)
 
--- the run with x put in at i, and the elements from there to the count moved up by one
-unfoldable pub shifted : {A : Type 0} → ℕ → ℕ → A → List A → List A
-shifted i count x old = take i old ++ (x ∷ (take (count - i) (drop i old) ++ drop (count + 1) old))
-
--- the run after moving up the elements from i on: whatever is set at i, it is then that put in at i
-abbrev pub Moved : {A : Type 0} → List A → List A → ℕ → ℕ → Type 0
-Moved {A} old run count i = (x : A) → set run i x ≡ shifted i count x old
-
-pub moved-none : {A : Type 0} (old : List A) (count : ℕ) → count < length old → Moved old old count count
-unfolding shifted
-moved-none old count h x =
-    let none : count - count ≡ 0 = omega arith in
-    rw (none, add-one) (set-split old count x h)
-
-module _ {A : Type 0} (d : A) (old run : List A) (count j : ℕ) (below : suc j ≤ count) (fits : count < length old) (so-far : Moved old run count (suc j)) where
-  -- the element below the place is still the old one
-  moved-below : getD run j d ≡ getD old j d
-  unfolding shifted
-  moved-below =
-      sym (getD-set-other run (suc j) j d d (λ (e : j ≡ suc j). omega arith))
-      ∙ (ap (λ (l : List A). getD l j d) (so-far d)
-      ∙ (List·getD-append (take (suc j) old) (d ∷ (take (count - suc j) (drop (suc j) old) ++ drop (count + 1) old)) d j (let e : length (take (suc j) old) ≡ suc j = length-take-le (suc j) old (omega arith) in omega arith)
-      ∙ getD-take (suc j) old j d (omega arith)))
-
-  moved-suc : Moved old (set run (suc j) (getD run j d)) count j
-  unfolding shifted
-  moved-suc x =
-      let v = getD old j d in
-      let rest = take (count - suc j) (drop (suc j) old) ++ drop (count + 1) old in
-      let part : take (suc j) old ++ (v ∷ rest) ≡ take j old ++ (v ∷ (v ∷ rest)) =
-      ap (λ (l : List A). l ++ (v ∷ rest)) (take-suc old j d (omega arith)) ∙ append-assoc (take j old) (v ∷ []) (v ∷ rest) in
-      let moved : take (count - j) (drop j old) ≡ v ∷ take (count - suc j) (drop (suc j) old) =
-      ap (λ (l : List A). take (count - j) l) (drop-cons old j d (omega arith))
-      ∙ ap (λ (n : ℕ). take n (v ∷ drop (suc j) old)) (let e : count - j ≡ suc (count - suc j) = omega arith in e) in
-      ap (λ (y : A). set (set run (suc j) y) j x) moved-below
-      ∙ (ap (λ (l : List A). set l j x) (so-far v)
-      ∙ (ap (λ (l : List A). set l j x) part
-      ∙ (set-at (take j old) v (v ∷ rest) x j (length-take-le j old (omega arith))
-      ∙ ap (λ (l : List A). take j old ++ (x ∷ (l ++ drop (count + 1) old))) (sym moved))))
-
--- a turn of the loop
-pub moved-down : {A : Type 0} (d : A) (old run : List A) (count i : ℕ) → 0 < i → i ≤ count → count < length old → Moved old run count i
-    → Moved old (set run i (getD run (i - 1) d)) count (i - 1)
-moved-down d old run count zero h g f m x = absurd (omega arith)
-moved-down d old run count (suc j) h g f m x = let e : suc j - 1 ≡ j = omega arith in rw e (moved-suc d old run count j g f m x)
-
 -- what was moved and set is the run with the claim placed among the first `count`, and what stood past them
-pub shifted-placedAt : (table : List Claim) (count at : ℕ) (c : Claim) → at ≤ count → count < length table
-    → shifted at count c table ≡ writtenOver (placedAt at c (take count table)) table
-unfolding shifted
-shifted-placedAt table count at c h g =
+pub insertedAt-placedAt : (table : List Claim) (count at : ℕ) (c : Claim) → at ≤ count → count < length table
+    → insertedAt at count c table ≡ writtenOver (placedAt at c (take count table)) table
+unfolding insertedAt
+insertedAt-placedAt table count at c h g =
     let long : length (placedAt at c (take count table)) ≡ count + 1 = simp (length-append, length-take, length-drop) (omega arith) in
     rw (long, take-take at count table h, drop-take at count table)
     (sym (append-assoc (take at table) (c ∷ take (count - at) (drop at table)) (drop (count + 1) table)))

@@ -4,7 +4,7 @@ use Prim.Native.Nat.{_≤_}
 use native.Mathlib.Omega.{arith}
 use borrow.Author.Needs.{needs}
 use denote.Ref.{now}
-use Rattle.keys.proofs.Putting.{Moved, insertedAt-count, moved-down}
+use Rattle.keys.proofs.Putting.{Moved, moved-none, moved-down}
 use Rattle.keys.proofs.leaf.put.Statement.{statement}
 use Rattle.keys.proofs.leaf.put.Tie as tie
 use Rattle.keys.proofs.leaf.put.Reads as reads
@@ -17,7 +17,7 @@ abbrev μ-loop : tie.MeasureT-loop
 μ-loop keys₀ at count key i₀ keys i = i
 
 loop-holds : tie.Need-loop-holds Inv-loop μ-loop
-loop-holds c = (omega arith, omega arith, λ x. insertedAt-count (now (c .args .keys)) (c .args .count) x (omega arith))
+loop-holds c = (omega arith, omega arith, moved-none (now (c .args .keys)) (c .args .count) (omega arith))
 
 sub-keys : tie.Need-sub-keys Inv-loop μ-loop
 sub-keys c = search needs
@@ -43,8 +43,9 @@ loop-less c = search needs
 loop-again : tie.Need-loop-again Inv-loop μ-loop
 loop-again c =
     let s = c .before .before in
-    let old = now (s .before .args .keys) in
-    (omega arith, omega arith, moved-down old (s .loop .keys) (s .before .args .count) (s .loop .i) (omega arith) (omega arith) (omega arith) (s .loop .inv .2))
+    let a = s .before .args in
+    let on = moved-down 0 (now (a .keys)) (s .loop .keys) (a .count) (s .loop .i) (omega arith) (omega arith) (omega arith) (s .loop .inv .2) in
+    (omega arith, omega arith, on)
 
 mul-keys-3 : tie.Need-mul-keys-3 Inv-loop μ-loop
 mul-keys-3 c = search needs

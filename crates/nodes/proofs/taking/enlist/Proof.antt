@@ -1,6 +1,5 @@
 -- `nodes::taking::enlist` meets its contract. Assumes nothing.
 use borrow.Author.Needs.{needs}
-use Rattle.rule.proofs.NodeLaws.{length-mapped}
 use Rattle.nodes.proofs.TakeLaws.{enlisted-found}
 use Rattle.nodes.proofs.taking.enlist.Statement.{statement}
 use Rattle.nodes.proofs.taking.enlist.Tie as tie
@@ -15,7 +14,7 @@ enlist-at-requires : tie.Need-enlist-at-requires
 enlist-at-requires c κs = search needs
 
 returns : tie.Need-returns
-returns c = search (needs, enlisted-found, length-mapped)
+returns c = search (needs, enlisted-found)
 
 pub enlist-spec : {M : Type 1} → statement M
 enlist-spec = tie.close (tie.spec capped-requires find-requires enlist-at-requires returns)

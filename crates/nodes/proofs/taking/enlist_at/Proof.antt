@@ -1,6 +1,5 @@
 -- `nodes::taking::enlist_at` meets its contract. Assumes nothing.
 use borrow.Author.Needs.{needs}
-use Rattle.rule.proofs.NodeLaws.{length-mapped}
 use Rattle.nodes.proofs.TakeLaws.{enlisted-held, enlisted-last, enlisted-put}
 use Rattle.nodes.proofs.taking.enlist_at.Statement.{statement}
 use Rattle.nodes.proofs.taking.enlist_at.Tie as tie
@@ -9,10 +8,10 @@ stands-requires : tie.Need-stands-requires
 stands-requires c κs = search needs
 
 returns : tie.Need-returns
-returns c = search (needs, enlisted-held, length-mapped)
+returns c = search (needs, enlisted-held)
 
 returns-2 : tie.Need-returns-2
-returns-2 c = search (needs, enlisted-last, length-mapped)
+returns-2 c = search (needs, enlisted-last)
 
 sub-capped : tie.Need-sub-capped
 sub-capped c = search needs
@@ -27,7 +26,7 @@ add-t9 : tie.Need-add-t9
 add-t9 c = search needs
 
 returns-3 : tie.Need-returns-3
-returns-3 c = search (needs, enlisted-put, length-mapped)
+returns-3 c = search (needs, enlisted-put)
 
 pub enlist-at-spec : {M : Type 1} → statement M
 enlist-at-spec =

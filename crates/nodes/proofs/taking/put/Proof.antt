@@ -3,8 +3,9 @@ use mathlib.Core.Path.{_≡_, _∙_}
 use Prim.Native.Nat.{_≤_}
 use native.Mathlib.Omega.{arith}
 use borrow.Author.Needs.{needs}
+use Rattle.keys.proofs.Putting.{Moved, moved-none, moved-down}
 use Rattle.claims.specs.Claim.{noClaim}
-use Rattle.nodes.proofs.Placing.{Moved, moved-none, moved-down, shifted-placedAt}
+use Rattle.nodes.proofs.Placing.{insertedAt-placedAt}
 use Rattle.nodes.proofs.taking.put.Statement.{statement}
 use Rattle.nodes.proofs.taking.put.Tie as tie
 
@@ -41,7 +42,9 @@ loop-less c = search needs
 loop-again : tie.Need-loop-again Inv-loop μ-loop
 loop-again c =
     let s = c .before .before in
-    (omega arith, omega arith, moved-down noClaim (s .before .args .table) (s .loop .moved) (s .before .args .count) (s .loop .i) (omega arith) (omega arith) (search needs) (s .loop .inv .2))
+    let a = s .before .args in
+    let on = moved-down noClaim (a .table) (s .loop .moved) (a .count) (s .loop .i) (omega arith) (omega arith) (search needs) (s .loop .inv .2) in
+    (omega arith, omega arith, on)
 
 mul-moved-3 : tie.Need-mul-moved-3 Inv-loop μ-loop
 mul-moved-3 c = search needs
@@ -52,8 +55,9 @@ array-set-from-moved-2 c = search needs
 returns : tie.Need-returns Inv-loop μ-loop
 returns c =
     let s = c .before in
-    let e : s .before .args .at ≡ s .loop .i = omega arith in
-    (rw e (s .loop .inv .2 (s .before .args .claim))) ∙ shifted-placedAt (s .before .args .table) (s .before .args .count) (s .before .args .at) (s .before .args .claim) (s .before .pre .0) (search needs)
+    let a = s .before .args in
+    let e : a .at ≡ s .loop .i = omega arith in
+    rw e (s .loop .inv .2 (a .claim)) ∙ insertedAt-placedAt (a .table) (a .count) (a .at) (a .claim) (s .before .pre .0) (search needs)
 
 pub put-spec : {M : Type 1} → statement M
 put-spec =
