@@ -126,9 +126,6 @@ length-rising-range lo hi (x ∷ xs) r f =
     go (inl h) rest b g = let p : lo ≤ x = b .0 in omega arith
     go (inr h) rest b g = let p : length xs ≤ 0 = none xs g h in omega arith
 
-pub length-between-range : (lo hi : ℕ) (l : List ℕ) → Rising l → length (between lo hi l) ≤ hi - lo + 1
-length-between-range lo hi l r = length-rising-range lo hi (between lo hi l) (between-rising lo hi l r) (λ k m. let t = between-mem lo hi l k m in (t .1, t .2))
-
 -- ---- all keys, or none; a range within a range
 
 pub between-all : (lo hi : ℕ) (l : List ℕ) → ((k : ℕ) → List·Memᴰ k l → (lo ≤ k) × (k ≤ hi)) → between lo hi l ≡ l

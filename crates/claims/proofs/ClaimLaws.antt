@@ -3,7 +3,7 @@
 -- whole claim; the claim of the keys from lo to hi (`rangeClaim`).
 -- Not here: what the questions say of a claim (QuestionLaws). Assumes nothing.
 use Prim.Native.Nat.{ℕ, _+_, _-_, _≤_, _<_}
-use mathlib.Core.Bool.{true, false, _&&_, false≢true}
+use mathlib.Core.Bool.{true, _&&_}
 use mathlib.Core.List.{List, [], _∷_, List·Memᴰ}
 use mathlib.Core.Path.{_≡_, refl, sym, ap, _∙_}
 use native.Mathlib.Nat.{not-suc-le-zero}
@@ -56,9 +56,6 @@ claim-same c d e =
     (eq-eqb (c .sum) (d .sum) (ap (λ (x : Claim). x .sum) e)))
     (eq-eqb (c .cnt) (d .cnt) (ap (λ (x : Claim). x .cnt) e))
 
-pub same-different : (c d : Claim) → same c d ≡ false → c ≡ d → ⊥
-same-different c d h e = false≢true (sym h ∙ claim-same c d e)
-
 -- ---- the claim of a list of keys
 
 -- its first key, its last, its sum, and how many they are
@@ -70,13 +67,6 @@ claimOf-span i j l h g = claim-ext (claimOf i j l) (spanClaim (span i j l)) (sym
 
 pub claimOf-between : (i j : ℕ) (l : List ℕ) → Rising l → i ≤ j → j < length l → claimOf i j l ≡ spanClaim (between (getD l i 0) (getD l j 0) l)
 claimOf-between i j l r h g = claimOf-span i j l h g ∙ ap spanClaim (span-between i j l r h g)
-
--- the fields, each by itself
-pub claimOf-sum : (i j : ℕ) (l : List ℕ) → Rising l → i ≤ j → j < length l → claimOf i j l .sum ≡ xorAll (between (getD l i 0) (getD l j 0) l)
-claimOf-sum i j l r h g = ap xorAll (span-between i j l r h g)
-
-pub claimOf-cnt : (i j : ℕ) (l : List ℕ) → Rising l → i ≤ j → j < length l → claimOf i j l .cnt ≡ length (between (getD l i 0) (getD l j 0) l)
-claimOf-cnt i j l r h g = sym (length-span i j l h g) ∙ ap length (span-between i j l r h g)
 
 -- ---- it passes questions 2 to 5
 
@@ -100,9 +90,6 @@ spanClaim-passes (x ∷ xs) r h g = record {
     more [] p = absurd (omega arith)
     more (k ∷ ks) p = omega arith
 
-pub spanClaim-firstNo : (l : List ℕ) → Rising l → 0 < length l → length l ≤ limit → firstNo (claimQuestions (spanClaim l)) ≡ 0
-spanClaim-firstNo l r h g = passes-firstNo (spanClaim l) (spanClaim-passes l r h g)
-
 pub claimOf-passes : (i j : ℕ) (l : List ℕ) → Rising l → length l ≤ limit → i ≤ j → j < length l → Passes (claimOf i j l)
 claimOf-passes i j l r f h g =
     let n : length (span i j l) ≡ j - i + 1 = length-span i j l h g in
@@ -115,9 +102,6 @@ claimOf-firstNo i j l r f h g = passes-firstNo (claimOf i j l) (claimOf-passes i
 
 pub span-whole : (k : ℕ) (ks : List ℕ) → span 0 (length ks) (k ∷ ks) ≡ k ∷ ks
 span-whole k ks = take-all (length ks - 0 + 1) (k ∷ ks) (omega arith)
-
-pub wholeClaim-nil : wholeClaim [] ≡ []
-wholeClaim-nil = refl
 
 pub wholeClaim-span : (l : List ℕ) → 0 < length l → wholeClaim l ≡ spanClaim l ∷ []
 wholeClaim-span [] h = absurd (not-suc-le-zero h)

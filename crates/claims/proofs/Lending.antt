@@ -1,6 +1,6 @@
 -- The calls on a lent run (src/lent.rt): one law for each way that the code goes, over the definitions of specs/Lent. What these mean where the run is
 -- a store in order is in LentLaws. Assumes nothing.
-use mathlib.Core.Path.{_≡_, refl, sym, _∙_, ap, ap₂}
+use mathlib.Core.Path.{_≡_, sym, _∙_, ap, ap₂}
 use mathlib.Core.Bool.{Bool, true, false, not, _&&_}
 use mathlib.Core.List.{List}
 use Prim.Native.Nat.{ℕ, _≤_, _<_}

@@ -74,6 +74,7 @@ hear-held c l r s = insertAll-held (adding c l) l r s
 pub length-hear-ge : (c : Claim) (l : List ℕ) → length l ≤ length (hear c l)
 length-hear-ge c l = length-insertAll-ge (adding c l) l
 
+-- a store that has as many keys once it heard is what it was (for counting what a reply adds)
 pub hear-same : (c : Claim) (l : List ℕ) → Rising l → length (hear c l) ≤ length l → hear c l ≡ l
 hear-same c l r h = insertAll-same (adding c l) l r h
 
@@ -330,7 +331,7 @@ same-match held c l e =
     go true false h = absurd (false≢true h)
     go false u h = refl
 
--- a false match is a match, and the keys differ
+-- What the definition means, cited nowhere: a false match is a match, and the keys differ.
 pub falseMatch-differs : (held : List ℕ) (c : Claim) (l : List ℕ) → falseMatch held c l ≡ true
     → (reply c l ≡ Match) × (held ≡ between (c .lo) (c .hi) (hear c l) → ⊥)
 falseMatch-differs held c l h = (

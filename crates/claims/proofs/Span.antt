@@ -2,17 +2,17 @@
 -- from the first of a part to its last are that part; length, keys and cuts of a span; the bridge, `span-between`: positions i to j of rising keys are the keys from
 -- key i to key j. Above this file nothing needs positions. Assumes nothing.
 use Prim.Native.Nat.{ℕ, zero, suc, _+_, _-_, _≤_, _<_}
-use mathlib.Core.List.{List, [], _∷_, _++_, List·Memᴰ, List·Memᴰ·head, List·Memᴰ·tail, List·Memᴰ·not-nil, List·Memᴰ·cases-cons, Memᴰ·append-left, append-nil}
+use mathlib.Core.List.{List, [], _∷_, _++_, List·Memᴰ, List·Memᴰ·head, List·Memᴰ·tail, List·Memᴰ·not-nil, List·Memᴰ·cases-cons}
 use mathlib.Core.Logic.{⊎-elim}
 use mathlib.Core.Path.{_≡_, refl, sym, ap, _∙_}
 use native.Mathlib.Nat.{le-of-suc-le-suc, not-suc-le-zero}
 use native.Mathlib.Omega.{arith}
 use lib.ListN.{length, take, drop, getD, length-drop}
 use lib.Seq.{length-take-le, getD-take, getD-drop, take-add, drop-drop}
-use Rattle.keys.proofs.Rising.{Rising, above-mem, rising-head, rising-append-left, rising-append-right, rising-append-lt, rising-take, rising-drop, rising-ext}
+use Rattle.keys.proofs.Rising.{Rising, above-mem, rising-head, rising-take, rising-drop, rising-ext}
 use Rattle.keys.proofs.Rising.{mem-getD, mem-length, mem-index, rising-getD, rising-getD-le, getD-rising-lt}
 use Rattle.claims.specs.Claim.{span, between}
-use Rattle.claims.proofs.Between.{between-within, between-below, between-all, between-none, between-append, between-mem, mem-between}
+use Rattle.claims.proofs.Between.{between-within, between-below, between-all, between-none, between-mem, mem-between}
 use Rattle.claims.proofs.Between.{between-rising, between-widen, inside, inside-mem}
 
 -- ---- the first and the last key
@@ -53,10 +53,6 @@ last-append (x ∷ []) [] h = absurd (not-suc-le-zero h)
 last-append (x ∷ []) (y ∷ ys) h = refl
 last-append (x ∷ (z ∷ zs)) b h = last-append (z ∷ zs) b h
 
-pub first-append : (a b : List ℕ) → 0 < length a → first (a ++ b) ≡ first a
-first-append [] b h = absurd (not-suc-le-zero h)
-first-append (x ∷ xs) b h = refl
-
 pub first-le : (l : List ℕ) → Rising l → (k : ℕ) → List·Memᴰ k l → first l ≤ k
 first-le [] r k m = absurd (List·Memᴰ·not-nil m)
 first-le (x ∷ xs) r k m = rising-head x xs r k m
@@ -95,22 +91,6 @@ two-keys (x ∷ (y ∷ (z ∷ zs))) e = absurd (omega arith)
 
 pub between-first-last : (l : List ℕ) → Rising l → between (first l) (last l) l ≡ l
 between-first-last l r = between-all (first l) (last l) l (λ k m. (first-le l r k m, le-last l r k m))
-
-pub between-part : (a m b : List ℕ) → Rising (a ++ (m ++ b)) → 0 < length m → between (first m) (last m) (a ++ (m ++ b)) ≡ m
-between-part a m b r h =
-    let q : Rising (m ++ b) = rising-append-right a (m ++ b) r in
-    let rm : Rising m = rising-append-left m b q in
-    let before : between (first m) (last m) a ≡ []
-    = between-none (first m) (last m) a
-    (λ k n g i. let p : k < first m = rising-append-lt a (m ++ b) r k (first m) n (Memᴰ·append-left b (mem-first m h)) in omega arith) in
-    let after : between (first m) (last m) b ≡ []
-    = between-none (first m) (last m) b (λ k n g i. let p : last m < k = rising-append-lt m b q (last m) k (mem-last m h) n in omega arith) in
-    between-append (first m) (last m) a (m ++ b)
-    ∙ ap (λ (t : List ℕ). t ++ between (first m) (last m) (m ++ b)) before
-    ∙ between-append (first m) (last m) m b
-    ∙ ap (λ (t : List ℕ). between (first m) (last m) m ++ t) after
-    ∙ append-nil (between (first m) (last m) m)
-    ∙ between-first-last m rm
 
 pub first-between : (lo hi : ℕ) (l : List ℕ) → Rising l → lo ≤ hi → List·Memᴰ lo l → first (between lo hi l) ≡ lo
 first-between lo hi l r h m =

@@ -97,10 +97,3 @@ inOrder-storeOf l r h =
 pub emptyStore-storeOf : emptyStore ≡ storeOf []
 unfolding emptyStore storeOf
 emptyStore-storeOf = refl
-
-pub keysOf-emptyStore : keysOf emptyStore ≡ []
-unfolding emptyStore
-keysOf-emptyStore = refl
-
-pub inOrder-emptyStore : inOrder emptyStore ≡ true
-inOrder-emptyStore = rw emptyStore-storeOf (inOrder-storeOf [] tt (omega arith))

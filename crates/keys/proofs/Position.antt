@@ -75,9 +75,6 @@ position-drop k (j ∷ js) r x m = go (lt-or-le j k) (position-drop k js (r .1) 
 pub getD-lt-position : (k : ℕ) (l : List ℕ) → Rising l → (i : ℕ) → i < length l → getD l i 0 < k → i < position k l
 getD-lt-position k l r i h g = le-unless (suc i) (position k l) (λ p. let q : k ≤ getD l i 0 = position-from k l r i (le-of-suc-le-suc p) h in omega arith)
 
-pub position-le-getD : (k : ℕ) (l : List ℕ) (i : ℕ) → k ≤ getD l i 0 → position k l ≤ i
-position-le-getD k l i g = le-unless (position k l) i (λ p. let q : getD l i 0 < k = position-before k l i p in omega arith)
-
 pub position-is : (k : ℕ) (l : List ℕ) (i : ℕ) → i ≤ length l → ((j : ℕ) → j < i → getD l j 0 < k) → (i ≡ length l) ⊎ (k ≤ getD l i 0) → position k l ≡ i
 position-is k [] zero h f e = refl
 position-is k [] (suc i) h f e = absurd (not-suc-le-zero h)
@@ -89,7 +86,7 @@ position-is k (j ∷ js) (suc i) h f e = position-after k j js (f 0 (omega arith
     rest (inl p) = inl (omega arith)
     rest (inr p) = inr p
 
--- the same for a rising list, of which only the key before needs looking at
+-- the same for a rising list, of which only the key before needs looking at (for callers that begin from a place found earlier)
 pub position-is-rising : (k : ℕ) (l : List ℕ) → Rising l → (i : ℕ) → i < length l → getD l i 0 < k → (suc i ≡ length l) ⊎ (k ≤ getD l (suc i) 0)
     → position k l ≡ suc i
 position-is-rising k l r i h g e =
@@ -112,6 +109,7 @@ getD-position k (j ∷ js) r m = go (order j k) (List·Memᴰ·cases-cons m) (ge
 pub position-mem : (k : ℕ) (l : List ℕ) → position k l < length l → getD l (position k l) 0 ≡ k → List·Memᴰ k l
 position-mem k l h e = Memᴰ·cast (sym e) (mem-getD l (position k l) 0 h)
 
+-- a key by its position is at that position (for claims by their positions)
 pub position-getD : (l : List ℕ) → Rising l → (i : ℕ) → i < length l → position (getD l i 0) l ≡ i
 position-getD l r i h = position-is (getD l i 0) l i (omega arith) (λ j p. rising-getD l r j i p h) (inr (omega arith))
 
@@ -155,6 +153,7 @@ position-mono lo hi (j ∷ js) h = go (lt-or-le j lo) (position-mono lo hi js h)
     go (inl g) below = rw (position-after lo j js g, position-after hi j js (omega arith)) (suc-le-suc below)
     go (inr g) below = rw (position-here lo j js g) (omega arith)
 
+-- positions of held keys rise as the keys do (for counting between two of them)
 pub position-lt : (lo hi : ℕ) (l : List ℕ) → Rising l → lo < hi → List·Memᴰ lo l → position lo l < position hi l
 position-lt lo hi l r h m = let p = getD-position lo l r m in getD-lt-position hi l r (position lo l) (p .0) (omega (arith, p .1))
 

@@ -83,14 +83,8 @@ sub-refl l k m = m
 pub sub-trans : (l m n : List ℕ) → Sub l m → Sub m n → Sub l n
 sub-trans l m n s t k h = t k (s k h)
 
-pub sub-tail : (k : ℕ) (ks : List ℕ) → Sub ks (k ∷ ks)
-sub-tail k ks x m = List·Memᴰ·tail m
-
 pub sub-append-left : (a b : List ℕ) → Sub a (a ++ b)
 sub-append-left a b k m = Memᴰ·append-left b m
-
-pub sub-append-right : (a b : List ℕ) → Sub b (a ++ b)
-sub-append-right a b k m = Memᴰ·append-right a m
 
 pub append-sub : (a b m : List ℕ) → Sub a m → Sub b m → Sub (a ++ b) m
 append-sub a b m s t k h = ⊎-elim (s k) (t k) (List·Memᴰ·append-cases a h)
@@ -206,15 +200,6 @@ rising-getD-le (x ∷ xs) r (suc i) (suc j) h g = rising-getD-le xs (r .1) i j (
 -- .. and so an index is told by its key
 pub getD-rising-lt : (l : List ℕ) → Rising l → (i j : ℕ) → i < length l → getD l i 0 < getD l j 0 → i < j
 getD-rising-lt l r i j h g = le-unless (suc i) j (λ p. let q : getD l j 0 ≤ getD l i 0 = rising-getD-le l r j i (le-of-suc-le-suc p) h in omega arith)
-
-pub getD-rising-le : (l : List ℕ) → Rising l → (i j : ℕ) → i < length l → getD l i 0 ≤ getD l j 0 → i ≤ j
-getD-rising-le l r i j h g = le-unless i j (λ p. let q : getD l j 0 < getD l i 0 = rising-getD l r j i p h in omega arith)
-
-pub getD-rising-eq : (l : List ℕ) → Rising l → (i j : ℕ) → i < length l → j < length l → getD l i 0 ≡ getD l j 0 → i ≡ j
-getD-rising-eq l r i j h g e =
-    let p : i ≤ j = getD-rising-le l r i j h (omega arith) in
-    let q : j ≤ i = getD-rising-le l r j i g (omega arith) in
-    omega arith
 
 -- ---- the test `holds`
 

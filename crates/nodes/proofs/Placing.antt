@@ -1,10 +1,10 @@
 -- A claim's place in a table, and putting it in there (specs/Lent; the loops of src/take.rt). In order: halving, a turn of its loop; how many claims
 -- of a table come before one, which is what halving finds where the table rises; what stands at a place; what is found and put in is `tableWith` on a
 -- rising table; a claim put in. The loop that moves claims up is that of keys (`keys`, proofs/Putting). Assumes nothing.
-use mathlib.Core.Path.{_≡_, refl, sym, _∙_, ap}
+use mathlib.Core.Path.{_≡_, refl, sym, _∙_}
 use mathlib.Core.Bool.{Bool, true, false, cond, not, _&&_, false≢true}
 use mathlib.Core.Logic.{⊎-elim}
-use mathlib.Core.List.{List, [], _∷_, _++_, append-assoc}
+use mathlib.Core.List.{List, [], _∷_, append-assoc}
 use Prim.Native.Nat.{ℕ, zero, suc, _+_, _-_, _/_, _≤_, _<_}
 use native.Mathlib.Omega.{arith}
 use borrow.Author.Tests.{lt-ltb, le-ltb, ltb-true, eqb-true, eqb-false, eq-eqb, ne-eqb}

@@ -28,7 +28,7 @@ use Rattle.rule.specs.declared.answer.Taken.{Taken}
 use Rattle.rule.specs.Table.{tableLimit, before, insertClaim, tableWith}
 use Rattle.rule.specs.Node.{blanks, pendingOf, nodeKeys, nodeOf, nodeInOrder}
 use Rattle.rule.specs.Call.{writtenOver, takeQuestions, taken}
-use Rattle.rule.proofs.NodeLaws.{Ordered, nodeInOrder-ordered, ordered-nodeInOrder, blanks-allUnused}
+use Rattle.rule.proofs.NodeLaws.{Ordered, nodeInOrder-ordered, ordered-nodeInOrder, blanks-allUnused, drop-blanks}
 use Rattle.rule.proofs.CallLaws.{takeQuestions-yes, takeQuestions-6, taken-done, taken-refused, ordered-taken, length-pendingOf}
 use Rattle.nodes.specs.Lent.{nodeWith, placeAmong, isAt, placedAt, placedIn, tableIn, Enlisted, takenWith, takeIn}
 use Rattle.nodes.proofs.Placing.{tableIn-tableWith}
@@ -121,12 +121,6 @@ takeIn-kept n c = settle-kept (λ (t : Taken). t .number) (λ (t : Taken). t .no
     (λ x. record { number = x; node = n }) refl (λ x. refl) (hearIn (n .store) c .number)
 
 -- ---- a node in order
-
-pub drop-blanks : (k m : ℕ) → drop k (blanks m) ≡ blanks (m - k)
-unfolding blanks
-drop-blanks zero m = let e : m - 0 ≡ m = omega arith in rw e
-drop-blanks (suc k) zero = let e : 0 - suc k ≡ 0 = omega arith in rw e
-drop-blanks (suc k) (suc m) = let e : suc m - suc k ≡ m - k = omega arith in rw e (drop-blanks k m)
 
 -- a table loses no place when a claim is put in
 length-insertClaim-ge : (c : Claim) (t : List Claim) → length t ≤ length (insertClaim c t)

@@ -23,6 +23,7 @@ use Rattle.claims.proofs.ClaimLaws.{same-claim}
 use Rattle.rule.specs.declared.node.Node.{Node}
 use Rattle.rule.specs.Table.{tableLimit, climbs}
 use Rattle.rule.specs.Node.{blanks, pendingOf, nodeKeys, nodeOf, emptyNode, holdsAll, allFit, allUnused, nodeInOrder}
+use Rattle.rule.proofs.PlaceLaws.{drop-replicate}
 
 -- ---- keys held, and claims that fit
 
@@ -65,6 +66,10 @@ mem-allFit (d ∷ ds) l f =
 pub length-blanks : (n : ℕ) → length (blanks n) ≡ n
 unfolding blanks
 length-blanks n = length-replicate n noClaim
+
+pub drop-blanks : (k n : ℕ) → drop k (blanks n) ≡ blanks (n - k)
+unfolding blanks
+drop-blanks k n = drop-replicate k n noClaim
 
 pub allUnused-blanks : (n : ℕ) → allUnused (blanks n) ≡ true
 unfolding blanks

@@ -65,7 +65,7 @@ module _ {A : Type 0} where
 
   -- ---- over a run of one value
 
-  drop-replicate : (k n : ℕ) (a : A) → drop k (replicate n a) ≡ replicate (n - k) a
+  pub drop-replicate : (k n : ℕ) (a : A) → drop k (replicate n a) ≡ replicate (n - k) a
   drop-replicate zero n a = rw sub-zero
   drop-replicate (suc k) zero a = rw zero-sub
   drop-replicate (suc k) (suc n) a = rw suc-sub-suc (drop-replicate k n a)

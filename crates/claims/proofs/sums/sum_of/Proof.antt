@@ -1,7 +1,6 @@
 -- `claims::sums::sum_of` meets its contract. The invariant: the sum of all keys is that so far and that of the keys from i on. Assumes nothing.
 use mathlib.Core.Path.{_≡_}
 use Prim.Native.Nat.{_≤_, _-_}
-use native.Mathlib.Omega.{arith}
 use borrow.Author.Needs.{needs}
 use denote.Ref.{now}
 use lib.Bits.{bitXor}
