@@ -1,16 +1,18 @@
 -- What the calls on a lent run mean (specs/Lent against specs/Claim and Reply): of any store, what a refusal leaves; and of a store in order, `storeOf l`
--- for rising keys l, the rule. The crates above prove their loops from these. In order: a claim heard; a claim made; the answer; the reply.
--- Assumes nothing.
+-- for rising keys l, the rule. The crates above prove their loops from these. In order: a claim heard; a claim made; the answer; the reply; the
+-- sums of both halves of a span. Assumes nothing.
 use mathlib.Core.Path.{_≡_, refl, sym, _∙_, ap, ap₂}
 use mathlib.Core.Logic.{⊎-elim}
 use mathlib.Core.Bool.{Bool, true, false, cond, _&&_, and-true}
-use mathlib.Core.List.{List, [], _∷_, List·Memᴰ}
-use Prim.Native.Nat.{ℕ, _+_, _-_, _≤_, _<_}
+use mathlib.Core.List.{List, [], _∷_, _++_, List·Memᴰ}
+use Prim.Native.Nat.{ℕ, suc, _+_, _-_, _≤_, _<_}
+use native.Mathlib.Numerals.{add-one}
 use native.Mathlib.Omega.{arith}
 use borrow.Author.Tests.{lt-ltb, le-leb, leb-true, ltb-true, ltb-false, ne-eqb}
+use lib.Bits.{bitXor, xor-comm, xor-self, xor-zero-r}
 use lib.Dec.{ltb, leb}
-use lib.ListN.{length, drop, getD, length-drop, List·getD-append}
-use lib.Seq.{take-append-le, drop-append-le}
+use lib.ListN.{length, take, drop, getD, length-drop, List·getD-append}
+use lib.Seq.{take-append-le, drop-append-le, take-add, drop-drop, take-suc, drop-cons, getD-drop}
 use Rattle.keys.specs.declared.lent.Place.{Place}
 use Rattle.keys.specs.declared.store.Store.{Store}
 use Rattle.keys.specs.Store.{limit, zeros, storeOf, position}
@@ -29,7 +31,8 @@ use Rattle.claims.specs.Claim.{span, xorAll, claimOf, noClaim}
 use Rattle.claims.specs.Question.{question, firstNo, claimQuestions}
 use Rattle.claims.specs.Reply.{hear, own, same, decide, half, help, answer, reply, numberOf}
 use Rattle.claims.specs.Call.{judged}
-use Rattle.claims.specs.Lent.{hearQuestions, Hearing, heard, unheard, hearIn, within, makeIn, helpIn, answerAt, answerIn, replyIn}
+use Rattle.claims.specs.Lent.{hearQuestions, Hearing, heard, unheard, hearIn, within, makeIn, middle, Halves, helpIn, answerAt, answerIn, replyIn}
+use Rattle.claims.proofs.Xor.{xor-assoc, xorAll-append, xorAll-snoc}
 use Rattle.claims.proofs.QuestionLaws.{Passes, firstNo-append-zero, firstNo-append-no, settle-kept, claimQuestions-numbered, passes-firstNo, judged-firstNo}
 use Rattle.claims.proofs.ClaimLaws.{claim-ext}
 use Rattle.claims.proofs.ReplyLaws.{numberOf-help, numberOf-decide, hear-rising, hear-lo, hear-hi, helper-positions}
@@ -211,3 +214,80 @@ module _ (l : List ℕ) (rise : Rising l) (c : Claim) (good : Passes c) where
   pub replyIn-full : limit < length (hear c l) → replyIn (storeOf l) c ≡ record { store = storeOf l; answer = Refused 6 }
   unfolding replyIn
   replyIn-full h = rw (hearIn-full l rise c good h)
+
+-- ---- the sums of both halves of a span, from which one pass over the keys gives own and the claims that help: the span is the left half and then the
+-- right one; the left one begins with lo, and the right one ends with hi
+
+-- the numbers at positions i to i + n - 1
+abbrev pub part : ℕ → ℕ → List ℕ → List ℕ
+part i n l = take n (drop i l)
+
+-- two parts, one right after the other, are one
+pub part-join : (i m n : ℕ) (l : List ℕ) → part i m l ++ part (i + m) n l ≡ part i (m + n) l
+part-join i m n l = rw (← (drop-drop m i l)) (sym (take-add m n (drop i l)))
+
+pub xor-join : (i m n : ℕ) (l : List ℕ) → bitXor (xorAll (part i m l)) (xorAll (part (i + m) n l)) ≡ xorAll (part i (m + n) l)
+xor-join i m n l = sym (xorAll-append (part i m l) (part (i + m) n l)) ∙ ap xorAll (part-join i m n l)
+
+-- a part without its first number, and without its last
+pub xor-first : (i n : ℕ) (l : List ℕ) → i < length l → bitXor (xorAll (part i (suc n) l)) (getD l i 0) ≡ xorAll (part (suc i) n l)
+xor-first i n l h =
+    rw (drop-cons l i 0)
+    (ap (λ (x : ℕ). bitXor x (getD l i 0)) (xor-comm (getD l i 0) (xorAll (take n (drop (suc i) l))))
+    ∙ (xor-assoc (xorAll (take n (drop (suc i) l))) (getD l i 0) (getD l i 0)
+    ∙ rw (xor-self, xor-zero-r)))
+
+pub xor-last : (i n : ℕ) (l : List ℕ) → i + n < length l → bitXor (xorAll (part i (suc n) l)) (getD l (i + n) 0) ≡ xorAll (part i n l)
+xor-last i n l h =
+    let e : take (suc n) (drop i l) ≡ take n (drop i l) ++ (getD (drop i l) n 0 ∷ []) =
+    take-suc (drop i l) n 0 (omega (arith, length-drop i l)) in
+    rw (e, getD-drop, xorAll-snoc, xor-assoc, xor-self, xor-zero-r)
+
+-- where the first of two claims ends
+pub middle-half : (first last : ℕ) → first + 1 < last → middle first last ≡ first + 1 + half (first + 1) (last - 1) + 1
+middle-half first last h = omega arith
+
+pub middle-lt : (first last : ℕ) → 3 ≤ last - 1 - (first + 1) → middle first last < last
+middle-lt first last h = omega arith
+
+module _ (keys : List ℕ) (first last left right : ℕ) (halves : Halves keys first last left right) where
+  -- both halves are the span
+  pub halves-sum : bitXor left right ≡ xorAll (span first last keys)
+  halves-sum =
+      let places = halves .places in
+      let m : first + (middle first last - first) ≡ middle first last = omega arith in
+      let n : middle first last - first + (last + 1 - middle first last) ≡ last - first + 1 = omega arith in
+      rw (halves .left-sum, halves .right-sum)
+      (rw (m, n) at (xor-join first (middle first last - first) (last + 1 - middle first last) keys))
+
+  -- the sums of the claims that help: without lo and hi
+  pub one-sum : first + 1 < last
+      → bitXor (bitXor (bitXor left right) (getD keys first 0)) (getD keys last 0) ≡ xorAll (span (first + 1) (last - 1) keys)
+  one-sum h =
+      let places = halves .places in
+      let n : ℕ = last - first - 1 in
+      let e : last - first + 1 ≡ suc (suc n) = omega arith in
+      let f : suc first + n ≡ last = omega arith in
+      let g : last - 1 - (first + 1) + 1 ≡ n = omega arith in
+      let a : bitXor (xorAll (part first (suc (suc n)) keys)) (getD keys first 0) ≡ xorAll (part (suc first) (suc n) keys) = xor-first first (suc n) keys (omega arith) in
+      let b : bitXor (xorAll (part (suc first) (suc n) keys)) (getD keys (suc first + n) 0) ≡ xorAll (part (suc first) n keys) = xor-last (suc first) n keys (omega arith) in
+      rw (halves-sum, e, a, g, add-one first) (rw f at b)
+
+  pub left-sum : first + 1 < last → bitXor left (getD keys first 0) ≡ xorAll (span (first + 1) (middle first last - 1) keys)
+  left-sum h =
+      let places = halves .places in
+      let n : ℕ = middle first last - first - 1 in
+      let e : middle first last - first ≡ suc n = omega arith in
+      let k : middle first last - 1 - (first + 1) + 1 ≡ n = omega arith in
+      let a : bitXor (xorAll (part first (suc n) keys)) (getD keys first 0) ≡ xorAll (part (suc first) n keys) = xor-first first n keys (omega arith) in
+      rw (halves .left-sum, e, k) (rw (← (add-one first)) at a)
+
+  pub right-sum : middle first last < last → bitXor right (getD keys last 0) ≡ xorAll (span (middle first last) (last - 1) keys)
+  right-sum below =
+      let places = halves .places in
+      let n : ℕ = last - middle first last in
+      let e : last + 1 - middle first last ≡ suc n = omega arith in
+      let f : middle first last + n ≡ last = omega arith in
+      let k : last - 1 - middle first last + 1 ≡ n = omega arith in
+      let a : bitXor (xorAll (part (middle first last) (suc n) keys)) (getD keys (middle first last + n) 0) ≡ xorAll (part (middle first last) n keys) = xor-last (middle first last) n keys (omega arith) in
+      rw (halves .right-sum, e, k) (rw f at a)

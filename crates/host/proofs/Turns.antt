@@ -28,7 +28,7 @@ use Rattle.rule.specs.Call.{takeQuestions, taken}
 use Rattle.rule.proofs.NodeLaws.{Ordered, nodeInOrder-ordered, ordered-nodeInOrder, nodeKeys-nodeOf, store-nodeOf}
 use Rattle.rule.proofs.CallLaws.{takeQuestions-6, takeQuestions-yes, taken-done, taken-refused, ordered-taken}
 use Rattle.nodes.specs.Lent.{takeIn}
-use Rattle.nodes.proofs.TakeLaws.{takeIn-taken, ordered-takeIn}
+use Rattle.nodes.proofs.LentLaws.{takeIn-taken, ordered-takeIn}
 use Rattle.wire.specs.Frame.{allPass}
 use Rattle.wire.specs.Image.{Shaped}
 use Rattle.host.specs.Taking.{questions6, takenInTurn, takenUntil}

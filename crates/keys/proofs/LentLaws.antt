@@ -1,6 +1,6 @@
 -- What the calls on a lent run mean where the run is a store in order (specs/Lent against specs/Store): the run of `storeOf l` for rising keys l, and
--- their number as the count. The crates above prove their loops from these. In order: question 1; a place; one key added; two keys
--- added; and of any run, what does not fit and what does.
+-- their number as the count. The crates above prove their loops from these. In order: question 1; a place, of any run and of one in order; a key put
+-- in; one key added; two keys added; and of any run, what does not fit and what does.
 -- Assumes nothing.
 use mathlib.Core.Path.{_≡_, refl, sym, _∙_, ap, ap₂}
 use mathlib.Core.Bool.{Bool, true, false, cond, _&&_, false≢true}
@@ -8,21 +8,23 @@ use mathlib.Core.Logic.{⊎-elim}
 use mathlib.Core.List.{List, [], _∷_, _++_, append-assoc, List·Memᴰ}
 use Prim.Native.Nat.{ℕ, suc, _+_, _-_, _≤_, _<_}
 use native.Mathlib.Omega.{arith}
-use borrow.Author.Tests.{le-leb, lt-leb, leb-true, eq-eqb, ne-eqb}
-use lib.Dec.{leb, eqb}
-use lib.ListN.{length, take, drop, length-take, length-drop, take-append-drop, drop-of-length-le}
+use borrow.Author.Tests.{le-leb, lt-leb, leb-true, ltb-true, eq-eqb, ne-eqb}
+use lib.Dec.{ltb, leb, eqb}
+use lib.ListN.{length, take, drop, getD, length-take, length-drop, take-append-drop, drop-of-length-le}
 use lib.Seq.{length-take-le, take-append-le, drop-append-le, take-at, drop-at, drop-append-add, take-length}
 use Rattle.keys.specs.declared.lent.Place.{Place}
 use Rattle.keys.specs.declared.store.Store.{Store}
 use Rattle.keys.specs.Store.{limit, zeros, keysOf, storeOf, rising, allZero, inOrder, position, holds, insert}
-use Rattle.keys.specs.Lent.{orderedIn, placeIn, insertedAt, lacking, putIn, storeWith, Grown, grown, unfit, room, withKey, addOne, raised, fitTwo, addTwo, addIn, addBothIn}
+use Rattle.keys.specs.Lent.{orderedIn, quartered, placeAt, placeIn, insertedAt, lacking, putIn, storeWith}
+use Rattle.keys.specs.Lent.{Grown, grown, unfit, room, withKey, addOne, raised, fitTwo, addTwo, addIn, addBothIn}
 use Rattle.keys.proofs.Tests.{eq-or-ne, and-left, and-right}
 use Rattle.keys.proofs.Rising.{Rising, rising-true, holds-mem, holds-absent, mem-holds, absent-holds, mem-or-absent}
 use Rattle.keys.proofs.Insert.{insert-rising, insert-held, mem-insert-new, length-insert-missing, length-insert-held, length-insert-ge, insert-mem, mem-insert-old}
 use Rattle.keys.proofs.Position.{position-le, position-mono, insert-position, position-insert-le, position-insert-self, position-insert-missing, position-insert-held}
 use Rattle.keys.proofs.Order.{allZero-zeros, count-storeOf, keys-storeOf, keysOf-storeOf}
-use Rattle.keys.proofs.Adding.{placeIn-lt}
-use Rattle.keys.proofs.Finding.{placeIn-front}
+use Rattle.keys.proofs.QuarteringLaws.{quartered-lt}
+use Rattle.keys.proofs.PuttingLaws.{length-insertedAt}
+use Rattle.keys.proofs.FindingLaws.{placeIn-front}
 
 -- ---- question 1
 
@@ -72,7 +74,62 @@ module _ (keys : List ℕ) (count : ℕ) (yes : orderedIn keys count ≡ true) w
   pub orderedIn-short : length (take count keys) ≤ limit
   orderedIn-short = rw (length-take count keys) (omega (arith, orderedIn-limit))
 
--- ---- a place
+-- ---- a place, of any run
+
+pub lacking-le : (p : Place) → lacking p ≤ 1
+lacking-le p = go (p .held)
+  where
+    go : (t : Bool) → cond {A = ℕ} t 0 1 ≤ 1
+    go true = omega arith
+    go false = omega arith
+
+-- a place is at most the count
+pub placeAt-le : (at found key count : ℕ) → at < count → placeAt at found key .at ≤ count
+placeAt-le at found key count h = go (ltb found key)
+  where
+    go : (t : Bool) → (cond {A = Place} t (record { at = at + 1; held = false }) (record { at = at; held = eqb found key })) .at ≤ count
+    go true = omega arith
+    go false = omega arith
+
+pub placeIn-le : (keys : List ℕ) (count key : ℕ) → placeIn keys count key .at ≤ count
+unfolding placeIn
+placeIn-le keys count key = go (ltb 0 count && leb count (length keys)) refl
+  where
+    go : (t : Bool) → (ltb 0 count && leb count (length keys)) ≡ t
+        → (cond t (placeAt (quartered count keys key 0 count) (getD keys (quartered count keys key 0 count) 0) key) (record { at = 0; held = false })) .at ≤ count
+    go true e =
+        let some : 0 < count = ltb-true 0 count (and-left (ltb 0 count) (leb count (length keys)) e) in
+        let l : quartered count keys key 0 count < 0 + count = quartered-lt count keys key 0 count some in
+        placeAt-le (quartered count keys key 0 count) (getD keys (quartered count keys key 0 count) 0) key count (omega arith)
+    go false e = omega arith
+
+-- and below it, once the key is put in
+placeAt-lt : (at found key count : ℕ) → at < count → placeAt at found key .at < count + lacking (placeAt at found key)
+placeAt-lt at found key count h = go (ltb found key) (eqb found key)
+  where
+    place : Bool → Bool → Place
+    place t u = cond t (record { at = at + 1; held = false }) (record { at = at; held = u })
+
+    go : (t u : Bool) → place t u .at < count + lacking (place t u)
+    go true u = omega arith
+    go false true = omega arith
+    go false false = omega arith
+
+pub placeIn-lt : (keys : List ℕ) (count key : ℕ) → placeIn keys count key .at < count + lacking (placeIn keys count key)
+unfolding placeIn
+placeIn-lt keys count key = go (ltb 0 count && leb count (length keys)) refl
+  where
+    place : Bool → Place
+    place t = cond t (placeAt (quartered count keys key 0 count) (getD keys (quartered count keys key 0 count) 0) key) (record { at = 0; held = false })
+
+    go : (t : Bool) → (ltb 0 count && leb count (length keys)) ≡ t → place t .at < count + lacking (place t)
+    go true e =
+        let some : 0 < count = ltb-true 0 count (and-left (ltb 0 count) (leb count (length keys)) e) in
+        let l : quartered count keys key 0 count < 0 + count = quartered-lt count keys key 0 count some in
+        placeAt-lt (quartered count keys key 0 count) (getD keys (quartered count keys key 0 count) 0) key count (omega arith)
+    go false e = omega arith
+
+-- ---- a place, of a run in order
 
 module _ (l : List ℕ) (rise : Rising l) where
   -- the place that a key has among the keys l
@@ -91,6 +148,15 @@ placeIn-ordered keys held key h =
     ∙ placeIn-front (take held keys) (drop held keys) key (rising-true (take held keys) (orderedIn-rising keys held h))
 
 -- ---- a key put in
+
+-- the run keeps its length
+pub length-putIn : (p : Place) (count key : ℕ) (keys after : List ℕ) → after ≡ putIn p count key keys → p .at ≤ count → count + lacking p ≤ limit
+    → length keys ≡ limit → length after ≡ limit
+length-putIn p count key keys after put h f e = ap length put ∙ go (p .held) f
+  where
+    go : (t : Bool) → count + cond t 0 1 ≤ limit → length (cond t keys (insertedAt (p .at) count key keys)) ≡ limit
+    go true g = e
+    go false g = length-insertedAt (p .at) count key keys h (omega arith) ∙ e
 
 pub insertedAt-insert : (l : List ℕ) (k : ℕ) → (List·Memᴰ k l → ⊥) → length l < limit
     → insertedAt (position k l) (length l) k (storeOf l .keys) ≡ storeOf (insert k l) .keys

@@ -1,6 +1,6 @@
 -- `claims::calls::enter` meets its contract. Assumes nothing.
 use borrow.Author.Needs.{needs}
-use Rattle.claims.proofs.Calling.{entered-1, entered-unfit, entered-fit}
+use Rattle.claims.proofs.CallsPaths.{entered-1, entered-unfit, entered-fit}
 use Rattle.claims.proofs.calls.enter.Statement.{statement}
 use Rattle.claims.proofs.calls.enter.Tie as tie
 

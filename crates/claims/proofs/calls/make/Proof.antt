@@ -1,6 +1,6 @@
 -- `claims::calls::make` meets its contract. Assumes nothing.
 use borrow.Author.Needs.{needs}
-use Rattle.claims.proofs.Calling.{made-1, made-made}
+use Rattle.claims.proofs.CallsPaths.{made-1, made-made}
 use Rattle.claims.proofs.calls.make.Statement.{statement}
 use Rattle.claims.proofs.calls.make.Tie as tie
 

@@ -1,6 +1,6 @@
 -- `claims::calls::reply` meets its contract. Assumes nothing.
 use borrow.Author.Needs.{needs}
-use Rattle.claims.proofs.Calling.{replied-1, replied-told}
+use Rattle.claims.proofs.CallsPaths.{replied-1, replied-told}
 use Rattle.claims.proofs.calls.reply.Statement.{statement}
 use Rattle.claims.proofs.calls.reply.Tie as tie
 

@@ -1,6 +1,6 @@
 -- `claims::claim::alike` meets its contract: equal in all four fields. Assumes nothing.
 use borrow.Author.Needs.{needs}
-use Rattle.claims.proofs.Judging.{same-lo, same-hi, same-sum, same-cnt}
+use Rattle.claims.proofs.ClaimPaths.{same-lo, same-hi, same-sum, same-cnt}
 use Rattle.claims.proofs.claim.alike.Statement.{statement}
 use Rattle.claims.proofs.claim.alike.Tie as tie
 

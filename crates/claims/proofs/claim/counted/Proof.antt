@@ -1,6 +1,6 @@
 -- `claims::claim::counted` meets its contract, question 3. Assumes nothing.
 use borrow.Author.Needs.{needs}
-use Rattle.claims.proofs.Judging.{counts-none, counts-some}
+use Rattle.claims.proofs.ClaimPaths.{counts-none, counts-some}
 use Rattle.claims.proofs.claim.counted.Statement.{statement}
 use Rattle.claims.proofs.claim.counted.Tie as tie
 

@@ -1,6 +1,6 @@
 -- `claims::claim::judge` meets its contract: the questions 2 to 5, in order. Assumes nothing.
 use borrow.Author.Needs.{needs}
-use Rattle.claims.proofs.Judging.{judged-2, judged-3, judged-4, judged-5, judged-0}
+use Rattle.claims.proofs.ClaimPaths.{judged-2, judged-3, judged-4, judged-5, judged-0}
 use Rattle.claims.proofs.claim.judge.Statement.{statement}
 use Rattle.claims.proofs.claim.judge.Tie as tie
 

@@ -1,6 +1,6 @@
 -- `claims::claim::spanned` meets its contract, question 4. Assumes nothing.
 use borrow.Author.Needs.{needs}
-use Rattle.claims.proofs.Judging.{spans-one, spans-few, spans-many}
+use Rattle.claims.proofs.ClaimPaths.{spans-one, spans-few, spans-many}
 use Rattle.claims.proofs.claim.spanned.Statement.{statement}
 use Rattle.claims.proofs.claim.spanned.Tie as tie
 

@@ -1,6 +1,6 @@
 -- `claims::claim::summed` meets its contract, question 5. Assumes nothing.
 use borrow.Author.Needs.{needs}
-use Rattle.claims.proofs.Judging.{sums-one, sums-two, sums-more}
+use Rattle.claims.proofs.ClaimPaths.{sums-one, sums-two, sums-more}
 use Rattle.claims.proofs.claim.summed.Statement.{statement}
 use Rattle.claims.proofs.claim.summed.Tie as tie
 

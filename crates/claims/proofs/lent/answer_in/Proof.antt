@@ -1,6 +1,6 @@
 -- `claims::lent::answer_in` meets its contract. Assumes nothing.
 use borrow.Author.Needs.{needs}
-use Rattle.claims.proofs.Lending.{within-positions, answerIn-not, answerIn-at}
+use Rattle.claims.proofs.LentPaths.{within-positions, answerIn-not, answerIn-at}
 use Rattle.claims.proofs.lent.answer_in.Statement.{statement}
 use Rattle.claims.proofs.lent.answer_in.Tie as tie
 

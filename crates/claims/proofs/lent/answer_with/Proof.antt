@@ -1,6 +1,7 @@
 -- `claims::lent::answer_with` meets its contract. Assumes nothing.
 use borrow.Author.Needs.{needs}
-use Rattle.claims.proofs.HalfSums.{halves-sum, decide-match, decide-ask, decide-help}
+use Rattle.claims.proofs.LentLaws.{halves-sum}
+use Rattle.claims.proofs.LentPaths.{decide-match, decide-ask, decide-help}
 use Rattle.claims.proofs.lent.answer_with.Statement.{statement}
 use Rattle.claims.proofs.lent.answer_with.Tie as tie
 

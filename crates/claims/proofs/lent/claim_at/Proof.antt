@@ -2,7 +2,7 @@
 use mathlib.Core.Path.{_∙_}
 use borrow.Author.Needs.{needs}
 use denote.Ref.{now}
-use Rattle.claims.proofs.HalfSums.{part-span}
+use Rattle.claims.proofs.LentPaths.{part-span}
 use Rattle.claims.proofs.lent.claim_at.Statement.{statement}
 use Rattle.claims.proofs.lent.claim_at.Tie as tie
 

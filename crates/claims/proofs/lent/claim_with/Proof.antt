@@ -1,6 +1,6 @@
 -- `claims::lent::claim_with` meets its contract. Assumes nothing.
 use borrow.Author.Needs.{needs}
-use Rattle.claims.proofs.HalfSums.{claim-summed}
+use Rattle.claims.proofs.LentPaths.{claim-summed}
 use Rattle.claims.proofs.lent.claim_with.Statement.{statement}
 use Rattle.claims.proofs.lent.claim_with.Tie as tie
 

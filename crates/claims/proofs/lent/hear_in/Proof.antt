@@ -1,6 +1,6 @@
 -- `claims::lent::hear_in` meets its contract. Assumes nothing.
 use borrow.Author.Needs.{needs}
-use Rattle.claims.proofs.Lending.{heard-judged, heard-unfit, heard-added}
+use Rattle.claims.proofs.LentPaths.{heard-judged, heard-unfit, heard-added}
 use Rattle.claims.proofs.lent.hear_in.Statement.{statement}
 use Rattle.claims.proofs.lent.hear_in.Tie as tie
 

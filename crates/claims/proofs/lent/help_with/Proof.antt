@@ -2,7 +2,8 @@
 use native.Mathlib.Omega.{arith}
 use borrow.Author.Needs.{needs}
 use denote.Ref.{now}
-use Rattle.claims.proofs.HalfSums.{middle-lt, one-sum, left-sum, right-sum, help-none, help-one, help-two}
+use Rattle.claims.proofs.LentLaws.{middle-lt, one-sum, left-sum, right-sum}
+use Rattle.claims.proofs.LentPaths.{help-none, help-one, help-two}
 use Rattle.claims.proofs.lent.help_with.Statement.{statement}
 use Rattle.claims.proofs.lent.help_with.Tie as tie
 

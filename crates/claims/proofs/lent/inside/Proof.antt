@@ -1,6 +1,6 @@
 -- `claims::lent::inside` meets its contract. Assumes nothing.
 use borrow.Author.Needs.{needs}
-use Rattle.claims.proofs.Lending.{within-fall, within-past, within-short, within-limit}
+use Rattle.claims.proofs.LentPaths.{within-fall, within-past, within-short, within-limit}
 use Rattle.claims.proofs.lent.inside.Statement.{statement}
 use Rattle.claims.proofs.lent.inside.Tie as tie
 

@@ -1,6 +1,6 @@
 -- `claims::lent::make_in` meets its contract. Assumes nothing.
 use borrow.Author.Needs.{needs}
-use Rattle.claims.proofs.Lending.{within-positions, makeIn-not, makeIn-claim}
+use Rattle.claims.proofs.LentPaths.{within-positions, makeIn-not, makeIn-claim}
 use Rattle.claims.proofs.lent.make_in.Statement.{statement}
 use Rattle.claims.proofs.lent.make_in.Tie as tie
 

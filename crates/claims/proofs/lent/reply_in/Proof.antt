@@ -1,6 +1,6 @@
 -- `claims::lent::reply_in` meets its contract. Assumes nothing.
 use borrow.Author.Needs.{needs}
-use Rattle.claims.proofs.Lending.{reply-refused, reply-told, heard-positions}
+use Rattle.claims.proofs.LentPaths.{reply-refused, reply-told, heard-positions}
 use Rattle.claims.proofs.lent.reply_in.Statement.{statement}
 use Rattle.claims.proofs.lent.reply_in.Tie as tie
 

@@ -6,7 +6,7 @@ use denote.Ref.{now}
 use lib.Bits.{bitXor}
 use lib.ListN.{length, drop}
 use Rattle.claims.specs.Claim.{xorAll}
-use Rattle.claims.proofs.Summing.{xor-none, xor-on, xor-all}
+use Rattle.claims.proofs.SumsPaths.{xor-none, xor-on, xor-all}
 use Rattle.claims.proofs.sums.sum_of.Statement.{statement}
 use Rattle.claims.proofs.sums.sum_of.Tie as tie
 

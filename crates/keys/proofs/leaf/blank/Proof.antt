@@ -8,7 +8,7 @@ use denote.Ref.{now}
 use lib.Dec.{eqb}
 use lib.ListN.{length, drop}
 use Rattle.keys.specs.Store.{allZero}
-use Rattle.keys.proofs.Loops.{zero-on, zero-all}
+use Rattle.keys.proofs.LeafPaths.{zero-on, zero-all}
 use Rattle.keys.proofs.leaf.blank.Statement.{statement}
 use Rattle.keys.proofs.leaf.blank.Tie as tie
 

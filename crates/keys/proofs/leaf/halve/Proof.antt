@@ -8,7 +8,7 @@ use borrow.Author.Needs.{needs}
 use denote.Ref.{now}
 use lib.ListN.{getD}
 use Rattle.keys.specs.Lent.{halved}
-use Rattle.keys.proofs.Halving.{halved-one, halved-turn}
+use Rattle.keys.proofs.HalvingLaws.{halved-one, halved-turn}
 use Rattle.keys.proofs.leaf.halve.Statement.{statement}
 use Rattle.keys.proofs.leaf.halve.Tie as tie
 

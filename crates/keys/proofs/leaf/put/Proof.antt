@@ -4,7 +4,7 @@ use Prim.Native.Nat.{_≤_}
 use native.Mathlib.Omega.{arith}
 use borrow.Author.Needs.{needs}
 use denote.Ref.{now}
-use Rattle.keys.proofs.Putting.{Moved, moved-none, moved-down}
+use Rattle.keys.proofs.PuttingLaws.{Moved, moved-none, moved-down}
 use Rattle.keys.proofs.leaf.put.Statement.{statement}
 use Rattle.keys.proofs.leaf.put.Tie as tie
 use Rattle.keys.proofs.leaf.put.Reads as reads

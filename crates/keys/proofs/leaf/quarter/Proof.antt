@@ -5,7 +5,7 @@ use native.Mathlib.Omega.{arith}
 use borrow.Author.Needs.{needs}
 use denote.Ref.{now}
 use Rattle.keys.specs.Lent.{quartered}
-use Rattle.keys.proofs.Quartering.{quarters-le, quartered-few, quartered-turn}
+use Rattle.keys.proofs.QuarteringLaws.{quarters-le, quartered-few, quartered-turn}
 use Rattle.keys.proofs.leaf.quarter.Statement.{statement}
 use Rattle.keys.proofs.leaf.quarter.Tie as tie
 

@@ -7,7 +7,7 @@ use borrow.Author.Needs.{needs}
 use denote.Ref.{now}
 use lib.ListN.{length, drop}
 use Rattle.keys.specs.Store.{rising, risesFrom}
-use Rattle.keys.proofs.Loops.{rising-none, rising-first, rises-on, rises-not, rises-all}
+use Rattle.keys.proofs.LeafPaths.{rising-none, rising-first, rises-on, rises-not, rises-all}
 use Rattle.keys.proofs.leaf.rises.Statement.{statement}
 use Rattle.keys.proofs.leaf.rises.Tie as tie
 

@@ -1,6 +1,6 @@
 -- `keys::lent::add_both_in` meets its contract. Assumes nothing.
 use borrow.Author.Needs.{needs}
-use Rattle.keys.proofs.Adding.{place-le, both-one, both-two}
+use Rattle.keys.proofs.LentPaths.{place-le, both-one, both-two}
 use Rattle.keys.proofs.lent.add_both_in.Statement.{statement}
 use Rattle.keys.proofs.lent.add_both_in.Tie as tie
 

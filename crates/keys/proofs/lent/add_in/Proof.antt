@@ -1,6 +1,6 @@
 -- `keys::lent::add_in` meets its contract. Assumes nothing.
 use borrow.Author.Needs.{needs}
-use Rattle.keys.proofs.Adding.{place-le, add-full, add-room}
+use Rattle.keys.proofs.LentPaths.{place-le, add-full, add-room}
 use Rattle.keys.proofs.lent.add_in.Statement.{statement}
 use Rattle.keys.proofs.lent.add_in.Tie as tie
 

@@ -1,8 +1,8 @@
 -- `keys::lent::add_two` meets its contract. Assumes nothing.
 use borrow.Author.Needs.{needs}
 use denote.Ref.{now}
-use Rattle.keys.proofs.Putting.{length-putIn}
-use Rattle.keys.proofs.Adding.{two-fall, two-full, two-room}
+use Rattle.keys.proofs.LentLaws.{length-putIn}
+use Rattle.keys.proofs.LentPaths.{two-fall, two-full, two-room}
 use Rattle.keys.proofs.lent.add_two.Statement.{statement}
 use Rattle.keys.proofs.lent.add_two.Tie as tie
 

@@ -2,7 +2,7 @@
 use mathlib.Core.Path.{sym}
 use borrow.Author.Needs.{needs}
 use lib.Seq.{length-take-le}
-use Rattle.keys.proofs.Lending.{ordered-long, ordered-short, ordered-not, ordered-blank}
+use Rattle.keys.proofs.LentPaths.{ordered-long, ordered-short, ordered-not, ordered-blank}
 use Rattle.keys.proofs.lent.ordered_in.Statement.{statement}
 use Rattle.keys.proofs.lent.ordered_in.Tie as tie
 

@@ -1,7 +1,7 @@
 -- `keys::lent::place_in` meets its contract. Assumes nothing.
 use Prim.Native.Nat.{_<_}
 use borrow.Author.Needs.{needs}
-use Rattle.keys.proofs.Lending.{place-none, place-short, place-lt, place-after, place-at}
+use Rattle.keys.proofs.LentPaths.{place-none, place-short, place-lt, place-after, place-at}
 use Rattle.keys.proofs.lent.place_in.Statement.{statement}
 use Rattle.keys.proofs.lent.place_in.Tie as tie
 

@@ -1,6 +1,6 @@
 -- `keys::lent::put_in` meets its contract. Assumes nothing.
 use borrow.Author.Needs.{needs}
-use Rattle.keys.proofs.Lending.{putIn-fits, putIn-held, putIn-missing}
+use Rattle.keys.proofs.LentPaths.{putIn-fits, putIn-held, putIn-missing}
 use Rattle.keys.proofs.lent.put_in.Statement.{statement}
 use Rattle.keys.proofs.lent.put_in.Tie as tie
 

@@ -1,6 +1,6 @@
 -- `nodes::order::fits` meets its contract. Assumes nothing.
 use borrow.Author.Needs.{needs}
-use Rattle.nodes.proofs.Ordering.{fits-judged, fits-lo, fits-hi}
+use Rattle.nodes.proofs.OrderPaths.{fits-judged, fits-lo, fits-hi}
 use Rattle.nodes.proofs.order.fits.Statement.{statement}
 use Rattle.nodes.proofs.order.fits.Tie as tie
 

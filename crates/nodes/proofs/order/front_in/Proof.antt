@@ -1,6 +1,6 @@
 -- `nodes::order::front_in` meets its contract. Assumes nothing.
 use borrow.Author.Needs.{needs}
-use Rattle.nodes.proofs.Ordering.{tested-yes, front-count, front-store, front-pending}
+use Rattle.nodes.proofs.OrderPaths.{tested-yes, front-count, front-store, front-pending}
 use Rattle.nodes.proofs.order.front_in.Statement.{statement}
 use Rattle.nodes.proofs.order.front_in.Tie as tie
 

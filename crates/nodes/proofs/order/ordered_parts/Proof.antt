@@ -1,6 +1,6 @@
 -- `nodes::order::ordered_parts` meets its contract. Assumes nothing.
 use borrow.Author.Needs.{needs}
-use Rattle.nodes.proofs.Ordering.{tested-yes, ordered-store, ordered-count, ordered-pending, ordered-unused}
+use Rattle.nodes.proofs.OrderPaths.{tested-yes, ordered-store, ordered-count, ordered-pending, ordered-unused}
 use Rattle.nodes.proofs.order.ordered_parts.Statement.{statement}
 use Rattle.nodes.proofs.order.ordered_parts.Tie as tie
 

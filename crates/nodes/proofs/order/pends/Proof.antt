@@ -11,7 +11,7 @@ use lib.Seq.{length-take-le}
 use Rattle.claims.specs.declared.claim.Claim.{Claim}
 use Rattle.claims.specs.Claim.{noClaim}
 use Rattle.nodes.specs.Lent.{pending}
-use Rattle.nodes.proofs.Ordering.{pendingFrom, pending-first, drop-take-cons, pending-fall, pending-unfit, pending-on, pending-all}
+use Rattle.nodes.proofs.OrderPaths.{pendingFrom, pending-first, drop-take-cons, pending-fall, pending-unfit, pending-on, pending-all}
 use Rattle.nodes.proofs.order.pends.Statement.{statement}
 use Rattle.nodes.proofs.order.pends.Tie as tie
 

@@ -1,6 +1,6 @@
 -- `nodes::order::precedes` meets its contract. Assumes nothing.
 use borrow.Author.Needs.{needs}
-use Rattle.nodes.proofs.Ordering.{before-cnt, before-lo, before-hi, before-sum}
+use Rattle.nodes.proofs.OrderPaths.{before-cnt, before-lo, before-hi, before-sum}
 use Rattle.nodes.proofs.order.precedes.Statement.{statement}
 use Rattle.nodes.proofs.order.precedes.Tie as tie
 

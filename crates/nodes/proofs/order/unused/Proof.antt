@@ -8,7 +8,7 @@ use Rattle.claims.specs.declared.claim.Claim.{Claim}
 use Rattle.claims.specs.Claim.{noClaim}
 use Rattle.rule.specs.Table.{tableLimit}
 use Rattle.rule.specs.Node.{allUnused}
-use Rattle.nodes.proofs.Ordering.{drop-next, unused-not, unused-on, unused-all}
+use Rattle.nodes.proofs.OrderPaths.{drop-next, unused-not, unused-on, unused-all}
 use Rattle.nodes.proofs.order.unused.Statement.{statement}
 use Rattle.nodes.proofs.order.unused.Tie as tie
 

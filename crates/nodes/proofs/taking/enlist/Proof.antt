@@ -1,6 +1,6 @@
 -- `nodes::taking::enlist` meets its contract. Assumes nothing.
 use borrow.Author.Needs.{needs}
-use Rattle.nodes.proofs.TakeLaws.{enlisted-found}
+use Rattle.nodes.proofs.TakingPaths.{enlisted-found}
 use Rattle.nodes.proofs.taking.enlist.Statement.{statement}
 use Rattle.nodes.proofs.taking.enlist.Tie as tie
 

@@ -1,6 +1,6 @@
 -- `nodes::taking::enlist_at` meets its contract. Assumes nothing.
 use borrow.Author.Needs.{needs}
-use Rattle.nodes.proofs.TakeLaws.{enlisted-held, enlisted-last, enlisted-put}
+use Rattle.nodes.proofs.TakingPaths.{enlisted-held, enlisted-last, enlisted-put}
 use Rattle.nodes.proofs.taking.enlist_at.Statement.{statement}
 use Rattle.nodes.proofs.taking.enlist_at.Tie as tie
 

@@ -10,7 +10,7 @@ use Rattle.claims.specs.declared.claim.Claim.{Claim}
 use Rattle.claims.specs.Claim.{noClaim}
 use Rattle.rule.specs.Table.{before}
 use Rattle.nodes.specs.Lent.{halvedTo, placeAmong}
-use Rattle.nodes.proofs.Placing.{halvedTo-none, halvedTo-up, halvedTo-down, placeAmong-take}
+use Rattle.nodes.proofs.TakingPaths.{halvedTo-none, halvedTo-up, halvedTo-down, placeAmong-take}
 use Rattle.nodes.proofs.taking.find.Statement.{statement}
 use Rattle.nodes.proofs.taking.find.Tie as tie
 

@@ -3,9 +3,9 @@ use mathlib.Core.Path.{_≡_, _∙_}
 use Prim.Native.Nat.{_≤_}
 use native.Mathlib.Omega.{arith}
 use borrow.Author.Needs.{needs}
-use Rattle.keys.proofs.Putting.{Moved, moved-none, moved-down}
+use Rattle.keys.proofs.PuttingLaws.{Moved, moved-none, moved-down}
 use Rattle.claims.specs.Claim.{noClaim}
-use Rattle.nodes.proofs.Placing.{insertedAt-placedAt}
+use Rattle.nodes.proofs.TakingPaths.{insertedAt-placedAt}
 use Rattle.nodes.proofs.taking.put.Statement.{statement}
 use Rattle.nodes.proofs.taking.put.Tie as tie
 

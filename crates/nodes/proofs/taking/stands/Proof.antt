@@ -1,6 +1,6 @@
 -- `nodes::taking::stands` meets its contract. Assumes nothing.
 use borrow.Author.Needs.{needs}
-use Rattle.nodes.proofs.Placing.{isAt-past, isAt-before}
+use Rattle.nodes.proofs.TakingPaths.{isAt-past, isAt-before}
 use Rattle.nodes.proofs.taking.stands.Statement.{statement}
 use Rattle.nodes.proofs.taking.stands.Tie as tie
 

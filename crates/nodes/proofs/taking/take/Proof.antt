@@ -1,7 +1,7 @@
 -- `nodes::taking::take` meets its contract. Assumes nothing.
 use borrow.Author.Needs.{needs}
 use Rattle.rule.proofs.NodeLaws.{length-mapped}
-use Rattle.nodes.proofs.TakeLaws.{taken-1, taken-in}
+use Rattle.nodes.proofs.TakingPaths.{taken-1, taken-in}
 use Rattle.nodes.proofs.taking.take.Statement.{statement}
 use Rattle.nodes.proofs.taking.take.Tie as tie
 

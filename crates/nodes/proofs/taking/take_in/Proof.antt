@@ -1,6 +1,6 @@
 -- `nodes::taking::take_in` meets its contract. Assumes nothing.
 use borrow.Author.Needs.{needs}
-use Rattle.nodes.proofs.TakeLaws.{take-refused, take-done}
+use Rattle.nodes.proofs.TakingPaths.{take-refused, take-done}
 use Rattle.nodes.proofs.taking.take_in.Statement.{statement}
 use Rattle.nodes.proofs.taking.take_in.Tie as tie
 

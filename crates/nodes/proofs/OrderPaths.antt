@@ -26,6 +26,7 @@ use Rattle.rule.specs.Node.{blanks, holdsAll, allFit, allUnused, nodeOf, nodeIn
 use Rattle.rule.proofs.NodeLaws.{allUnused-blanks}
 use Rattle.rule.proofs.TableLaws.{before-total}
 use Rattle.nodes.specs.Lent.{nodeWith, pending, frontIn}
+use Rattle.nodes.proofs.LentLaws.{before-not-same}
 
 -- ---- two claims compared
 
@@ -46,17 +47,6 @@ module _ (c d : Claim) where
       go : (t : Bool) → eqb (c .sum) (d .sum) ≡ t → ltb (c .sum) (d .sum) ≡ cond t false (ltb (c .sum) (d .sum))
       go true p = le-ltb (c .sum) (d .sum) (let q : c .sum ≡ d .sum = eqb-true (c .sum) (d .sum) p in omega arith)
       go false p = refl
-
--- a claim that another comes before is not that other
-pub before-not-same : (c d : Claim) → before c d ≡ true → same d c ≡ false
-before-not-same c d h = go (same d c) refl
-  where
-    itself : before c c ≡ false
-    itself = rw (eq-eqb (c .cnt) (c .cnt) refl, eq-eqb (c .lo) (c .lo) refl, eq-eqb (c .hi) (c .hi) refl, eq-eqb (c .sum) (c .sum) refl)
-
-    go : (t : Bool) → same d c ≡ t → t ≡ false
-    go true e = absurd (false≢true (sym itself ∙ (ap (λ (x : Claim). before c x) (sym (same-claim d c e)) ∙ h)))
-    go false e = refl
 
 -- ---- the claim of zeros
 

@@ -1,5 +1,6 @@
--- What is left of a run computes the answer: the laws of the loops of src/leaf.rt that read a run of keys. Of each loop: how a turn goes on, and
--- what the answer is where it stops. Not here: halving (Halving), putting a key in (Putting). Assumes nothing.
+-- What is left of a run computes the answer: the loops `rises` and `blank` of src/leaf.rt. Of each: how a turn goes on, and what the answer is where it
+-- stops. Not here: the loops that halve, quarter and put in, each by the laws of its definition (HalvingLaws, QuarteringLaws, PuttingLaws).
+-- Assumes nothing.
 use mathlib.Core.Path.{_≡_, refl, _∙_}
 use mathlib.Core.Bool.{true, false, _&&_, and-true, and-assoc}
 use mathlib.Core.Logic.{⊎-elim}

@@ -3,11 +3,11 @@
 use mathlib.Core.Path.{_≡_, sym, _∙_, ap, ap₂}
 use mathlib.Core.Bool.{Bool, true, false, not, _&&_}
 use mathlib.Core.List.{List}
-use Prim.Native.Nat.{ℕ, _≤_, _<_}
+use Prim.Native.Nat.{ℕ, _+_, _-_, _≤_, _<_}
 use native.Mathlib.Omega.{arith}
 use borrow.Author.Tests.{lt-ltb, le-ltb, le-leb, lt-leb, eq-eqb, ne-eqb, ltb-true, leb-true, not-true, not-false}
 use lib.Dec.{leb, ltb}
-use lib.ListN.{length}
+use lib.ListN.{length, getD}
 use Rattle.keys.specs.declared.lent.Added.{Added}
 use Rattle.keys.specs.declared.lent.Place.{Place}
 use Rattle.keys.specs.declared.store.Store.{Store}
@@ -16,13 +16,15 @@ use Rattle.keys.specs.Lent.{placeIn, storeWith, Grown, grownWith, addBothIn}
 use Rattle.keys.proofs.Tests.{and-left, and-right}
 use Rattle.keys.proofs.LentLaws.{addBothIn-unfit}
 use Rattle.claims.specs.declared.answer.Answer.{Answer}
-use Rattle.claims.specs.declared.answer.Answer.the-variants.{Refused}
+use Rattle.claims.specs.declared.answer.Answer.the-variants.{Refused, Match, Ask, One, Two}
 use Rattle.claims.specs.declared.claim.Claim.{Claim}
 use Rattle.claims.specs.declared.lent.Heard.{Heard}
-use Rattle.claims.specs.Claim.{claimOf, noClaim}
+use Rattle.claims.specs.Claim.{xorAll, span, claimOf, noClaim}
+use Rattle.claims.specs.Reply.{same, half, decide}
 use Rattle.claims.specs.Call.{judged}
-use Rattle.claims.specs.Lent.{Hearing, hearingWith, heard, unheard, notHeard, hearIn, within, Positions, makeIn, answerAt, answerIn, repliedWith, replyIn}
-use Rattle.claims.proofs.LentLaws.{hearIn-judged, hearIn-unfit, hearIn-fit, hearIn-kept, hearIn-laid}
+use Rattle.claims.specs.Lent.{Hearing, hearingWith, heard, unheard, notHeard, hearIn}
+use Rattle.claims.specs.Lent.{within, Positions, makeIn, middle, helpIn, answerAt, answerIn, repliedWith, replyIn}
+use Rattle.claims.proofs.LentLaws.{hearIn-judged, hearIn-unfit, hearIn-fit, hearIn-kept, hearIn-laid, part, middle-half}
 
 -- `hear_in`
 
@@ -84,6 +86,50 @@ module _ (keys : List ℕ) (count first last : ℕ) where
         → record { number = 0; claim = c } ≡ makeIn (storeWith keys count) first last
     unfolding makeIn
     makeIn-claim e c f = rw (← told, not-false inside e, f)
+
+-- `claim_with` and `claim_at`
+
+-- a claim by the sum of its keys
+pub claim-summed : (keys : List ℕ) (first last sum : ℕ) → sum ≡ xorAll (span first last keys)
+    → record { lo = getD keys first 0; hi = getD keys last 0; sum = sum; cnt = last - first + 1 } ≡ claimOf first last keys
+claim-summed keys first last sum e = λ t. record { lo = getD keys first 0; hi = getD keys last 0; sum = e t; cnt = last - first + 1 }
+
+-- the code's part of a slice is the span
+pub part-span : (keys : List ℕ) (first last : ℕ) → first ≤ last → xorAll (part first (last + 1 - first) keys) ≡ xorAll (span first last keys)
+part-span keys first last h = let e : last + 1 - first ≡ last - first + 1 = omega arith in rw e
+
+-- `help_with`: the help, from the claims that it carries
+
+end-before : (m end : ℕ) → m ≡ end + 1 → m - 1 ≡ end
+end-before m end e = omega arith
+
+module _ (keys : List ℕ) (first last : ℕ) where
+  pub help-none : last ≤ first + 1 → Match ≡ helpIn keys first last
+  help-none h = rw (le-ltb (first + 1) last h)
+
+  pub help-one : first + 1 < last → last - 1 - (first + 1) < 3 → (c : Claim) → c ≡ claimOf (first + 1) (last - 1) keys → One c ≡ helpIn keys first last
+  help-one h g c e = rw (lt-ltb (first + 1) last h, lt-ltb (last - 1 - (first + 1)) 3 g) (ap One e)
+
+  pub help-two : first + 1 < last → 3 ≤ last - 1 - (first + 1)
+      → (c d : Claim) → c ≡ claimOf (first + 1) (middle first last - 1) keys → d ≡ claimOf (middle first last) (last - 1) keys
+      → Two c d ≡ helpIn keys first last
+  help-two h g c d e f =
+      let i = middle-half first last h in
+      let j = end-before (middle first last) (first + 1 + half (first + 1) (last - 1)) i in
+      rw (lt-ltb (first + 1) last h, le-ltb (last - 1 - (first + 1)) 3 g)
+      (ap₂ Two (e ∙ ap (λ (n : ℕ). claimOf (first + 1) n keys) j) (f ∙ ap (λ (n : ℕ). claimOf n (last - 1) keys) i))
+
+-- `answer_with`: the answer, from what comparing own with the claim said
+
+module _ (own mine c : Claim) (helped : Answer) (e : own ≡ mine) (alike : Bool) (compared : alike ≡ same own c) where
+  pub decide-match : alike ≡ true → Match ≡ decide mine c helped
+  decide-match t = rw (← e, ← compared, t)
+
+  pub decide-ask : alike ≡ false → own .cnt < c .cnt → Ask own ≡ decide mine c helped
+  decide-ask t h = rw (← e, ← compared, t, lt-ltb (own .cnt) (c .cnt) h)
+
+  pub decide-help : alike ≡ false → c .cnt ≤ own .cnt → (a : Answer) → a ≡ helped → a ≡ decide mine c helped
+  decide-help t h a f = f ∙ rw (← e, ← compared, t, le-ltb (own .cnt) (c .cnt) h)
 
 -- `answer_in`, by the places found
 

@@ -1,16 +1,13 @@
 -- Putting an element in at a place (specs/Lent, `insertedAt`), over the type of the elements: the loop that moves those above it up by one, from the
 -- last one down. The invariant (`Moved`): whatever is set at place i, the run is then that with it put in at i. Assumes nothing.
 use mathlib.Core.Path.{_≡_, sym, _∙_, ap}
-use mathlib.Core.Bool.{Bool, true, false, cond}
 use mathlib.Core.List.{List, [], _∷_, _++_, append-assoc}
 use Prim.Native.Nat.{ℕ, zero, suc, _+_, _-_, _≤_, _<_}
 use native.Mathlib.Numerals.{add-one}
 use native.Mathlib.Omega.{arith}
 use lib.ListN.{length, take, drop, getD, set, length-append, length-take, length-drop, List·getD-append}
 use lib.Seq.{set-split, set-at, getD-set-other, getD-take, take-suc, drop-cons, length-take-le}
-use Rattle.keys.specs.declared.lent.Place.{Place}
-use Rattle.keys.specs.Store.{limit}
-use Rattle.keys.specs.Lent.{insertedAt, lacking, putIn}
+use Rattle.keys.specs.Lent.{insertedAt}
 
 -- the run after moving up the elements from i on: whatever is set at i, it is then that put in at i
 abbrev pub Moved : {A : Type 0} → List A → List A → ℕ → ℕ → Type 0
@@ -63,11 +60,3 @@ pub length-insertedAt : {A : Type 0} (at count : ℕ) (x : A) (run : List A) →
     → length (insertedAt at count x run) ≡ length run
 unfolding insertedAt
 length-insertedAt at count x run h g = simp (length-append, length-take, length-drop) (omega arith)
-
-pub length-putIn : (p : Place) (count key : ℕ) (keys after : List ℕ) → after ≡ putIn p count key keys → p .at ≤ count → count + lacking p ≤ limit
-    → length keys ≡ limit → length after ≡ limit
-length-putIn p count key keys after put h f e = ap length put ∙ go (p .held) f
-  where
-    go : (t : Bool) → count + cond t 0 1 ≤ limit → length (cond t keys (insertedAt (p .at) count key keys)) ≡ limit
-    go true g = e
-    go false g = length-insertedAt (p .at) count key keys h (omega arith) ∙ e

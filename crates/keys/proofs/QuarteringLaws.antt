@@ -1,5 +1,5 @@
 -- Quartering, by which a key is found (specs/Lent, `quarterOf`, `quartered`): a turn of the loop, that the fuel is enough, and that one of the keys is
--- found. What quartering finds among rising keys is in Finding. Assumes nothing.
+-- found. What quartering finds among rising keys is in FindingLaws. Assumes nothing.
 use mathlib.Core.Path.{_≡_, refl, sym, _∙_, ap}
 use mathlib.Core.Bool.{Bool, true, false, cond}
 use mathlib.Core.Logic.{⊎-elim}
@@ -11,7 +11,7 @@ use lib.Dec.{leb}
 use lib.ListN.{getD}
 use Rattle.keys.specs.Lent.{halved, quarterOf, quartered}
 use Rattle.keys.proofs.Tests.{lt-or-le}
-use Rattle.keys.proofs.Halving.{halved-lt}
+use Rattle.keys.proofs.HalvingLaws.{halved-lt}
 
 -- the quarters before one of four are at most three
 pub quarters-le : (width up : ℕ) → up ≤ 3 → width * up ≤ 3 * width

@@ -16,8 +16,8 @@ use Rattle.keys.specs.Lent.{halved, quarterOf, quartered, placeAt, place
 use Rattle.keys.proofs.Tests.{lt-or-le}
 use Rattle.keys.proofs.Rising.{Rising, rising-getD, rising-getD-le}
 use Rattle.keys.proofs.Position.{position-is, holds-position}
-use Rattle.keys.proofs.Halving.{halved-one}
-use Rattle.keys.proofs.Quartering.{keptFrom, kept-end, quartered-few, quartered-many}
+use Rattle.keys.proofs.HalvingLaws.{halved-one}
+use Rattle.keys.proofs.QuarteringLaws.{keptFrom, kept-end, quartered-few, quartered-many}
 
 -- b is where the last key that is at most `key` stands, or 0 where there is none
 pub record Found (l : List ℕ) (key b : ℕ) : Type 0 where

@@ -1,5 +1,5 @@
 -- Halving, by which the last few keys are searched (specs/Lent, `halved`): a turn of the loop, that the fuel is enough, and that one of the keys is found.
--- What halving finds among rising keys is in Finding. Assumes nothing.
+-- What halving finds among rising keys is in FindingLaws. Assumes nothing.
 use mathlib.Core.Path.{_≡_, refl, sym, _∙_, ap}
 use mathlib.Core.Bool.{Bool, true, false, cond}
 use mathlib.Core.Logic.{⊎-elim}

@@ -1,0 +1,137 @@
+-- The calls on a lent run (src/lent.rt): one law for each way that the code goes, over the definitions of specs/Lent. What these mean where the run is
+-- a store in order is in LentLaws. Assumes nothing.
+use mathlib.Core.Path.{_≡_, _∙_, ap}
+use mathlib.Core.Bool.{Bool, true, false, not}
+use mathlib.Core.List.{List}
+use Prim.Native.Nat.{ℕ, _+_, _-_, _≤_, _<_}
+use native.Mathlib.Omega.{arith}
+use borrow.Author.Tests.{lt-ltb, le-ltb, le-leb, lt-leb, eq-eqb, ne-eqb, not-true, not-false}
+use lib.Dec.{leb, eqb}
+use lib.ListN.{length, take, drop, getD, length-drop}
+use lib.Seq.{take-all}
+use Rattle.keys.specs.declared.lent.Added.{Added}
+use Rattle.keys.specs.declared.lent.Place.{Place}
+use Rattle.keys.specs.Store.{limit, rising, allZero}
+use Rattle.keys.specs.Lent.{orderedIn, quartered, placeIn, insertedAt, lacking, putIn}
+use Rattle.keys.specs.Lent.{storeWith, Grown, grownWith, grown, noRoom, raised, addTwo, addIn, addBothIn}
+use Rattle.keys.proofs.QuarteringLaws.{quartered-lt}
+use Rattle.keys.proofs.LentLaws.{lacking-le, placeIn-le}
+
+-- `ordered_in`
+
+module _ (keys : List ℕ) (count : ℕ) where
+  pub ordered-long : limit < count → false ≡ orderedIn keys count
+  unfolding orderedIn
+  ordered-long h = rw (lt-leb count limit h)
+
+  pub ordered-short : count ≤ limit → length keys < count → false ≡ orderedIn keys count
+  unfolding orderedIn
+  ordered-short h g = rw (le-leb count limit h, lt-leb count (length keys) g)
+
+  module _ (few : count ≤ limit) (long : count ≤ length keys) (rises : Bool) (told : rises ≡ rising (take count keys)) where
+    pub ordered-not : not rises ≡ true → false ≡ orderedIn keys count
+    unfolding orderedIn
+    ordered-not e = rw (le-leb count limit few, le-leb count (length keys) long, ← told, not-true rises e)
+
+    pub ordered-blank : not rises ≡ false → (blank : Bool) → blank ≡ allZero (take (length keys - count) (drop count keys)) → blank ≡ orderedIn keys count
+    unfolding orderedIn
+    ordered-blank e blank looked =
+        let all : take (length keys - count) (drop count keys) ≡ drop count keys =
+        take-all (length keys - count) (drop count keys) (omega (arith, length-drop count keys)) in
+        looked ∙ rw (le-leb count limit few, le-leb count (length keys) long, ← told, not-false rises e, all)
+
+-- `place_in`
+
+abbrev pub nowhere : Place
+nowhere = record { at = 0; held = false }
+
+module _ (keys : List ℕ) (count key : ℕ) where
+  pub place-none : count ≡ 0 → nowhere ≡ placeIn keys count key
+  unfolding placeIn
+  place-none e = rw (le-ltb 0 count (omega arith))
+
+  pub place-short : (count ≡ 0 → ⊥) → length keys < count → nowhere ≡ placeIn keys count key
+  unfolding placeIn
+  place-short f h = rw (lt-ltb 0 count (omega arith), lt-leb count (length keys) h)
+
+  module _ (some : count ≡ 0 → ⊥) (fits : count ≤ length keys) (at : ℕ) (found : at ≡ quartered count keys key 0 count) where
+    pub place-lt : at < count
+    place-lt = omega (arith, quartered-lt count keys key 0 count (omega arith))
+
+    pub place-after : getD keys at 0 < key → record { at = at + 1; held = false } ≡ placeIn keys count key
+    unfolding placeIn
+    place-after h = rw (lt-ltb 0 count (omega arith), le-leb count (length keys) fits, ← found, lt-ltb (getD keys at 0) key h)
+
+    pub place-at : key ≤ getD keys at 0 → record { at = at; held = eqb (getD keys at 0) key } ≡ placeIn keys count key
+    unfolding placeIn
+    place-at h = rw (lt-ltb 0 count (omega arith), le-leb count (length keys) fits, ← found, le-ltb (getD keys at 0) key h)
+
+-- what the next call asks of a place
+pub place-le : (keys : List ℕ) (count key : ℕ) (p : Place) → p ≡ placeIn keys count key → p .at ≤ count
+place-le keys count key p found = rw found (placeIn-le keys count key)
+
+-- `put_in`
+
+module _ (p : Place) (count key : ℕ) (keys : List ℕ) where
+  pub putIn-held : not (p .held) ≡ false → keys ≡ putIn p count key keys
+  putIn-held e = rw (not-false (p .held) e)
+
+  pub putIn-missing : not (p .held) ≡ true → (after : List ℕ) → after ≡ insertedAt (p .at) count key keys → after ≡ putIn p count key keys
+  putIn-missing e after put = rw (not-true (p .held) e) put
+
+-- a missing key is put in below the limit
+pub putIn-fits : (p : Place) (count : ℕ) → not (p .held) ≡ true → count + lacking p ≤ limit → count < limit
+putIn-fits p count e h = let f : count + 1 ≤ limit = rw (not-true (p .held) e) at h in omega arith
+
+-- `add_in`: the key at its place p, `more` keys missing
+
+module _ (keys : List ℕ) (count key : ℕ) (p : Place) (found : p ≡ placeIn keys count key) (more : ℕ) (lacks : more ≡ lacking p) where
+  pub add-full : (r : Added) → r ≡ noRoom count → limit - more < count → grownWith keys r ≡ addIn (storeWith keys count) key
+  unfolding addIn
+  add-full r told h =
+      let full : leb (count + lacking p) limit ≡ false = lt-leb (count + lacking p) limit (omega (arith, lacking-le p)) in
+      rw (← found, full) (ap (grownWith keys) told)
+
+  pub add-room : count ≤ limit - more → (after : List ℕ) → after ≡ putIn p count key keys
+      → grownWith after (record { fits = true; count = count + more; first = p .at; last = p .at }) ≡ addIn (storeWith keys count) key
+  unfolding addIn
+  add-room h after put =
+      let fits : leb (count + lacking p) limit ≡ true = le-leb (count + lacking p) limit (omega (arith, lacking-le p)) in
+      rw (← found, fits) (λ i. grown (storeWith (put i) (count + lacks i)) (p .at) (p .at))
+
+-- `add_two`: the lesser key at p and the greater one at q
+
+module _ (p q : Place) (keys : List ℕ) (count lo hi : ℕ) where
+  pub two-fall : (r : Added) → r ≡ noRoom count → q .at < p .at → grownWith keys r ≡ addTwo p q lo hi (storeWith keys count)
+  two-fall r told h = rw (lt-leb (p .at) (q .at) h) (ap (grownWith keys) told)
+
+  module _ (rise : p .at ≤ q .at) (below above : ℕ) (lacks-p : below ≡ lacking p) (lacks-q : above ≡ lacking q) where
+    pub two-full : (r : Added) → r ≡ noRoom count → limit - (below + above) < count → grownWith keys r ≡ addTwo p q lo hi (storeWith keys count)
+    two-full r told h =
+        let full : leb (count + (lacking p + lacking q)) limit ≡ false =
+        lt-leb (count + (lacking p + lacking q)) limit (omega (arith, lacking-le p, lacking-le q)) in
+        rw (le-leb (p .at) (q .at) rise, full) (ap (grownWith keys) told)
+
+    pub two-room : count ≤ limit - (below + above) → (first after : List ℕ) → first ≡ putIn p count lo keys
+        → after ≡ putIn (record { at = q .at + below; held = q .held }) (count + below) hi first
+        → grownWith after (record { fits = true; count = count + below + above; first = p .at; last = q .at + below })
+        ≡ addTwo p q lo hi (storeWith keys count)
+    two-room h first after put put-more =
+        let fits : leb (count + (lacking p + lacking q)) limit ≡ true =
+        le-leb (count + (lacking p + lacking q)) limit (omega (arith, lacking-le p, lacking-le q)) in
+        let laid : after ≡ putIn (raised p q) (count + lacking p) hi (putIn p count lo keys) =
+        put-more ∙ (λ i. putIn (record { at = q .at + lacks-p i; held = q .held }) (count + lacks-p i) hi (put i)) in
+        rw (le-leb (p .at) (q .at) rise, fits)
+        (λ i. grown (storeWith (laid i) (count + lacks-p i + lacks-q i)) (p .at) (q .at + lacks-p i))
+
+-- `add_both_in`
+
+module _ (keys : List ℕ) (count lo hi : ℕ) (g : Grown) where
+  pub both-one : lo ≡ hi → g ≡ addIn (storeWith keys count) lo → g ≡ addBothIn (storeWith keys count) lo hi
+  unfolding addIn addBothIn
+  both-one e f = rw (eq-eqb lo hi e) f
+
+  pub both-two : (lo ≡ hi → ⊥) → (p q : Place) → p ≡ placeIn keys count lo → q ≡ placeIn keys count hi
+      → g ≡ addTwo p q lo hi (storeWith keys count) → g ≡ addBothIn (storeWith keys count) lo hi
+  unfolding addBothIn
+  both-two ne p q ep eq f = rw (ne-eqb lo hi ne, ← ep, ← eq) f
