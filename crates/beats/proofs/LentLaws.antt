@@ -13,7 +13,7 @@ use lib.Seq.{sets, sets-eq}
 use Rattle.keys.specs.declared.store.Store.{Store}
 use Rattle.keys.specs.Store.{limit, storeOf}
 use Rattle.keys.proofs.Rising.{Rising}
-use Rattle.keys.proofs.Order.{inOrder-count, inOrder-rising, length-keysOf, storeOf-keysOf, count-storeOf}
+use Rattle.keys.proofs.StoreLaws.{inOrder-count, inOrder-rising, length-keysOf, storeOf-keysOf, count-storeOf}
 use Rattle.claims.specs.declared.claim.Claim.{Claim}
 use Rattle.claims.specs.Claim.{claimOf, wholeClaim}
 use Rattle.claims.specs.Question.{firstNo, settle}

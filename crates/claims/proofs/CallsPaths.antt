@@ -15,7 +15,7 @@ use Rattle.keys.specs.Store.{limit, keysOf, storeOf, inOrder, insert, insertAll
 use Rattle.keys.specs.Lent.{orderedIn, storeWith, Grown, grownWith, addIn}
 use Rattle.keys.proofs.Tests.{lt-or-le, eq-or-ne}
 use Rattle.keys.proofs.Rising.{Rising}
-use Rattle.keys.proofs.Order.{inOrder-count, inOrder-rising, length-keysOf, storeOf-keysOf}
+use Rattle.keys.proofs.StoreLaws.{inOrder-count, inOrder-rising, length-keysOf, storeOf-keysOf}
 use Rattle.keys.proofs.LentLaws.{orderedIn-inOrder, addIn-fits, addIn-full}
 use Rattle.claims.specs.declared.answer.Answer.the-variants.{Refused}
 use Rattle.claims.specs.declared.answer.Made.{Made}

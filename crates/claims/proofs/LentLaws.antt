@@ -20,7 +20,7 @@ use Rattle.keys.specs.Lent.{placeIn, Grown, grown, addBothIn}
 use Rattle.keys.proofs.Tests.{and-left, and-right, and-both, eq-or-ne}
 use Rattle.keys.proofs.Rising.{Rising}
 use Rattle.keys.proofs.Position.{position-mono, getD-position}
-use Rattle.keys.proofs.Order.{keys-storeOf, count-storeOf, length-keys-storeOf}
+use Rattle.keys.proofs.StoreLaws.{keys-storeOf, count-storeOf, length-keys-storeOf}
 use Rattle.keys.proofs.LentLaws.{placeIn-store, addBothIn-fits, addBothIn-full, Laid, addBothIn-laid}
 use Rattle.claims.specs.declared.answer.Answer.{Answer}
 use Rattle.claims.specs.declared.answer.Answer.the-variants.{Refused, Match, Ask, One, Two}

@@ -14,7 +14,7 @@ use mir.Val.{toZ, ofZ}
 use Rattle.keys.specs.declared.lent.Added.{Added}
 use Rattle.keys.specs.Store.{limit}
 use Rattle.keys.specs.Lent.{storeWith, grownWith, addIn}
-use Rattle.keys.proofs.Order.{inOrder-count, length-keysOf}
+use Rattle.keys.proofs.StoreLaws.{inOrder-count, length-keysOf}
 use Rattle.claims.specs.Question.{Question, firstNo, question6}
 use Rattle.claims.proofs.QuestionLaws.{Numbered, firstNo-append-zero, firstNo-append-no}
 use Rattle.rule.specs.declared.node.Node.{Node}

@@ -8,7 +8,7 @@ use mathlib.Core.Path.{_≡_, ap, _∙_}
 use borrow.Author.Tests.{le-leb}
 use lib.ListN.{length, drop}
 use Rattle.keys.specs.Store.{limit}
-use Rattle.keys.proofs.Order.{inOrder-rising, inOrder-count, length-keysOf}
+use Rattle.keys.proofs.StoreLaws.{inOrder-rising, inOrder-count, length-keysOf}
 use Rattle.claims.specs.declared.claim.Claim.{Claim}
 use Rattle.claims.specs.Question.{firstNo}
 use Rattle.claims.specs.Words.{claimWidth}

@@ -15,7 +15,7 @@ use Rattle.keys.specs.Lent.{storeWith, Grown, grownWith, addIn}
 use Rattle.keys.proofs.Tests.{lt-or-le}
 use Rattle.keys.proofs.Rising.{Rising}
 use Rattle.keys.proofs.Insert.{insert-rising, mem-insert-old}
-use Rattle.keys.proofs.Order.{inOrder-rising, storeOf-keysOf, length-keys-storeOf}
+use Rattle.keys.proofs.StoreLaws.{inOrder-rising, storeOf-keysOf, length-keys-storeOf}
 use Rattle.keys.proofs.LentLaws.{addIn-fits, addIn-full, addIn-unfit}
 use Rattle.claims.specs.Question.{firstNo, question6}
 use Rattle.claims.specs.Call.{entered}

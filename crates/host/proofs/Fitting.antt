@@ -9,7 +9,7 @@ use lib.ListN.{length, drop, length-append, length-replicate}
 use Rattle.keys.specs.Store.{limit, zeros, storeOf}
 use Rattle.keys.proofs.Tests.{eq-or-ne}
 use Rattle.keys.proofs.Insert.{insert-mem}
-use Rattle.keys.proofs.Order.{keys-storeOf, keysOf-storeOf, length-keys-storeOf, inOrder-rising}
+use Rattle.keys.proofs.StoreLaws.{keys-storeOf, keysOf-storeOf, length-keys-storeOf, inOrder-rising}
 use Rattle.keys.proofs.Rising.{Rising}
 use Rattle.claims.specs.declared.claim.Claim.{Claim}
 use Rattle.claims.specs.Claim.{noClaim}

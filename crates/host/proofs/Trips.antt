@@ -10,7 +10,7 @@ use lib.IntN.{pos}
 use lib.ListN.{length, take, drop}
 use lib.Seq.{take-append-seam}
 use Rattle.keys.proofs.Tests.{eq-or-ne}
-use Rattle.keys.proofs.Order.{inOrder-rising}
+use Rattle.keys.proofs.StoreLaws.{inOrder-rising}
 use Rattle.claims.specs.declared.claim.Claim.{Claim}
 use Rattle.claims.specs.Question.{Question, firstNo, settle, question6}
 use Rattle.claims.proofs.QuestionLaws.{firstNo-append-zero, firstNo-append-no, settle-done, settle-refused}

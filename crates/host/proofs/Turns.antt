@@ -12,7 +12,7 @@ use lib.Dec.{eqb}
 use lib.ListN.{length, drop, getD, drop-of-length-le}
 use lib.Seq.{drop-cons}
 use Rattle.keys.specs.Store.{limit}
-use Rattle.keys.proofs.Order.{length-keys-storeOf}
+use Rattle.keys.proofs.StoreLaws.{length-keys-storeOf}
 use Rattle.keys.proofs.Tests.{and-left, and-right, eq-or-ne}
 use Rattle.claims.specs.declared.claim.Claim.{Claim}
 use Rattle.claims.specs.Claim.{noClaim}

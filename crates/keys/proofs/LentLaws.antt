@@ -21,7 +21,7 @@ use Rattle.keys.proofs.Tests.{eq-or-ne, and-left, and-right}
 use Rattle.keys.proofs.Rising.{Rising, rising-true, holds-mem, holds-absent, mem-holds, absent-holds, mem-or-absent}
 use Rattle.keys.proofs.Insert.{insert-rising, insert-held, mem-insert-new, length-insert-missing, length-insert-held, length-insert-ge, insert-mem, mem-insert-old}
 use Rattle.keys.proofs.Position.{position-le, position-mono, insert-position, position-insert-le, position-insert-self, position-insert-missing, position-insert-held}
-use Rattle.keys.proofs.Order.{allZero-zeros, count-storeOf, keys-storeOf, keysOf-storeOf}
+use Rattle.keys.proofs.StoreLaws.{allZero-zeros, count-storeOf, keys-storeOf, keysOf-storeOf}
 use Rattle.keys.proofs.QuarteringLaws.{quartered-lt}
 use Rattle.keys.proofs.PuttingLaws.{length-insertedAt}
 use Rattle.keys.proofs.FindingLaws.{placeIn-front}

@@ -4,7 +4,7 @@
 --   Rising          rising lists of keys, by their members
 --   Insert          entering keys
 --   Position        the position of a key
---   Order           a store in order (specs/Store)
+--   StoreLaws       a store in order (specs/Store)
 --   HalvingLaws, QuarteringLaws    the two searches of specs/Lent: a turn, the fuel
 --   FindingLaws     what they find among rising keys
 --   PuttingLaws     putting an element in at a place
@@ -16,7 +16,7 @@ pub mod Tests
 pub mod Rising
 pub mod Insert
 pub mod Position
-pub mod Order
+pub mod StoreLaws
 mod HalvingLaws
 mod QuarteringLaws
 mod FindingLaws

@@ -16,7 +16,7 @@ use Rattle.keys.specs.Store.{limit, keysOf, insert, insertAll}
 use Rattle.keys.proofs.Tests.{eq-or-ne}
 use Rattle.keys.proofs.Rising.{Rising, Sub, sub-refl, sub-trans, rising-length}
 use Rattle.keys.proofs.Insert.{length-insert-le, insert-sub, insert-rising, insertAll-sub, insertAll-rising, mem-insertAll-new}
-use Rattle.keys.proofs.Order.{inOrder-rising, keysOf-storeOf}
+use Rattle.keys.proofs.StoreLaws.{inOrder-rising, keysOf-storeOf}
 use Rattle.claims.specs.declared.claim.Claim.{Claim}
 use Rattle.claims.specs.Question.{Question, firstNo, question1, question6, claimQuestions}
 use Rattle.claims.specs.Reply.{ends}

@@ -13,7 +13,7 @@ use Rattle.keys.specs.Store.{limit, keysOf, storeOf, insert}
 use Rattle.keys.proofs.Tests.{eq-or-ne}
 use Rattle.keys.proofs.Rising.{Rising, Sub, sub-refl, sub-trans, sub-append-left}
 use Rattle.keys.proofs.Insert.{mem-insert-new, mem-insert-old, insert-sub, insert-rising}
-use Rattle.keys.proofs.Order.{keysOf-storeOf, count-storeOf, inOrder-rising}
+use Rattle.keys.proofs.StoreLaws.{keysOf-storeOf, count-storeOf, inOrder-rising}
 use Rattle.claims.specs.declared.claim.Claim.{Claim}
 use Rattle.claims.specs.Claim.{claimOf}
 use Rattle.claims.specs.Question.{firstNo}

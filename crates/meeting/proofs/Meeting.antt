@@ -13,7 +13,7 @@ use Rattle.keys.specs.declared.store.Store.{Store}
 use Rattle.keys.specs.Store.{limit, keysOf, storeOf, inOrder, allZero}
 use Rattle.keys.proofs.Tests.{and-left, and-right}
 use Rattle.keys.proofs.Rising.{Rising}
-use Rattle.keys.proofs.Order.{keysOf-storeOf, inOrder-storeOf, inOrder-rising}
+use Rattle.keys.proofs.StoreLaws.{keysOf-storeOf, inOrder-storeOf, inOrder-rising}
 use Rattle.claims.specs.Question.{firstNo}
 use Rattle.rule.specs.declared.node.Node.{Node}
 use Rattle.rule.specs.declared.delivery.Delivery.{Delivery}

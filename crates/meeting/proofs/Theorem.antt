@@ -5,7 +5,7 @@ use Prim.Native.Nat.{ℕ, _≤_}
 use mathlib.Core.List.{List, []}
 use Rattle.keys.specs.Store.{limit}
 use Rattle.keys.proofs.Rising.{true-rising}
-use Rattle.keys.proofs.Order.{inOrder-rising}
+use Rattle.keys.proofs.StoreLaws.{inOrder-rising}
 use Rattle.rule.proofs.NodeLaws.{ordered-nodeInOrder}
 use Rattle.rule.proofs.CallLaws.{met-bounded, met-waiting}
 use Rattle.meeting.specs.Event.{Event}

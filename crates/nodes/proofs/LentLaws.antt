@@ -15,7 +15,7 @@ use Rattle.keys.specs.declared.store.Store.{Store}
 use Rattle.keys.specs.Store.{limit, storeOf, insertAll}
 use Rattle.keys.proofs.Tests.{and-left, and-right, lt-or-le, eq-or-ne}
 use Rattle.keys.proofs.Rising.{Rising}
-use Rattle.keys.proofs.Order.{inOrder-rising, storeOf-keysOf}
+use Rattle.keys.proofs.StoreLaws.{inOrder-rising, storeOf-keysOf}
 use Rattle.claims.specs.declared.claim.Claim.{Claim}
 use Rattle.claims.specs.Claim.{noClaim}
 use Rattle.claims.specs.Reply.{same, ends, hear}

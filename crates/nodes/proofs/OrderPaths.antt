@@ -14,7 +14,7 @@ use lib.Seq.{drop-cons, getD-take, length-take-le, take-at, drop-at, take-length
 use Rattle.keys.specs.declared.lent.Place.{Place}
 use Rattle.keys.specs.Store.{limit, storeOf, inOrder, holds}
 use Rattle.keys.specs.Lent.{orderedIn, placeIn, storeWith}
-use Rattle.keys.proofs.Order.{keysOf-storeOf}
+use Rattle.keys.proofs.StoreLaws.{keysOf-storeOf}
 use Rattle.keys.proofs.LentLaws.{orderedIn-inOrder, orderedIn-all, placeIn-ordered}
 use Rattle.claims.specs.declared.claim.Claim.{Claim}
 use Rattle.claims.specs.Claim.{noClaim}

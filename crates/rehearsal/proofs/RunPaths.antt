@@ -10,7 +10,7 @@ use lib.Dec.{leb, lit<}
 use lib.ListN.{length, take, drop, length-drop}
 use lib.Seq.{take-all}
 use Rattle.keys.specs.declared.store.Store.{Store}
-use Rattle.keys.proofs.Order.{count-storeOf}
+use Rattle.keys.proofs.StoreLaws.{count-storeOf}
 use Rattle.keys.proofs.Tests.{and-right}
 use Rattle.claims.specs.Question.{Question, firstNo}
 use Rattle.claims.proofs.QuestionLaws.{Numbered, firstNo-zero, firstNo-append-zero, firstNo-append-no, settle-done}

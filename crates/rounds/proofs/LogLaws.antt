@@ -12,7 +12,7 @@ use lib.ListN.{length, take, drop, getD, set, replicate, length-replicate, lengt
 use lib.Seq.{length-take-le, take-suc, drop-cons, split-at, append-snoc, set-at, drop-append-le, take-length}
 use Rattle.keys.specs.declared.store.Store.{Store}
 use Rattle.keys.specs.Store.{limit, inOrder, keysOf, storeOf}
-use Rattle.keys.proofs.Order.{inOrder-rising}
+use Rattle.keys.proofs.StoreLaws.{inOrder-rising}
 use Rattle.keys.proofs.Tests.{eq-or-ne}
 use Rattle.claims.specs.declared.claim.Claim.{Claim}
 use Rattle.claims.specs.Question.{firstNo, settle}

@@ -13,7 +13,7 @@ use lib.ListN.{length, length-take}
 use Rattle.keys.specs.declared.store.Store.{Store}
 use Rattle.keys.specs.Store.{limit, keysOf, storeOf, inOrder, insertAll}
 use Rattle.keys.proofs.Tests.{eq-or-ne}
-use Rattle.keys.proofs.Order.{inOrder-count, inOrder-rising}
+use Rattle.keys.proofs.StoreLaws.{inOrder-count, inOrder-rising}
 use Rattle.claims.specs.declared.claim.Claim.{Claim}
 use Rattle.claims.specs.Question.{firstNo, question1, question6, claimQuestions}
 use Rattle.claims.specs.Reply.{ends, hear}

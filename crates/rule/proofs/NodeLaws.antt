@@ -14,7 +14,7 @@ use Rattle.keys.specs.declared.store.Store.{Store}
 use Rattle.keys.specs.Store.{limit, storeOf, inOrder, holds}
 use Rattle.keys.proofs.Tests.{and-left, and-right, and-both}
 use Rattle.keys.proofs.Rising.{Rising, Sub, sub-trans, holds-mem, mem-holds}
-use Rattle.keys.proofs.Order.{keysOf-storeOf, storeOf-keysOf, inOrder-storeOf, emptyStore-storeOf}
+use Rattle.keys.proofs.StoreLaws.{keysOf-storeOf, storeOf-keysOf, inOrder-storeOf, emptyStore-storeOf}
 use Rattle.claims.specs.declared.claim.Claim.{Claim}
 use Rattle.claims.specs.Reply.{ends, same}
 use Rattle.claims.specs.Call.{judged}

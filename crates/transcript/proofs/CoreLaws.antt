@@ -10,7 +10,7 @@ use lib.ListN.{length, length-append, length-map}
 use Rattle.keys.specs.declared.store.Store.{Store}
 use Rattle.keys.specs.Store.{limit, storeOf}
 use Rattle.keys.proofs.Rising.{Rising, rising-length}
-use Rattle.keys.proofs.Order.{count-storeOf}
+use Rattle.keys.proofs.StoreLaws.{count-storeOf}
 use Rattle.claims.specs.declared.claim.Claim.{Claim}
 use Rattle.claims.specs.Claim.{claimOf, wholeClaim}
 use Rattle.claims.specs.Reply.{hear, reply, claimsOf}

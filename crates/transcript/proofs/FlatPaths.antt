@@ -11,7 +11,7 @@ use lib.Seq.{length-take-le}
 use Rattle.keys.specs.declared.store.Store.{Store}
 use Rattle.keys.specs.Store.{limit, rising, keysOf, storeOf}
 use Rattle.keys.specs.Lent.{orderedIn, storeWith}
-use Rattle.keys.proofs.Order.{inOrder-rising, storeOf-keysOf}
+use Rattle.keys.proofs.StoreLaws.{inOrder-rising, storeOf-keysOf}
 use Rattle.keys.proofs.LentLaws.{orderedIn-inOrder, orderedIn-long, orderedIn-rising, orderedIn-short}
 use Rattle.claims.specs.declared.answer.Made.{Made}
 use Rattle.claims.specs.declared.claim.Claim.{Claim}

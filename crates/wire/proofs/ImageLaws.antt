@@ -9,7 +9,7 @@ use lib.Dec.{leb, eqb, lit<}
 use lib.ListN.{length, length-append}
 use lib.Seq.{length-take-le}
 use Rattle.keys.specs.Store.{limit}
-use Rattle.keys.proofs.Order.{inOrder-count}
+use Rattle.keys.proofs.StoreLaws.{inOrder-count}
 use Rattle.keys.proofs.Tests.{and-left, and-right}
 use Rattle.claims.specs.Question.{firstNo}
 use Rattle.claims.proofs.QuestionLaws.{firstNo-zero}

@@ -5,7 +5,7 @@ use borrow.Author.Needs.{needs}
 use lib.ListN.{length}
 use lib.Seq.{length-take-le}
 use Rattle.keys.specs.Store.{limit, zeros, emptyStore}
-use Rattle.keys.proofs.Order.{length-zeros}
+use Rattle.keys.proofs.StoreLaws.{length-zeros}
 use Rattle.wire.specs.declared.answer.Imaged.{Imaged}
 use Rattle.wire.specs.Lent.{readInLent}
 use Rattle.wire.proofs.ImageLaws.{readImage-number}
