@@ -122,7 +122,8 @@ length-rising-range lo hi (x ∷ xs) r f =
     none [] g h = omega arith
     none (k ∷ ks) g h = let t = g k (List·Memᴰ·head refl) in absurd (omega (arith, t .0, t .1))
 
-    go : (x < hi) ⊎ (hi ≤ x) → length xs ≤ hi - suc x + 1 → (lo ≤ x) × (x ≤ hi) → ((k : ℕ) → List·Memᴰ k xs → (x < k) × (k ≤ hi)) → length (x ∷ xs) ≤ hi - lo + 1
+    go : (x < hi) ⊎ (hi ≤ x) → length xs ≤ hi - suc x + 1 → (lo ≤ x) × (x ≤ hi)
+        → ((k : ℕ) → List·Memᴰ k xs → (x < k) × (k ≤ hi)) → length (x ∷ xs) ≤ hi - lo + 1
     go (inl h) rest b g = let p : lo ≤ x = b .0 in omega arith
     go (inr h) rest b g = let p : length xs ≤ 0 = none xs g h in omega arith
 
@@ -165,7 +166,8 @@ pub between-append : (lo hi : ℕ) (a b : List ℕ) → between lo hi (a ++ b) �
 between-append lo hi [] b = refl
 between-append lo hi (x ∷ xs) b = go (lies lo hi x) (between-append lo hi xs b)
   where
-    go : Lies lo hi x → between lo hi (xs ++ b) ≡ between lo hi xs ++ between lo hi b → between lo hi (x ∷ (xs ++ b)) ≡ between lo hi (x ∷ xs) ++ between lo hi b
+    go : Lies lo hi x → between lo hi (xs ++ b) ≡ between lo hi xs ++ between lo hi b
+        → between lo hi (x ∷ (xs ++ b)) ≡ between lo hi (x ∷ xs) ++ between lo hi b
     go (within p q) rest = rw (between-within lo hi x xs p q, between-within lo hi x (xs ++ b) p q) (ap (λ (ks : List ℕ). x ∷ ks) rest)
     go (below p) rest = rw (between-below lo hi x xs p, between-below lo hi x (xs ++ b) p) rest
     go (beyond p) rest = rw (between-beyond lo hi x xs p, between-beyond lo hi x (xs ++ b) p) rest
@@ -197,7 +199,8 @@ between-insert-outside lo hi k [] (inl h) = between-below lo hi k [] h
 between-insert-outside lo hi k [] (inr h) = between-beyond lo hi k [] h
 between-insert-outside lo hi k (x ∷ xs) c = go (order x k) (lies lo hi x) c (between-insert-outside lo hi k xs c)
   where
-    go : Order x k → Lies lo hi x → (k < lo) ⊎ (hi < k) → between lo hi (insert k xs) ≡ between lo hi xs → between lo hi (insert k (x ∷ xs)) ≡ between lo hi (x ∷ xs)
+    go : Order x k → Lies lo hi x → (k < lo) ⊎ (hi < k) → between lo hi (insert k xs) ≡ between lo hi xs
+        → between lo hi (insert k (x ∷ xs)) ≡ between lo hi (x ∷ xs)
     go (less g) (within p q) o rest =
         rw (insert-after k x xs g, between-within lo hi x xs p q, between-within lo hi x (insert k xs) p q) (ap (λ (ks : List ℕ). x ∷ ks) rest)
     go (less g) (below p) o rest = rw (insert-after k x xs g, between-below lo hi x xs p, between-below lo hi x (insert k xs) p) rest
@@ -256,7 +259,8 @@ between-inside lo hi l r h m n =
     (between-join (suc lo) (hi - 1) hi l r (omega arith) (omega arith)
     ∙ ap (λ (t : List ℕ). inside lo hi l ++ t) (ap (λ (k : ℕ). between k hi l) e ∙ between-one hi l r n))
 
-pub length-between-inside : (lo hi : ℕ) (l : List ℕ) → Rising l → lo < hi → List·Memᴰ lo l → List·Memᴰ hi l → length (between lo hi l) ≡ length (inside lo hi l) + 2
+pub length-between-inside : (lo hi : ℕ) (l : List ℕ) → Rising l → lo < hi → List·Memᴰ lo l → List·Memᴰ hi l
+    → length (between lo hi l) ≡ length (inside lo hi l) + 2
 length-between-inside lo hi l r h m n = ap length (between-inside lo hi l r h m n) ∙ ap suc (length-append (inside lo hi l) (hi ∷ [])) ∙ (omega arith)
 
 -- a range strictly inside has at least two keys fewer ..

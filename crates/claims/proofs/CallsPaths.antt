@@ -164,7 +164,8 @@ module _ (s : Store) (long : length (s .keys) ≡ limit) (ordered : Bool) (teste
 
       pub replyIn-replied : replyIn s c ≡ replied s c
       replyIn-replied = ⊎-elim {C = replyIn s c ≡ replied s c}
-          (λ (pass : judged c ≡ 0). ⊎-elim {C = replyIn s c ≡ replied s c} (replied-full pass) (replied-fits pass) (lt-or-le limit (length (hear c (keysOf s)))))
+          (λ (pass : judged c ≡ 0).
+          ⊎-elim {C = replyIn s c ≡ replied s c} (replied-full pass) (replied-fits pass) (lt-or-le limit (length (hear c (keysOf s)))))
           replied-judged (eq-or-ne (judged c) 0)
 
       pub replied-told : (t : Told) (after : List ℕ) → repliedWith after t ≡ replyIn s c → Replying s c (repliedWith after t)

@@ -63,7 +63,8 @@ abbrev pub spanClaim : List ℕ → Claim
 spanClaim l = record { lo = first l; hi = last l; sum = xorAll l; cnt = length l }
 
 pub claimOf-span : (i j : ℕ) (l : List ℕ) → i ≤ j → j < length l → claimOf i j l ≡ spanClaim (span i j l)
-claimOf-span i j l h g = claim-ext (claimOf i j l) (spanClaim (span i j l)) (sym (first-span i j l)) (sym (last-span i j l h g)) refl (sym (length-span i j l h g))
+claimOf-span i j l h g =
+    claim-ext (claimOf i j l) (spanClaim (span i j l)) (sym (first-span i j l)) (sym (last-span i j l h g)) refl (sym (length-span i j l h g))
 
 pub claimOf-between : (i j : ℕ) (l : List ℕ) → Rising l → i ≤ j → j < length l → claimOf i j l ≡ spanClaim (between (getD l i 0) (getD l j 0) l)
 claimOf-between i j l r h g = claimOf-span i j l h g ∙ ap spanClaim (span-between i j l r h g)
@@ -115,4 +116,5 @@ abbrev pub rangeClaim : ℕ → ℕ → List ℕ → Claim
 rangeClaim lo hi l = record { lo = lo; hi = hi; sum = xorAll (between lo hi l); cnt = length (between lo hi l) }
 
 pub spanClaim-range : (lo hi : ℕ) (l : List ℕ) → Rising l → lo ≤ hi → List·Memᴰ lo l → List·Memᴰ hi l → spanClaim (between lo hi l) ≡ rangeClaim lo hi l
-spanClaim-range lo hi l r h m n = claim-ext (spanClaim (between lo hi l)) (rangeClaim lo hi l) (first-between lo hi l r h m) (last-between lo hi l r h n) refl refl
+spanClaim-range lo hi l r h m n =
+    claim-ext (spanClaim (between lo hi l)) (rangeClaim lo hi l) (first-between lo hi l r h m) (last-between lo hi l r h n) refl refl

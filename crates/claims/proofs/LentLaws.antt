@@ -33,7 +33,8 @@ use Rattle.claims.specs.Reply.{hear, own, same, decide, half, help, answ
 use Rattle.claims.specs.Call.{judged}
 use Rattle.claims.specs.Lent.{hearQuestions, Hearing, heard, unheard, hearIn, within, makeIn, middle, Halves, helpIn, answerAt, answerIn, replyIn}
 use Rattle.claims.proofs.Xor.{xor-assoc, xorAll-append, xorAll-snoc}
-use Rattle.claims.proofs.QuestionLaws.{Passes, firstNo-append-zero, firstNo-append-no, settle-kept, claimQuestions-numbered, passes-firstNo, judged-firstNo}
+use Rattle.claims.proofs.QuestionLaws.{Passes, passes-firstNo, judged-firstNo}
+use Rattle.claims.proofs.QuestionLaws.{firstNo-append-zero, firstNo-append-no, settle-kept, claimQuestions-numbered}
 use Rattle.claims.proofs.ClaimLaws.{claim-ext}
 use Rattle.claims.proofs.ReplyLaws.{numberOf-help, numberOf-decide, hear-rising, hear-lo, hear-hi, helper-positions}
 
@@ -209,7 +210,8 @@ module _ (l : List ℕ) (rise : Rising l) (c : Claim) (good : Passes c) where
   unfolding replyIn
   replyIn-fits h =
       rw (hearIn-fits l rise c good h)
-      (ap (λ (a : Answer). record { store = storeOf (hear c l); answer = a }) (answerAt-store (hear c l) h (hear-rising c l rise) c good (hear-lo c l) (hear-hi c l)))
+      (ap (λ (a : Answer). record { store = storeOf (hear c l); answer = a })
+      (answerAt-store (hear c l) h (hear-rising c l rise) c good (hear-lo c l) (hear-hi c l)))
 
   pub replyIn-full : limit < length (hear c l) → replyIn (storeOf l) c ≡ record { store = storeOf l; answer = Refused 6 }
   unfolding replyIn
@@ -269,8 +271,10 @@ module _ (keys : List ℕ) (first last left right : ℕ) (halves : Halves keys f
       let e : last - first + 1 ≡ suc (suc n) = omega arith in
       let f : suc first + n ≡ last = omega arith in
       let g : last - 1 - (first + 1) + 1 ≡ n = omega arith in
-      let a : bitXor (xorAll (part first (suc (suc n)) keys)) (getD keys first 0) ≡ xorAll (part (suc first) (suc n) keys) = xor-first first (suc n) keys (omega arith) in
-      let b : bitXor (xorAll (part (suc first) (suc n) keys)) (getD keys (suc first + n) 0) ≡ xorAll (part (suc first) n keys) = xor-last (suc first) n keys (omega arith) in
+      let a : bitXor (xorAll (part first (suc (suc n)) keys)) (getD keys first 0) ≡ xorAll (part (suc first) (suc n) keys) =
+      xor-first first (suc n) keys (omega arith) in
+      let b : bitXor (xorAll (part (suc first) (suc n) keys)) (getD keys (suc first + n) 0) ≡ xorAll (part (suc first) n keys) =
+      xor-last (suc first) n keys (omega arith) in
       rw (halves-sum, e, a, g, add-one first) (rw f at b)
 
   pub left-sum : first + 1 < last → bitXor left (getD keys first 0) ≡ xorAll (span (first + 1) (middle first last - 1) keys)
@@ -289,5 +293,6 @@ module _ (keys : List ℕ) (first last left right : ℕ) (halves : Halves keys f
       let e : last + 1 - middle first last ≡ suc n = omega arith in
       let f : middle first last + n ≡ last = omega arith in
       let k : last - 1 - middle first last + 1 ≡ n = omega arith in
-      let a : bitXor (xorAll (part (middle first last) (suc n) keys)) (getD keys (middle first last + n) 0) ≡ xorAll (part (middle first last) n keys) = xor-last (middle first last) n keys (omega arith) in
+      let a : bitXor (xorAll (part (middle first last) (suc n) keys)) (getD keys (middle first last + n) 0) ≡ xorAll (part (middle first last) n keys) =
+      xor-last (middle first last) n keys (omega arith) in
       rw (halves .right-sum, e, k) (rw f at a)

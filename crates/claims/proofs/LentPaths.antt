@@ -42,7 +42,8 @@ module _ (keys : List ℕ) (count : ℕ) (c : Claim) where
     pub heard-unfit : not (a .fits) ≡ true → (r : Heard) → r ≡ notHeard 6 count → hearingWith after r ≡ hearIn (storeWith keys count) c
     heard-unfit f r told =
         let no = sym fits-is ∙ not-true (a .fits) f in
-        let kept : after ≡ keys = ap (λ (g : Grown). g .store .keys) added ∙ ap (λ (s : Store). s .keys) (addBothIn-unfit (storeWith keys count) (c .lo) (c .hi) no) in
+        let kept : after ≡ keys =
+        ap (λ (g : Grown). g .store .keys) added ∙ ap (λ (s : Store). s .keys) (addBothIn-unfit (storeWith keys count) (c .lo) (c .hi) no) in
         ap₂ hearingWith kept told ∙ sym (hearIn-unfit (storeWith keys count) c (sym asked ∙ pass) no)
 
     pub heard-added : not (a .fits) ≡ false

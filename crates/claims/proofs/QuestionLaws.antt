@@ -122,9 +122,11 @@ passes-question4 c p =
     (λ (e : c .lo ≡ c .hi). rw (eq-eqb (c .lo) (c .hi) e) (eq-eqb (c .cnt) 1 (p .alone e)))
     (λ (f : c .lo ≡ c .hi → ⊥).
     let o : c .lo ≤ c .hi = p .ordered in
-    let g : c .lo < c .hi = ⊎-elim {C = c .lo < c .hi} (λ (z : c .lo < c .hi). z) (λ (z : c .hi ≤ c .lo). absurd (f (omega arith))) (lt-or-le (c .lo) (c .hi)) in
+    let g : c .lo < c .hi =
+    ⊎-elim {C = c .lo < c .hi} (λ (z : c .lo < c .hi). z) (λ (z : c .hi ≤ c .lo). absurd (f (omega arith))) (lt-or-le (c .lo) (c .hi)) in
     rw (ne-eqb (c .lo) (c .hi) f)
-    (and-both (leb 2 (c .cnt)) (leb (c .cnt) (c .hi - c .lo + 1)) (le-leb 2 (c .cnt) (p .several g .0)) (le-leb (c .cnt) (c .hi - c .lo + 1) (p .several g .1))))
+    (and-both (leb 2 (c .cnt)) (leb (c .cnt) (c .hi - c .lo + 1)) (le-leb 2 (c .cnt) (p .several g .0))
+    (le-leb (c .cnt) (c .hi - c .lo + 1) (p .several g .1))))
     (eq-or-ne (c .lo) (c .hi))
 
 pub passes-question5 : (c : Claim) → Passes c → (question5 c) .yes ≡ true

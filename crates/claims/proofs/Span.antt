@@ -1,6 +1,6 @@
--- The keys at positions i to j: `span` of Claim, and what it has to do with `between`. In order: the first and the last key of a list; the keys
--- from the first of a part to its last are that part; length, keys and cuts of a span; the bridge, `span-between`: positions i to j of rising keys are the keys from
--- key i to key j. Above this file nothing needs positions. Assumes nothing.
+-- The keys at positions i to j: `span` of Claim, and what it has to do with `between`. In order: the first and the last key of a list; the keys from the
+-- first to the last are all of them; length, keys and cuts of a span; the bridge, `span-between`: positions i to j of rising keys are the keys from key i
+-- to key j. Above this file nothing needs positions. Assumes nothing.
 use Prim.Native.Nat.{ℕ, zero, suc, _+_, _-_, _≤_, _<_}
 use mathlib.Core.List.{List, [], _∷_, _++_, List·Memᴰ, List·Memᴰ·head, List·Memᴰ·tail, List·Memᴰ·not-nil, List·Memᴰ·cases-cons}
 use mathlib.Core.Logic.{⊎-elim}

@@ -37,7 +37,8 @@ xor-assoc-to zero a b c h =
     rw (e, xor-zero-l b, xor-zero-l (bitXor b c))
 xor-assoc-to (suc n) a b c h =
     let below : bitXor (bitXor (a / 2) (b / 2)) (c / 2) ≡ bitXor (a / 2) (bitXor (b / 2) (c / 2)) = xor-assoc-to n (a / 2) (b / 2) (c / 2) (omega arith) in
-    let high : bitXor (bitXor a b) c / 2 ≡ bitXor a (bitXor b c) / 2 = rw (xor-shr (bitXor a b) c 1, xor-shr a b 1, xor-shr a (bitXor b c) 1, xor-shr b c 1) below in
+    let high : bitXor (bitXor a b) c / 2 ≡ bitXor a (bitXor b c) / 2 =
+    rw (xor-shr (bitXor a b) c 1, xor-shr a b 1, xor-shr a (bitXor b c) 1, xor-shr b c 1) below in
     let low : bitXor (bitXor a b) c % 2 ≡ bitXor a (bitXor b c) % 2
     = rw (xor-mod (bitXor a b) c 1, xor-mod a b 1, xor-mod a (bitXor b c) 1, xor-mod b c 1)
     (xor-assoc-bit (bit (a % 2) (omega arith)) (bit (b % 2) (omega arith)) (bit (c % 2) (omega arith))) in

@@ -62,7 +62,9 @@ module _ (l : List ℕ) (key : ℕ) (rise : Rising l) where
 
   -- of rising keys, those that are at most `key` come first
   kept-rising : (base width : ℕ) → base + width + width + width < length l → Kept l key base width (quarterOf l key base width)
-  kept-rising base width fits = go (leb (getD l (base + width) 0) key) refl (leb (getD l (base + width + width) 0) key) refl (leb (getD l (base + width + width + width) 0) key) refl
+  kept-rising base width fits =
+      go (leb (getD l (base + width) 0) key) refl (leb (getD l (base + width + width) 0) key) refl
+      (leb (getD l (base + width + width + width) 0) key) refl
     where
       third : getD l (base + width) 0 ≤ getD l (base + width + width) 0
       third = rising-getD-le l rise (base + width) (base + width + width) (omega arith) (omega arith)
@@ -70,7 +72,9 @@ module _ (l : List ℕ) (key : ℕ) (rise : Rising l) where
       fourth : getD l (base + width + width) 0 ≤ getD l (base + width + width + width) 0
       fourth = rising-getD-le l rise (base + width + width) (base + width + width + width) (omega arith) fits
 
-      go : (a : Bool) → leb (getD l (base + width) 0) key ≡ a → (b : Bool) → leb (getD l (base + width + width) 0) key ≡ b → (c : Bool) → leb (getD l (base + width + width + width) 0) key ≡ c
+      go : (a : Bool) → leb (getD l (base + width) 0) key ≡ a
+          → (b : Bool) → leb (getD l (base + width + width) 0) key ≡ b
+          → (c : Bool) → leb (getD l (base + width + width + width) 0) key ≡ c
           → Kept l key base width (cond a 1 0 + cond b 1 0 + cond c 1 0)
       go false e false f false g =
           let to : base + width * 0 + width ≡ base + width = omega arith in
@@ -80,12 +84,16 @@ module _ (l : List ℕ) (key : ℕ) (rise : Rising l) where
           record { from = inr (rw from (leb-true (getD l (base + width) 0) key e)); to = inr (rw from (leb-false (getD l (base + width + width) 0) key f)) }
       go true e true f false g =
           let from : base + width * 2 ≡ base + width + width = omega arith in
-          record { from = inr (rw from (leb-true (getD l (base + width + width) 0) key f)); to = inr (rw from (leb-false (getD l (base + width + width + width) 0) key g)) }
+          record {
+            from = inr (rw from (leb-true (getD l (base + width + width) 0) key f));
+            to = inr (rw from (leb-false (getD l (base + width + width + width) 0) key g));
+          }
       go true e true f true g =
           let from : base + width * 3 ≡ base + width + width + width = omega arith in
           record { from = inr (rw from (leb-true (getD l (base + width + width + width) 0) key g)); to = inl refl }
       go false e true f c g = absurd (omega (arith, third, leb-false (getD l (base + width) 0) key e, leb-true (getD l (base + width + width) 0) key f))
-      go a e false f true g = absurd (omega (arith, fourth, leb-false (getD l (base + width + width) 0) key f, leb-true (getD l (base + width + width + width) 0) key g))
+      go a e false f true g =
+          absurd (omega (arith, fourth, leb-false (getD l (base + width + width) 0) key f, leb-true (getD l (base + width + width + width) 0) key g))
 
   pub quartered-found : (n base size : ℕ) → 0 < size → base + size ≤ length l
       → ((j : ℕ) → base + size ≤ j → j < length l → key < getD l j 0)
@@ -143,7 +151,8 @@ module _ (l : List ℕ) (key : ℕ) (rise : Rising l) where
     holds-after-found : getD l b 0 < key → holds key l ≡ false
     holds-after-found h =
         holds-position key l rise
-        ∙ rw (position-after-found h) (⊎-elim {C = (ltb (suc b) (length l) && eqb (getD l (suc b) 0) key) ≡ false} ends goes-on (lt-or-le (length l) (suc (suc b))))
+        ∙ rw (position-after-found h)
+        (⊎-elim {C = (ltb (suc b) (length l) && eqb (getD l (suc b) 0) key) ≡ false} ends goes-on (lt-or-le (length l) (suc (suc b))))
       where
         ends : length l < suc (suc b) → (ltb (suc b) (length l) && eqb (getD l (suc b) 0) key) ≡ false
         ends p = rw (le-ltb (suc b) (length l) (omega arith))
@@ -167,7 +176,8 @@ pub halved-agree : (n : ℕ) (a b : List ℕ) (key base size m : ℕ) → 0 < si
     → halved n a key base size ≡ halved n b key base size
 halved-agree zero a b key base size m h g f = refl
 halved-agree (suc n) a b key base size m h g f =
-    rw (f (base + size / 2) (omega arith)) (go (leb (getD b (base + size / 2) 0) key) (λ base′ p. halved-agree n a b key base′ (size - size / 2) m (omega arith) p f))
+    rw (f (base + size / 2) (omega arith))
+    (go (leb (getD b (base + size / 2) 0) key) (λ base′ p. halved-agree n a b key base′ (size - size / 2) m (omega arith) p f))
   where
     go : (t : Bool) → ((base′ : ℕ) → base′ + (size - size / 2) ≤ m → halved n a key base′ (size - size / 2) ≡ halved n b key base′ (size - size / 2))
         → halved n a key (cond t (base + size / 2) base) (size - size / 2) ≡ halved n b key (cond t (base + size / 2) base) (size - size / 2)

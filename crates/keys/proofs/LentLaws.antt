@@ -19,8 +19,10 @@ use Rattle.keys.specs.Lent.{orderedIn, quartered, placeAt, placeIn, inse
 use Rattle.keys.specs.Lent.{Grown, grown, unfit, room, withKey, addOne, raised, fitTwo, addTwo, addIn, addBothIn}
 use Rattle.keys.proofs.Tests.{eq-or-ne, and-left, and-right}
 use Rattle.keys.proofs.Rising.{Rising, rising-true, holds-mem, holds-absent, mem-holds, absent-holds, mem-or-absent}
-use Rattle.keys.proofs.Insert.{insert-rising, insert-held, mem-insert-new, length-insert-missing, length-insert-held, length-insert-ge, insert-mem, mem-insert-old}
-use Rattle.keys.proofs.Position.{position-le, position-mono, insert-position, position-insert-le, position-insert-self, position-insert-missing, position-insert-held}
+use Rattle.keys.proofs.Insert.{insert-rising, insert-held, insert-mem, mem-insert-new, mem-insert-old}
+use Rattle.keys.proofs.Insert.{length-insert-missing, length-insert-held, length-insert-ge}
+use Rattle.keys.proofs.Position.{position-le, position-mono, insert-position}
+use Rattle.keys.proofs.Position.{position-insert-le, position-insert-self, position-insert-missing, position-insert-held}
 use Rattle.keys.proofs.StoreLaws.{allZero-zeros, count-storeOf, keys-storeOf, keysOf-storeOf}
 use Rattle.keys.proofs.QuarteringLaws.{quartered-lt}
 use Rattle.keys.proofs.PuttingLaws.{length-insertedAt}
@@ -32,7 +34,8 @@ pub orderedIn-inOrder : (s : Store) → length (s .keys) ≡ limit → orderedIn
 unfolding orderedIn inOrder
 orderedIn-inOrder s e = rw e (go (leb (s .count) limit))
   where
-    go : (t : Bool) → (t && (t && (rising (keysOf s) && allZero (drop (s .count) (s .keys))))) ≡ (t && (rising (keysOf s) && allZero (drop (s .count) (s .keys))))
+    go : (t : Bool) → (t && (t && (rising (keysOf s) && allZero (drop (s .count) (s .keys)))))
+        ≡ (t && (rising (keysOf s) && allZero (drop (s .count) (s .keys))))
     go true = refl
     go false = refl
 
@@ -69,7 +72,9 @@ module _ (keys : List ℕ) (count : ℕ) (yes : orderedIn keys count ≡ true) w
   orderedIn-long = leb-true count (length keys) (and-left (leb count (length keys)) (rising (take count keys) && allZero (drop count keys)) rest)
 
   pub orderedIn-rising : rising (take count keys) ≡ true
-  orderedIn-rising = and-left (rising (take count keys)) (allZero (drop count keys)) (and-right (leb count (length keys)) (rising (take count keys) && allZero (drop count keys)) rest)
+  orderedIn-rising =
+      and-left (rising (take count keys)) (allZero (drop count keys))
+      (and-right (leb count (length keys)) (rising (take count keys) && allZero (drop count keys)) rest)
 
   pub orderedIn-short : length (take count keys) ≤ limit
   orderedIn-short = rw (length-take count keys) (omega (arith, orderedIn-limit))
@@ -83,27 +88,7 @@ lacking-le p = go (p .held)
     go true = omega arith
     go false = omega arith
 
--- a place is at most the count
-pub placeAt-le : (at found key count : ℕ) → at < count → placeAt at found key .at ≤ count
-placeAt-le at found key count h = go (ltb found key)
-  where
-    go : (t : Bool) → (cond {A = Place} t (record { at = at + 1; held = false }) (record { at = at; held = eqb found key })) .at ≤ count
-    go true = omega arith
-    go false = omega arith
-
-pub placeIn-le : (keys : List ℕ) (count key : ℕ) → placeIn keys count key .at ≤ count
-unfolding placeIn
-placeIn-le keys count key = go (ltb 0 count && leb count (length keys)) refl
-  where
-    go : (t : Bool) → (ltb 0 count && leb count (length keys)) ≡ t
-        → (cond t (placeAt (quartered count keys key 0 count) (getD keys (quartered count keys key 0 count) 0) key) (record { at = 0; held = false })) .at ≤ count
-    go true e =
-        let some : 0 < count = ltb-true 0 count (and-left (ltb 0 count) (leb count (length keys)) e) in
-        let l : quartered count keys key 0 count < 0 + count = quartered-lt count keys key 0 count some in
-        placeAt-le (quartered count keys key 0 count) (getD keys (quartered count keys key 0 count) 0) key count (omega arith)
-    go false e = omega arith
-
--- and below it, once the key is put in
+-- a place is below the count, once the key is put in
 placeAt-lt : (at found key count : ℕ) → at < count → placeAt at found key .at < count + lacking (placeAt at found key)
 placeAt-lt at found key count h = go (ltb found key) (eqb found key)
   where
@@ -128,6 +113,10 @@ placeIn-lt keys count key = go (ltb 0 count && leb count (length keys)) refl
         let l : quartered count keys key 0 count < 0 + count = quartered-lt count keys key 0 count some in
         placeAt-lt (quartered count keys key 0 count) (getD keys (quartered count keys key 0 count) 0) key count (omega arith)
     go false e = omega arith
+
+-- and so at most the count before
+pub placeIn-le : (keys : List ℕ) (count key : ℕ) → placeIn keys count key .at ≤ count
+placeIn-le keys count key = omega (arith, placeIn-lt keys count key, lacking-le (placeIn keys count key))
 
 -- ---- a place, of a run in order
 
@@ -244,7 +233,9 @@ module _ (l : List ℕ) (rise : Rising l) (lo hi : ℕ) (h : lo < hi) where
   pub holds-raised : holds hi l ≡ holds hi (insert lo l)
   holds-raised = ⊎-elim {C = holds hi l ≡ holds hi (insert lo l)}
       (λ (m : List·Memᴰ hi l). mem-holds hi l m ∙ sym (mem-holds hi (insert lo l) (mem-insert-old lo l hi m)))
-      (λ (f : List·Memᴰ hi l → ⊥). absent-holds hi l f ∙ sym (absent-holds hi (insert lo l) (λ m. ⊎-elim {C = ⊥} (λ (e : hi ≡ lo). omega arith) f (insert-mem lo l hi m))))
+      (λ (f : List·Memᴰ hi l → ⊥).
+      absent-holds hi l f
+      ∙ sym (absent-holds hi (insert lo l) (λ m. ⊎-elim {C = ⊥} (λ (e : hi ≡ lo). omega arith) f (insert-mem lo l hi m))))
       (mem-or-absent hi l)
 
   pub raised-place : raised (placeOf l rise lo) (placeOf l rise hi) ≡ placeOf (insert lo l) lower-rise hi

@@ -80,7 +80,9 @@ position-is k [] zero h f e = refl
 position-is k [] (suc i) h f e = absurd (not-suc-le-zero h)
 position-is k (j ∷ js) zero h f (inl e) = absurd (omega arith)
 position-is k (j ∷ js) zero h f (inr g) = position-here k j js g
-position-is k (j ∷ js) (suc i) h f e = position-after k j js (f 0 (omega arith)) ∙ ap suc (position-is k js i (le-of-suc-le-suc h) (λ n p. f (suc n) (suc-le-suc p)) (rest e))
+position-is k (j ∷ js) (suc i) h f e =
+    position-after k j js (f 0 (omega arith))
+    ∙ ap suc (position-is k js i (le-of-suc-le-suc h) (λ n p. f (suc n) (suc-le-suc p)) (rest e))
   where
     rest : (suc i ≡ suc (length js)) ⊎ (k ≤ getD js i 0) → (i ≡ length js) ⊎ (k ≤ getD js i 0)
     rest (inl p) = inl (omega arith)

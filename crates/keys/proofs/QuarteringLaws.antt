@@ -24,7 +24,12 @@ quarters-le width (suc (suc (suc (suc up)))) h = absurd (omega arith)
 module _ (keys : List ℕ) (key : ℕ) where
   pub quarterOf-le : (base width : ℕ) → quarterOf keys key base width ≤ 3
   quarterOf-le base width =
-      omega (arith, one (leb (getD keys (base + width) 0) key), one (leb (getD keys (base + width + width) 0) key), one (leb (getD keys (base + width + width + width) 0) key))
+      omega (
+        arith,
+        one (leb (getD keys (base + width) 0) key),
+        one (leb (getD keys (base + width + width) 0) key),
+        one (leb (getD keys (base + width + width + width) 0) key),
+      )
     where
       one : (t : Bool) → cond {A = ℕ} t 1 0 ≤ 1
       one true = omega arith

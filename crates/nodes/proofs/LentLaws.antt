@@ -66,7 +66,8 @@ climbsFrom-getD : (d : Claim) (t : List Claim) (i : ℕ) → climbsFrom d t ≡ 
 climbsFrom-getD d [] i up h = absurd (omega arith)
 climbsFrom-getD d (x ∷ xs) zero up h = and-left (before d x) (climbsFrom x xs) up
 climbsFrom-getD d (x ∷ xs) (suc i) up h =
-    before-trans d x (getD xs i noClaim) (and-left (before d x) (climbsFrom x xs) up) (climbsFrom-getD x xs i (and-right (before d x) (climbsFrom x xs) up) (omega arith))
+    before-trans d x (getD xs i noClaim) (and-left (before d x) (climbsFrom x xs) up)
+    (climbsFrom-getD x xs i (and-right (before d x) (climbsFrom x xs) up) (omega arith))
 
 pub rank-after : (c : Claim) (t : List Claim) (i : ℕ) → climbs t ≡ true → rank c t ≤ i → i < length t → before (getD t i noClaim) c ≡ false
 rank-after c [] i up h g = absurd (omega arith)
@@ -157,7 +158,9 @@ insertClaim-rank c (d ∷ ds) = go (before d c) (insertClaim-rank c ds)
 
     go : (u : Bool) → insertClaim c ds ≡ cond (ltb (rank c ds) (length ds) && same (getD ds (rank c ds) noClaim) c) ds (placedAt (rank c ds) c ds)
         → cond u (d ∷ insertClaim c ds) (cond (same d c) (d ∷ ds) (c ∷ (d ∷ ds)))
-        ≡ cond (ltb (cond u (suc (rank c ds)) 0) (suc (length ds)) && same (getD (d ∷ ds) (cond u (suc (rank c ds)) 0) noClaim) c) (d ∷ ds) (placedAt (cond u (suc (rank c ds)) 0) c (d ∷ ds))
+        ≡ cond (ltb (cond u (suc (rank c ds)) 0) (suc (length ds)) && same (getD (d ∷ ds) (cond u (suc (rank c ds)) 0) noClaim) c)
+        (d ∷ ds)
+        (placedAt (cond u (suc (rank c ds)) 0) c (d ∷ ds))
     go true below =
         rw (ltb-suc (rank c ds) (length ds), below) (under (ltb (rank c ds) (length ds) && same (getD ds (rank c ds) noClaim) c))
     go false below = rw (lt-ltb 0 (suc (length ds)) (omega arith))
@@ -255,7 +258,8 @@ module _ (n : Node) (whole : length (n .pending) ≡ tableLimit) (o : Ordered n)
       take-fits f =
           let l = nodeKeys n in
           let heard = ap (λ (s : Store). hearIn s c) own-store ∙ hearIn-fits l rise c good f in
-          let many : length (tableIn c (pendingOf n)) ≡ length (tableWith c (pendingOf n)) = ap length (tableIn-tableWith c (pendingOf n) (o .table) (length-pendingOf n o)) in
+          let many : length (tableIn c (pendingOf n)) ≡ length (tableWith c (pendingOf n)) =
+          ap length (tableIn-tableWith c (pendingOf n) (o .table) (length-pendingOf n o)) in
           let yes : firstNo (takeQuestions n c) ≡ 0 =
           takeQuestions-6 n c o pass ∙ firstNo-yes (question6 (ends c) l) [] (lt-ltb (length (insertAll (ends c) l)) (limit + 1) (omega arith)) in
           rw heard

@@ -168,12 +168,14 @@ module _ (table : List Claim) (count i : ℕ) (left : allUnused (drop count tabl
   pub unused-on : (t : Bool) → t ≡ before noClaim c → t ≡ false → allUnused (drop count table) ≡ allUnused (drop (i + 1) table)
   unused-on t compared e = rw (left, next, before-noClaim-not c (sym compared ∙ e))
 
-pub unused-all : (table : List Claim) (count i : ℕ) → allUnused (drop count table) ≡ allUnused (drop i table) → length table ≤ i → true ≡ allUnused (drop count table)
+pub unused-all : (table : List Claim) (count i : ℕ) → allUnused (drop count table) ≡ allUnused (drop i table)
+    → length table ≤ i → true ≡ allUnused (drop count table)
 unused-all table count i left h = rw (left, drop-of-length-le table)
 
 -- ---- the node, by what was found of its parts
 
-module _ (keys : List ℕ) (held : ℕ) (table : List Claim) (count : ℕ) (long : length keys ≡ limit) (ordered : Bool) (tested : ordered ≡ orderedIn keys held) where
+module _ (keys : List ℕ) (held : ℕ) (table : List Claim) (count : ℕ) (long : length keys ≡ limit)
+    (ordered : Bool) (tested : ordered ≡ orderedIn keys held) where
   tested-store : inOrder (storeWith keys held) ≡ ordered
   tested-store = sym (tested ∙ orderedIn-inOrder (storeWith keys held) long)
 

@@ -64,7 +64,8 @@ module _ (t : List Claim) (c : Claim) where
   halvedTo-down base (suc n) h e =
       rw (ne-eqb (suc n) 0 (λ (z : suc n ≡ 0). omega arith), e) (halvedTo-fuel n (suc n / 2) base (suc n / 2) (omega arith) (omega arith))
 
-pub placeAmong-take : (table : List Claim) (count : ℕ) (c : Claim) → count ≤ length table → placeAmong c (take count table) ≡ halvedTo count (take count table) c 0 count
+pub placeAmong-take : (table : List Claim) (count : ℕ) (c : Claim) → count ≤ length table
+    → placeAmong c (take count table) ≡ halvedTo count (take count table) c 0 count
 unfolding placeAmong
 placeAmong-take table count c h = rw (length-take-le count table h)
 
@@ -130,7 +131,9 @@ module _ (table : List Claim) (count at : ℕ) (c : Claim) (whole : length table
     pub enlisted-last : at ≡ tableLimit → Enlisted table (placedIn at c (take count table)) table count
     enlisted-last e =
         let n : length (take at (take count table)) ≡ tableLimit = length-take-le at (take count table) (omega (arith, length-pending)) ∙ e in
-        enlisted-same (rw (other, take-at (take at (take count table)) (c ∷ drop at (take count table)) tableLimit n) (take-all at (take count table) (omega (arith, length-pending))))
+        enlisted-same
+        (rw (other, take-at (take at (take count table)) (c ∷ drop at (take count table)) tableLimit n)
+        (take-all at (take count table) (omega (arith, length-pending))))
 
     pub enlisted-put : (at ≡ tableLimit → ⊥) → (kept : ℕ) → kept ≡ min count (tableLimit - 1) → (moved : List Claim)
         → moved ≡ writtenOver (placedAt at c (take kept table)) table → Enlisted table (placedIn at c (take count table)) moved (kept + 1)
@@ -145,7 +148,10 @@ pub enlisted-found : (table : List Claim) (count known at : ℕ) (c : Claim) (ne
     → at ≡ placeAmong c (take known table) → Enlisted table (placedIn at c (take known table)) new n → Enlisted table (tableIn c (take count table)) new n
 unfolding tableIn
 enlisted-found table count known at c new n whole k e put =
-    let same : take known table ≡ take count table = ap (λ (j : ℕ). take j table) k ∙ (sym (take-least tableLimit count table) ∙ take-all tableLimit (take count table) (omega (arith, length-take count table))) in
+    let same : take known table ≡ take count table =
+    ap (λ (j : ℕ). take j table) k
+    ∙ (sym (take-least tableLimit count table)
+    ∙ take-all tableLimit (take count table) (omega (arith, length-take count table))) in
     rw (← same, ← e) put
 
 -- ---- `take_in`, by what hearing the claim gave

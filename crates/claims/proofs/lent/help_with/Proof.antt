@@ -38,8 +38,10 @@ claim-with-requires : tie.Need-claim-with-requires
 claim-with-requires c κs =
     let apart = c .before .before .before in
     let s = apart .before .before in
-    let places = s .pre .places in
-    (record { rise = omega (arith, apart .if1 .left); short = omega arith; inside = omega arith }, one-sum (now (s .args .keys)) (s .args .first) (s .args .last) (s .args .left) (s .args .right) (s .pre) (apart .if1 .left))
+    let places = s .pre .places in (
+      record { rise = omega (arith, apart .if1 .left); short = omega arith; inside = omega arith },
+      one-sum (now (s .args .keys)) (s .args .first) (s .args .last) (s .args .left) (s .args .right) (s .pre) (apart .if1 .left),
+    )
 
 returns-2 : tie.Need-returns-2
 returns-2 c = search (needs, help-one)

@@ -79,16 +79,16 @@ loop-less c = search needs
 
 loop-again : tie.Need-loop-again Inv-loop μ-loop
 loop-again c =
-    let s = turn c in (
-      omega arith,
-      omega (arith, moved-le c),
-      rw (moved c) (s .loop .inv .2 ∙ halved-turn (now (s .before .before .args .keys)) (s .before .before .args .key) (s .loop .base) (s .loop .size) (omega arith)),
-    )
+    let s = turn c in
+    let a = s .before .before .args in
+    let on = halved-turn (now (a .keys)) (a .key) (s .loop .base) (s .loop .size) (omega arith) in
+    (omega arith, omega (arith, moved-le c), rw (moved c) (s .loop .inv .2 ∙ on))
 
 returns : tie.Need-returns Inv-loop μ-loop
 returns c =
     let s = c .before in
-    sym (s .loop .inv .2 ∙ halved-one (now (s .before .before .args .keys)) (s .before .before .args .key) (s .loop .size) (s .loop .base) (s .loop .size) (c .loop-test .left))
+    let a = s .before .before .args in
+    sym (s .loop .inv .2 ∙ halved-one (now (a .keys)) (a .key) (s .loop .size) (s .loop .base) (s .loop .size) (c .loop-test .left))
 
 pub halve-spec : {M : Type 1} → statement M
 halve-spec =

@@ -44,11 +44,10 @@ loop-less c = search needs
 
 loop-again : tie.Need-loop-again Inv-loop μ-loop
 loop-again c =
-    let s = c .before .before in (
-      omega arith,
-      omega (arith, passed-le c),
-      rw (c .quarter-of .ensures .0) (s .loop .inv .2 ∙ quartered-turn (now (s .before .before .args .keys)) (s .before .before .args .key) (s .loop .base) (s .loop .size) (omega arith)),
-    )
+    let s = c .before .before in
+    let a = s .before .before .args in
+    let on = quartered-turn (now (a .keys)) (a .key) (s .loop .base) (s .loop .size) (omega arith) in
+    (omega arith, omega (arith, passed-le c), rw (c .quarter-of .ensures .0) (s .loop .inv .2 ∙ on))
 
 halve-requires : tie.Need-halve-requires Inv-loop μ-loop
 halve-requires c κs = search needs
@@ -56,8 +55,9 @@ halve-requires c κs = search needs
 returns : tie.Need-returns Inv-loop μ-loop
 returns c =
     let s = c .before .before in
-    rw (c .halve .ensures)
-    (sym (s .loop .inv .2 ∙ quartered-few (now (s .before .before .args .keys)) (s .before .before .args .key) (s .loop .size) (s .loop .base) (s .loop .size) (omega arith)))
+    let a = s .before .before .args in
+    let few = quartered-few (now (a .keys)) (a .key) (s .loop .size) (s .loop .base) (s .loop .size) (omega arith) in
+    rw (c .halve .ensures) (sym (s .loop .inv .2 ∙ few))
 
 pub quarter-spec : {M : Type 1} → statement M
 quarter-spec =

@@ -46,9 +46,9 @@ add-put-in-2 c = search needs
 put-in-requires-2 : tie.Need-put-in-requires-2
 put-in-requires-2 c κs =
     let first = c .before .before in
-    let given = start (first .before .before) in
-    let long = length-putIn (given .args .lower) (given .args .count) (given .args .lo) (now (given .args .keys)) _ (first .put-in .ensures) (search needs) (search needs) (search needs) in
-    (search needs, search needs, long)
+    let a = start (first .before .before) .args in
+    let put = first .put-in .ensures in
+    (search needs, search needs, length-putIn (a .lower) (a .count) (a .lo) (now (a .keys)) _ put (search needs) (search needs) (search needs))
 
 add-t12 : tie.Need-add-t12
 add-t12 c = search needs
@@ -61,13 +61,14 @@ add-t16 c = search needs
 
 returns-3 : tie.Need-returns-3
 returns-3 c =
-    let first = c .before .before .before .before in
+    let second = c .before in
+    let first = second .before .before .before in
     let fits = first .before .before in
     let above = fits .before in
     let below = above .before in
-    let given = start fits in
-    two-room (given .args .lower) (given .args .upper) (now (given .args .keys)) (given .args .count) (given .args .lo) (given .args .hi) (below .before .if1 .left)
-    _ _ (below .lacks .ensures .0) (above .lacks2 .ensures .0) (fits .if2 .left) _ _ (first .put-in .ensures) (c .before .put-in2 .ensures)
+    let a = start fits .args in
+    two-room (a .lower) (a .upper) (now (a .keys)) (a .count) (a .lo) (a .hi) (search needs)
+    _ _ (below .lacks .ensures .0) (above .lacks2 .ensures .0) (search needs) _ _ (first .put-in .ensures) (second .put-in2 .ensures)
 
 pub add-two-spec : {M : Type 1} → statement M
 add-two-spec =

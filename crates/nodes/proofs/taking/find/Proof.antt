@@ -15,7 +15,8 @@ use Rattle.nodes.proofs.taking.find.Statement.{statement}
 use Rattle.nodes.proofs.taking.find.Tie as tie
 
 abbrev Inv-loop : tie.InvT-loop
-Inv-loop count claim table base₀ size₀ base size = (base + size ≤ count) × (placeAmong claim (take count table) ≡ halvedTo size (take count table) claim base size)
+Inv-loop count claim table base₀ size₀ base size =
+    (base + size ≤ count) × (placeAmong claim (take count table) ≡ halvedTo size (take count table) claim base size)
 
 abbrev μ-loop : tie.MeasureT-loop
 μ-loop count claim table base₀ size₀ base size = size
@@ -68,7 +69,8 @@ loop-less c = search needs
 loop-again : tie.Need-loop-again Inv-loop μ-loop
 loop-again c =
     let s = turn (c .before) in
-    (omega arith, s .loop .inv .1 ∙ halvedTo-up (claims s) (s .before .args .claim) (s .loop .base) (s .loop .size) (omega arith) (compared (c .before) ∙ c .if1 .taken))
+    let on = halvedTo-up (claims s) (s .before .args .claim) (s .loop .base) (s .loop .size) (omega arith) (compared (c .before) ∙ c .if1 .taken) in
+    (omega arith, s .loop .inv .1 ∙ on)
 
 loop-less-2 : tie.Need-loop-less-2 Inv-loop μ-loop
 loop-less-2 c = search needs
@@ -76,7 +78,8 @@ loop-less-2 c = search needs
 loop-again-2 : tie.Need-loop-again-2 Inv-loop μ-loop
 loop-again-2 c =
     let s = turn (c .before) in
-    (omega arith, s .loop .inv .1 ∙ halvedTo-down (claims s) (s .before .args .claim) (s .loop .base) (s .loop .size) (omega arith) (compared (c .before) ∙ c .if1 .left))
+    let on = halvedTo-down (claims s) (s .before .args .claim) (s .loop .base) (s .loop .size) (omega arith) (compared (c .before) ∙ c .if1 .left) in
+    (omega arith, s .loop .inv .1 ∙ on)
 
 returns : tie.Need-returns Inv-loop μ-loop
 returns c =
