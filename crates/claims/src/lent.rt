@@ -82,13 +82,10 @@ fn claim_with(keys: &[u64], first: usize, last: usize, sum: u64) -> Claim
     requires { ⌜ Positions (now keys) first last × (sum ≡ xorAll (span first last (now keys))) ⌝ }
     ensures { λ r. ⌜ r ≡ claimOf first last (now (keys .entry)) ⌝ }
 {
+    let lo = keys[first];
+    let hi = keys[last];
     let cnt = (last - first + 1) as u16;
-    Claim {
-        lo: keys[first],
-        hi: keys[last],
-        sum,
-        cnt,
-    }
+    Claim { lo, hi, sum, cnt }
 }
 
 // The claim of positions first to last.

@@ -52,8 +52,9 @@ pub fn place_in(keys: &[u64], count: usize, key: u64) -> Place
     let at = quarter(keys, count, key);
     let found = keys[at];
     if found < key {
+        let next = at + 1;
         Place {
-            at: at + 1,
+            at: next,
             held: false,
         }
     } else {
@@ -103,9 +104,10 @@ pub fn add_in(keys: &mut [u64; Store::LIMIT], count: usize, key: u64) -> Added
         return no_room(count);
     }
     put_in(keys, place, count, key);
+    let total = count + more;
     Added {
         fits: true,
-        count: count + more,
+        count: total,
         first: place.at,
         last: place.at,
     }
@@ -132,16 +134,19 @@ fn add_two(
         return no_room(count);
     }
     put_in(keys, lower, count, lo);
+    let last = upper.at + below;
     let raised = Place {
-        at: upper.at + below,
+        at: last,
         held: upper.held,
     };
-    put_in(keys, raised, count + below, hi);
+    let grown = count + below;
+    put_in(keys, raised, grown, hi);
+    let total = grown + above;
     Added {
         fits: true,
-        count: count + below + above,
+        count: total,
         first: lower.at,
-        last: upper.at + below,
+        last,
     }
 }
 

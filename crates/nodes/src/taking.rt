@@ -80,9 +80,10 @@ fn enlist_at(table: [Claim; Node::TABLE], count: usize, at: usize, claim: Claim)
     }
     let kept = capped(count, Node::TABLE - 1);
     let moved = put(table, kept, at, claim);
+    let total = kept + 1;
     Listed {
         table: moved,
-        count: kept + 1,
+        count: total,
     }
 }
 

@@ -22,8 +22,8 @@ returns c = search (needs, add-full)
 put-in-requires : tie.Need-put-in-requires
 put-in-requires c κs = search (needs, place-le)
 
-add-t8 : tie.Need-add-t8
-add-t8 c = search needs
+add-total : tie.Need-add-total
+add-total c = search needs
 
 returns-2 : tie.Need-returns-2
 returns-2 c = search (needs, add-room)
@@ -31,4 +31,4 @@ returns-2 c = search (needs, add-room)
 pub add-in-spec : {M : Type 1} → statement M
 add-in-spec =
     tie.close
-    (tie.spec place-in-requires lacks-requires sub-if1 no-room-requires returns put-in-requires add-t8 returns-2)
+    (tie.spec place-in-requires lacks-requires sub-if1 no-room-requires returns put-in-requires add-total returns-2)

@@ -37,11 +37,11 @@ returns-2 c = search (needs, two-full)
 put-in-requires : tie.Need-put-in-requires
 put-in-requires c κs = search needs
 
-add-put-in : tie.Need-add-put-in
-add-put-in c = search needs
+add-last : tie.Need-add-last
+add-last c = search needs
 
-add-put-in-2 : tie.Need-add-put-in-2
-add-put-in-2 c = search needs
+add-grown : tie.Need-add-grown
+add-grown c = search needs
 
 put-in-requires-2 : tie.Need-put-in-requires-2
 put-in-requires-2 c κs =
@@ -50,25 +50,18 @@ put-in-requires-2 c κs =
     let put = first .put-in .ensures in
     (search needs, search needs, length-putIn (a .lower) (a .count) (a .lo) (now (a .keys)) _ put (search needs) (search needs) (search needs))
 
-add-t12 : tie.Need-add-t12
-add-t12 c = search needs
-
-add-t11 : tie.Need-add-t11
-add-t11 c = search needs
-
-add-t16 : tie.Need-add-t16
-add-t16 c = search needs
+add-total : tie.Need-add-total
+add-total c = search needs
 
 returns-3 : tie.Need-returns-3
 returns-3 c =
-    let second = c .before in
-    let first = second .before .before .before in
+    let first = c .before .before .before in
     let fits = first .before .before in
     let above = fits .before in
     let below = above .before in
     let a = start fits .args in
     two-room (a .lower) (a .upper) (now (a .keys)) (a .count) (a .lo) (a .hi) (search needs)
-    _ _ (below .lacks .ensures .0) (above .lacks2 .ensures .0) (search needs) _ _ (first .put-in .ensures) (second .put-in2 .ensures)
+    _ _ (below .lacks .ensures .0) (above .lacks2 .ensures .0) (search needs) _ _ (first .put-in .ensures) (c .put-in2 .ensures)
 
 pub add-two-spec : {M : Type 1} → statement M
 add-two-spec =
@@ -83,10 +76,8 @@ add-two-spec =
     no-room-requires-2
     returns-2
     put-in-requires
-    add-put-in
-    add-put-in-2
+    add-last
+    add-grown
     put-in-requires-2
-    add-t12
-    add-t11
-    add-t16
+    add-total
     returns-3)

@@ -28,8 +28,8 @@ mul-found c = let h = found-lt c in search needs
 shared-slice-read-found : tie.Need-shared-slice-read-found
 shared-slice-read-found c = let h = found-lt (c .before) in search needs
 
-add-t11 : tie.Need-add-t11
-add-t11 c = let h = found-lt (c .before .before) in search needs
+add-next : tie.Need-add-next
+add-next c = let h = found-lt (c .before .before) in search needs
 
 returns-3 : tie.Need-returns-3
 returns-3 c = search (needs, place-after)
@@ -46,6 +46,6 @@ place-in-spec =
     quarter-requires
     mul-found
     shared-slice-read-found
-    add-t11
+    add-next
     returns-3
     returns-4)

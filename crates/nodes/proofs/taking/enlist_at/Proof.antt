@@ -22,8 +22,8 @@ capped-requires c κs = search needs
 put-requires : tie.Need-put-requires
 put-requires c κs = search needs
 
-add-t9 : tie.Need-add-t9
-add-t9 c = search needs
+add-total : tie.Need-add-total
+add-total c = search needs
 
 returns-3 : tie.Need-returns-3
 returns-3 c = search (needs, enlisted-put)
@@ -38,5 +38,5 @@ enlist-at-spec =
     sub-capped
     capped-requires
     put-requires
-    add-t9
+    add-total
     returns-3)
