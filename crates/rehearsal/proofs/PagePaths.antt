@@ -1,5 +1,5 @@
 -- One law for each way that src/page.rt goes: bytes one after another, lines one after another, one line, the whole text. Assumes nothing.
-use Prim.Native.Nat.{ℕ, _+_, _*_, _/_, _≤_, _<_}
+use Prim.Native.Nat.{ℕ, _+_, _*_, _≤_, _<_}
 use native.Mathlib.Numerals.{add-one}
 use native.Mathlib.Omega.{arith}
 use mathlib.Core.List.{List, [], _∷_, _++_}
@@ -8,7 +8,7 @@ use lib.ListN.{length, take, drop, getD, set, length-set, length-map}
 use lib.Seq.{take-all, take-suc, length-take-le}
 use Rattle.claims.proofs.QuestionLaws.{settle-done, settle-refused}
 use Rattle.rule.specs.Round.{Line}
-use Rattle.rule.specs.Call.{roundBy, deliveryWords}
+use Rattle.rule.specs.Call.{roundBy, deliveryWords, recordWidth, recordsIn}
 use Rattle.rule.specs.Place.{putAt}
 use Rattle.rule.proofs.PlaceLaws.{length-putAt, putAt-nil, putAt-append}
 use Rattle.rehearsal.specs.declared.answer.Rehearsed.{Rehearsed}
@@ -90,7 +90,7 @@ unfolding rows
 rows-none words s = record { end-is = refl; end-by = omega arith; after-is = sym (putAt-nil s 0) }
 
 module _ (words : List ℕ) (i n : ℕ) (s t : List ℕ) (m : ℕ) (p : Put s 0 (rows i words) (lineLimit * i) m t) where
-  pub rows-more : (u : List ℕ) (k : ℕ) → i < n → lineLimit * n ≤ length s → Put t m (rowAt words (i * 5)) lineLimit k u
+  pub rows-more : (u : List ℕ) (k : ℕ) → i < n → lineLimit * n ≤ length s → Put t m (rowAt words (i * recordWidth)) lineLimit k u
       → Put s 0 (rows (i + 1) words) (lineLimit * (i + 1)) k u
   unfolding rows
   rows-more u k h room q = rw (add-one i) (put-then p q (omega arith) (omega (arith, p .end-by, q .end-by)))
@@ -125,12 +125,12 @@ refused-put s t u number m n p q h = put-then {xs = labelled refusedWord number}
 
 -- ---- the whole text
 
-module _ (input lent : List ℕ) (long : length lent ≡ 5 * lentRecords) (r : Rehearsed) (words : List ℕ) (so : Rehearsal input lent r words) where
-  fifth : length lent / 5 ≡ lentRecords
-  fifth = omega arith
+module _ (input lent : List ℕ) (long : length lent ≡ recordWidth * lentRecords) (r : Rehearsed) (words : List ℕ) (so : Rehearsal input lent r words) where
+  records : recordsIn lent ≡ lentRecords
+  records = omega arith
 
   told : r ≡ rehearsed input lentRecords
-  told = so .told ∙ ap (rehearsed input) fifth
+  told = so .told ∙ ap (rehearsed input) records
 
   module _ (no : r .number ≡ 0 → ⊥) where
     printed-refused : refusedLine (r .number) ≡ printed input
@@ -161,7 +161,7 @@ module _ (input lent : List ℕ) (long : length lent ≡ 5 * lentRecords) (r : R
     told-fits = rw (ap (λ (x : Rehearsed). x .deliveries) (told ∙ rehearsed-told input lentRecords none)) (deliveries-fit input lentRecords none)
 
     words-are : words ≡ roundWords (storeIn (firstBytes input)) (storeIn (secondBytes input)) lent
-    words-are = so .words ∙ rehearsedWords-told input lent (rw fifth none)
+    words-are = so .words ∙ rehearsedWords-told input lent (rw records none)
 
     printed-told : rows (r .deliveries) words ++ lastLine (r .left) (r .right) (r .deliveries) ≡ printed input
     unfolding printed report

@@ -1,5 +1,5 @@
 -- What a rehearsal decides: by its number; where no question is answered no, and that the deliveries then fit the records. Assumes nothing.
-use Prim.Native.Nat.{ℕ, _/_, _≤_}
+use Prim.Native.Nat.{ℕ, _≤_}
 use native.Mathlib.Omega.{arith}
 use mathlib.Core.List.{List, _++_}
 use mathlib.Core.Path.{_≡_, refl, sym, _∙_}
@@ -8,7 +8,7 @@ use lib.ListN.{length}
 use Rattle.keys.specs.declared.store.Store.{Store}
 use Rattle.claims.specs.Question.{Question, firstNo}
 use Rattle.claims.proofs.QuestionLaws.{Numbered, firstNo-zero, firstNo-append-zero, settle-done, settle-refused}
-use Rattle.rule.specs.Call.{roundQuestions, roundBy}
+use Rattle.rule.specs.Call.{roundQuestions, roundBy, recordsIn}
 use Rattle.rule.proofs.CallLaws.{roundQuestions-yes, roundYes-rounded}
 use Rattle.wire.specs.Image.{frontQuestion14, readImageQuestions}
 use Rattle.wire.proofs.QuestionLaws.{settle-number, firstNo-front}
@@ -83,7 +83,7 @@ module _ (input : List ℕ) (records : ℕ) where
         omega (arith, y .room, roundYes-rounded left right records y .bound)
 
 -- the lent words, where a fifth of them are the records
-pub rehearsedWords-told : (input lent : List ℕ) → rehearseNumber input (length lent / 5) ≡ 0
+pub rehearsedWords-told : (input lent : List ℕ) → rehearseNumber input (recordsIn lent) ≡ 0
     → rehearsedWords input lent ≡ roundWords (storeIn (firstBytes input)) (storeIn (secondBytes input)) lent
 unfolding rehearsedWords
 rehearsedWords-told input lent none = wordsBy-done (storeIn (firstBytes input)) (storeIn (secondBytes input)) lent none

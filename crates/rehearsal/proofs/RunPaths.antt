@@ -1,6 +1,6 @@
 -- One law for each way that src/run.rt goes. In order: the number of questions behind others; from the second image on; the whole input.
 -- Assumes nothing.
-use Prim.Native.Nat.{ℕ, _-_, _/_, _≤_}
+use Prim.Native.Nat.{ℕ, _-_, _≤_}
 use native.Mathlib.Nat.{sub-zero}
 use native.Mathlib.Omega.{arith}
 use mathlib.Core.List.{List, [], _∷_, _++_}
@@ -15,7 +15,7 @@ use Rattle.keys.proofs.Tests.{and-right}
 use Rattle.claims.specs.Question.{Question, firstNo}
 use Rattle.claims.proofs.QuestionLaws.{Numbered, firstNo-zero, firstNo-append-zero, firstNo-append-no, settle-done}
 use Rattle.rule.specs.declared.answer.Met.{Met}
-use Rattle.rule.specs.Call.{roundQuestions, roundBy, met, metWords}
+use Rattle.rule.specs.Call.{roundQuestions, roundBy, met, metWords, recordsIn}
 use Rattle.rule.proofs.CallLaws.{met-done, metWords-done, metWords-refused}
 use Rattle.wire.specs.declared.answer.Imaged.{Imaged}
 use Rattle.wire.specs.declared.answer.Length.{Length}
@@ -61,7 +61,7 @@ module _ (s t : Store) (records : ℕ) where
 
 module _ (left : Store) (rest lent : List ℕ) where
   abbrev records : ℕ
-  records = length lent / 5
+  records = recordsIn lent
 
   abbrev right : Store
   right = storeIn rest
@@ -121,9 +121,9 @@ module _ (input lent : List ℕ) where
   first = firstBytes input
 
   abbrev behindFront : List Question
-  behindFront = readImageQuestions first ++ questionsAfter (storeIn first) (secondBytes input) (length lent / 5)
+  behindFront = readImageQuestions first ++ questionsAfter (storeIn first) (secondBytes input) (recordsIn lent)
 
-  rehearsal-refused : {r : Rehearsed} {n : ℕ} → n ≡ rehearseNumber input (length lent / 5) → (n ≡ 0 → ⊥) → r ≡ noRehearsal n → Rehearsal input lent r lent
+  rehearsal-refused : {r : Rehearsed} {n : ℕ} → n ≡ rehearseNumber input (recordsIn lent) → (n ≡ 0 → ⊥) → r ≡ noRehearsal n → Rehearsal input lent r lent
   unfolding rehearsed rehearsedWords
   rehearsal-refused e f told = record {
     told = told ∙ rw (← e) (sym (toldBy-refused (storeIn first) (storeIn (secondBytes input)) f));
@@ -158,7 +158,7 @@ module _ (input lent : List ℕ) where
           let fits = and-right (countsFit sections input) (leb (toldLength sections input) (length input)) y in
           rw front-length (leb-true (toldLength sections input) (length input) fits)
 
-      front-behind : firstNo behindFront ≡ rehearseNumber input (length lent / 5)
+      front-behind : firstNo behindFront ≡ rehearseNumber input (recordsIn lent)
       unfolding rehearseNumber
       front-behind = number-behind front behindFront (l .number) front-number (lit< tt, tt) yes
 
@@ -169,13 +169,13 @@ module _ (input lent : List ℕ) where
 
         pub first-refused : (r : Rehearsed) → (i .number ≡ 0 → ⊥) → r ≡ noRehearsal (i .number) → Rehearsal input lent r lent
         first-refused r f e =
-            let after = questionsAfter (storeIn first) (secondBytes input) (length lent / 5) in
+            let after = questionsAfter (storeIn first) (secondBytes input) (recordsIn lent) in
             rehearsal-refused (number-front (readImageQuestions first) after (i .number) (image-number first i first-is) f ∙ front-behind) f e
 
-        after-number : i .number ≡ 0 → numberAfter (storeIn first) (secondBytes input) (length lent / 5) ≡ rehearseNumber input (length lent / 5)
+        after-number : i .number ≡ 0 → numberAfter (storeIn first) (secondBytes input) (recordsIn lent) ≡ rehearseNumber input (recordsIn lent)
         unfolding numberAfter
         after-number z =
-            let after = questionsAfter (storeIn first) (secondBytes input) (length lent / 5) in
+            let after = questionsAfter (storeIn first) (secondBytes input) (recordsIn lent) in
             number-behind (readImageQuestions first) after (i .number) (image-number first i first-is) (image-numbered first) z ∙ front-behind
 
         -- and the second, from the first one's end on

@@ -7,21 +7,21 @@ use mathlib.Core.Path.{_≡_, refl, ap₂, sym, _∙_}
 use lib.ListN.{length, drop}
 use lib.Seq.{getD-drop}
 use Rattle.rule.specs.declared.delivery.Delivery.{Delivery}
-use Rattle.rule.specs.Call.{deliveryWords}
+use Rattle.rule.specs.Call.{deliveryWords, recordWidth, recordWords}
 use Rattle.rehearsal.specs.Text.{line, lines, fourAt, rowAt, rows}
 
 rowAt-drop : (k : ℕ) (words : List ℕ) (at : ℕ) → rowAt (drop k words) at ≡ rowAt words (k + at)
 unfolding rowAt fourAt
 rowAt-drop k words at = simp (getD-drop, add-assoc)
 
-rows-cons : (n : ℕ) (words : List ℕ) → rows (suc n) words ≡ rowAt words 0 ++ rows n (drop 5 words)
+rows-cons : (n : ℕ) (words : List ℕ) → rows (suc n) words ≡ rowAt words 0 ++ rows n (drop recordWidth words)
 unfolding rows
 rows-cons zero words = sym (append-nil (rowAt words 0))
 rows-cons (suc n) words =
-    let e : 5 + n * 5 ≡ suc n * 5 = omega arith in
-    rw (rows-cons n words, rowAt-drop 5 words (n * 5), e, append-assoc)
+    let e : recordWidth + n * recordWidth ≡ suc n * recordWidth = omega arith in
+    rw (rows-cons n words, rowAt-drop recordWidth words (n * recordWidth), e, append-assoc)
 
-rowAt-line : (d : Delivery) (rest : List ℕ) → rowAt (d .sender ∷ d .claim .lo ∷ d .claim .hi ∷ d .claim .sum ∷ d .claim .cnt ∷ rest) 0 ≡ line d
+rowAt-line : (d : Delivery) (rest : List ℕ) → rowAt (recordWords d ++ rest) 0 ≡ line d
 unfolding rowAt fourAt
 rowAt-line d rest = refl
 

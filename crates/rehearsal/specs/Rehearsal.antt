@@ -1,13 +1,13 @@
 -- What a rehearsal decides (document 01, "Rehearsal program"), for any input and any number of lent records: the two images, the questions in
 -- their order, what is returned and what the lent words hold afterwards. Not here: what is printed (Text). Assumes nothing.
-use Prim.Native.Nat.{ℕ, _/_}
+use Prim.Native.Nat.{ℕ}
 use mathlib.Core.List.{List, _∷_, _++_}
 use mathlib.Core.Path.{_≡_}
 use lib.ListN.{length, take, drop}
 use Rattle.keys.specs.declared.store.Store.{Store}
 use Rattle.claims.specs.Question.{Question, firstNo, settle}
 use Rattle.rule.specs.Round.{transcript}
-use Rattle.rule.specs.Call.{roundQuestions, roundBy, deliveryWords, writtenOver}
+use Rattle.rule.specs.Call.{roundQuestions, roundBy, deliveryWords, writtenOver, recordsIn}
 use Rattle.wire.specs.Image.{sections, toldLength, frontQuestion14, readImageQuestions, readImage}
 use Rattle.rehearsal.specs.declared.answer.Rehearsed.{Rehearsed}
 
@@ -64,13 +64,13 @@ rehearseNumber input records = firstNo (rehearseQuestions input records)
 unfoldable pub rehearsed : List ℕ → ℕ → Rehearsed
 rehearsed input records = toldBy (rehearseNumber input records) (storeIn (firstBytes input)) (storeIn (secondBytes input))
 
--- the lent words afterwards; the records are a fifth of them
+-- the lent words afterwards
 unfoldable pub rehearsedWords : List ℕ → List ℕ → List ℕ
-rehearsedWords input lent = wordsBy (rehearseNumber input (length lent / 5)) (storeIn (firstBytes input)) (storeIn (secondBytes input)) lent
+rehearsedWords input lent = wordsBy (rehearseNumber input (recordsIn lent)) (storeIn (firstBytes input)) (storeIn (secondBytes input)) lent
 
 -- What the code says of a rehearsal: what it returned, and what the lent words hold afterwards.
 pub record Rehearsal (input lent : List ℕ) (r : Rehearsed) (after : List ℕ) : Type 0 where
-  pub told : r ≡ rehearsed input (length lent / 5)
+  pub told : r ≡ rehearsed input (recordsIn lent)
   pub words : after ≡ rehearsedWords input lent
 
 -- The same once the first image has given the left store.
@@ -78,5 +78,5 @@ unfoldable pub numberAfter : Store → List ℕ → ℕ → ℕ
 numberAfter left rest records = firstNo (questionsAfter left rest records)
 
 pub record AfterFirst (left : Store) (rest lent : List ℕ) (r : Rehearsed) (after : List ℕ) : Type 0 where
-  pub told : r ≡ toldBy (numberAfter left rest (length lent / 5)) left (storeIn rest)
-  pub words : after ≡ wordsBy (numberAfter left rest (length lent / 5)) left (storeIn rest) lent
+  pub told : r ≡ toldBy (numberAfter left rest (recordsIn lent)) left (storeIn rest)
+  pub words : after ≡ wordsBy (numberAfter left rest (recordsIn lent)) left (storeIn rest) lent

@@ -8,7 +8,7 @@ use lib.ListN.{getD}
 use Rattle.claims.specs.Question.{settle}
 use Rattle.rule.specs.declared.delivery.Delivery.{Delivery}
 use Rattle.rule.specs.Round.{transcript}
-use Rattle.rule.specs.Call.{roundBy}
+use Rattle.rule.specs.Call.{roundBy, recordWidth}
 use Rattle.rehearsal.specs.declared.answer.Rehearsed.{Rehearsed}
 use Rattle.rehearsal.specs.Decimal.{decimal, digitLimit}
 use Rattle.rehearsal.specs.Rehearsal.{firstBytes, secondBytes, storeIn, rehearsed}
@@ -84,7 +84,7 @@ deliveriesOf input = transcript (roundBy (storeIn (firstBytes input)) (storeIn (
 unfoldable pub printed : List ℕ → List ℕ
 printed input = report (rehearsed input lentRecords) (deliveriesOf input)
 
--- ---- the text as the code comes by it: from words, five to a record
+-- ---- the text as the code comes by it: from the words of records
 
 -- the four numbers from a place of some words on, and the line of the record at a place
 unfoldable pub fourAt : List ℕ → ℕ → List ℕ
@@ -96,7 +96,7 @@ rowAt words at = letter (getD words at 0) ∷ (fourAt words (at + 1) ++ lineFeed
 -- the lines of the first n records
 unfoldable pub rows : ℕ → List ℕ → List ℕ
 rows zero words = []
-rows (suc n) words = rows n words ++ rowAt words (n * 5)
+rows (suc n) words = rows n words ++ rowAt words (n * recordWidth)
 
 -- how long a field, a line and a last line are at most
 abbrev pub fieldLimit : ℕ

@@ -6,6 +6,7 @@ use transcript::RECORD;
 ghost use mathlib.Core.Path.{_≡_};
 ghost use Prim.Native.Nat.{_+_, _*_, _≤_};
 ghost use lib.ListN.{length};
+ghost use Rattle.rule.specs.Call.{recordWidth};
 ghost use Rattle.rehearsal.specs.Put.{Put};
 ghost use Rattle.rehearsal.specs.Text.{field, labelled, letter, fourAt, rowAt, rows, lastLine, refusedLine};
 ghost use Rattle.rehearsal.specs.Text.{lentRecords, printed, fieldLimit, lineLimit, lastLimit, textLimit};
@@ -64,7 +65,7 @@ fn put_four(out: &mut [u8], at: usize, words: &[u64], from: usize) -> usize
 
 // One line: the record at a place of some words.
 fn put_line(out: &mut [u8], at: usize, words: &[u64], from: usize) -> usize
-    requires { ⌜ (at + lineLimit ≤ length (now out)) × (from + 5 ≤ length (now words)) ⌝ }
+    requires { ⌜ (at + lineLimit ≤ length (now out)) × (from + recordWidth ≤ length (now words)) ⌝ }
     ensures { λ r. ⌜ Put (now (out .entry)) at (rowAt (now (words .entry)) from) lineLimit r (now (out .exit)) ⌝ }
 {
     out[at] = letter_of(words[from]);
@@ -75,7 +76,7 @@ fn put_line(out: &mut [u8], at: usize, words: &[u64], from: usize) -> usize
 
 // One line a delivery: the first n records of some words.
 fn put_lines(out: &mut [u8], words: &[u64], n: usize) -> usize
-    requires { ⌜ (lineLimit * n ≤ length (now out)) × (n * 5 ≤ length (now words)) ⌝ }
+    requires { ⌜ (lineLimit * n ≤ length (now out)) × (n * recordWidth ≤ length (now words)) ⌝ }
     ensures { λ r. ⌜ Put (now (out .entry)) 0 (rows n (now (words .entry))) (lineLimit * n) r (now (out .exit)) ⌝ }
 {
     let mut at: usize = 0;
@@ -109,7 +110,7 @@ fn put_refused(out: &mut [u8], number: u8) -> usize
 
 // The words of the records that the program lends.
 fn lent_words() -> [u64; Rehearsed::WORDS]
-    ensures { λ r. ⌜ length r ≡ 5 * lentRecords ⌝ }
+    ensures { λ r. ⌜ length r ≡ recordWidth * lentRecords ⌝ }
 {
     [0; Rehearsed::WORDS]
 }
