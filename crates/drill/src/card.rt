@@ -4,6 +4,8 @@ use crate::raw::get;
 use crate::raw::put;
 use claims::Claim;
 use claims::Store;
+use claims::claim_at;
+use claims::put_claim;
 use rule::Node;
 ghost use Prim.Native.Nat.{_≤_};
 
@@ -26,44 +28,24 @@ pub const RIGHT: usize = LEFT + 1 + Store::LIMIT;
 
 const TABLE: usize = RIGHT + 1;
 
-pub const PAST_NODE: usize = TABLE + 4 * Node::TABLE;
+pub const PAST_NODE: usize = TABLE + Claim::WORDS * Node::TABLE;
 
 pub const PAST_BOTH: usize = RIGHT + 1 + Store::LIMIT;
-
-pub fn claim_at(words: &[u64; MOST], at: usize) -> Claim
-    requires { ⌜ at ≤ 1000000 ⌝ }
-{
-    Claim {
-        lo: get(words, at),
-        hi: get(words, at + 1),
-        sum: get(words, at + 2),
-        cnt: (get(words, at + 3) % 65536) as u16,
-    }
-}
-
-pub fn put_claim(words: &mut [u64; MOST], at: usize, claim: Claim)
-    requires { ⌜ at ≤ 1000000 ⌝ }
-{
-    put(words, at, claim.lo);
-    put(words, at + 1, claim.hi);
-    put(words, at + 2, claim.sum);
-    put(words, at + 3, claim.cnt as u64);
-}
 
 // The four claims of a frame.
 pub fn four_in(words: &[u64; MOST]) -> [Claim; 4] {
     [
         claim_at(words, CLAIMS),
-        claim_at(words, CLAIMS + 4),
-        claim_at(words, CLAIMS + 8),
-        claim_at(words, CLAIMS + 12),
+        claim_at(words, CLAIMS + Claim::WORDS),
+        claim_at(words, CLAIMS + 2 * Claim::WORDS),
+        claim_at(words, CLAIMS + 3 * Claim::WORDS),
     ]
 }
 
 pub fn put_four(words: &mut [u64; MOST], four: [Claim; 4]) {
     let mut i: usize = 0;
     while i < 4 {
-        put_claim(words, CLAIMS + 4 * i, four[i]);
+        put_claim(words, CLAIMS + Claim::WORDS * i, four[i]);
         i += 1;
     }
 }
@@ -114,7 +96,7 @@ fn table_in(words: &[u64; MOST]) -> [Claim; Node::TABLE] {
     let mut table = [Claim::NONE; Node::TABLE];
     let mut i: usize = 0;
     while i < Node::TABLE {
-        table[i] = claim_at(words, TABLE + 4 * i);
+        table[i] = claim_at(words, TABLE + Claim::WORDS * i);
         i += 1;
     }
     table
@@ -123,7 +105,7 @@ fn table_in(words: &[u64; MOST]) -> [Claim; Node::TABLE] {
 fn put_table(words: &mut [u64; MOST], table: [Claim; Node::TABLE]) {
     let mut i: usize = 0;
     while i < Node::TABLE {
-        put_claim(words, TABLE + 4 * i, table[i]);
+        put_claim(words, TABLE + Claim::WORDS * i, table[i]);
         i += 1;
     }
 }
