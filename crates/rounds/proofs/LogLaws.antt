@@ -1,6 +1,6 @@
 -- Laws of specs/Log. In order: a record in words, one law for each way that the code goes; the first words; records stored one after the other; a round
 -- on the first words, which no record of a round exceeds, and that storing its records is the round over records; one record read. Assumes nothing.
-use Prim.Native.Nat.{ℕ, zero, suc, _*_, _/_, _%_, _≤_, _<_, min}
+use Prim.Native.Nat.{ℕ, zero, suc, _*_, _%_, _≤_, _<_, min}
 use mathlib.Core.Bool.{Bool, true, false, cond}
 use mathlib.Core.List.{List, _∷_, _++_, append-assoc}
 use mathlib.Core.Path.{_≡_, refl, sym, ap, ap₂, _∙_, subst}
