@@ -130,7 +130,8 @@ fn add_two(
     }
     let below = lacks(lower);
     let above = lacks(upper);
-    if Store::LIMIT - (below + above) < count {
+    let most = Store::LIMIT - (below + above);
+    if most < count {
         return no_room(count);
     }
     put_in(keys, lower, count, lo);

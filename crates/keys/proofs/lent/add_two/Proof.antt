@@ -22,11 +22,11 @@ lacks-requires c κs = search needs
 lacks-requires-2 : tie.Need-lacks-requires-2
 lacks-requires-2 c κs = search needs
 
-add-if2 : tie.Need-add-if2
-add-if2 c = search needs
+add-most : tie.Need-add-most
+add-most c = search needs
 
-sub-if2 : tie.Need-sub-if2
-sub-if2 c = search needs
+sub-most : tie.Need-sub-most
+sub-most c = search needs
 
 no-room-requires-2 : tie.Need-no-room-requires-2
 no-room-requires-2 c κs = search needs
@@ -71,8 +71,8 @@ add-two-spec =
     returns
     lacks-requires
     lacks-requires-2
-    add-if2
-    sub-if2
+    add-most
+    sub-most
     no-room-requires-2
     returns-2
     put-in-requires
