@@ -15,6 +15,14 @@ pub cond-same : {A : Type 0} (t : Bool) (x y : A) → x ≡ y → cond t x y ≡
 cond-same true x y e = e
 cond-same false x y e = refl
 
+-- what no more fuel changes from m on is what it is at m
+pub settled : {A : Type 0} (f : ℕ → A) (m : ℕ) → ((n : ℕ) → m ≤ n → f (suc n) ≡ f n) → (n : ℕ) → m ≤ n → f n ≡ f m
+settled f m same n h = let e : n ≡ n - m + m = omega arith in ap f e ∙ go (n - m)
+  where
+    go : (d : ℕ) → f (d + m) ≡ f m
+    go zero = let e : 0 + m ≡ m = omega arith in ap f e
+    go (suc d) = let e : suc d + m ≡ suc (d + m) = omega arith in ap f e ∙ (same (d + m) (omega arith) ∙ go d)
+
 module _ (keys : List ℕ) (key : ℕ) where
   -- one key needs no halving
   pub halved-one : (n base size : ℕ) → size ≤ 1 → halved n keys key base size ≡ base
@@ -31,16 +39,8 @@ module _ (keys : List ℕ) (key : ℕ) where
       (λ (p : size ≤ 1). halved-one (suc (suc n)) base size p ∙ sym (halved-one (suc n) base size p))
       (lt-or-le 1 size)
 
-  pub halved-add : (d base size : ℕ) → halved (d + size) keys key base size ≡ halved size keys key base size
-  halved-add zero base size = let e : 0 + size ≡ size = omega arith in rw e
-  halved-add (suc d) base size =
-      let e : suc d + size ≡ suc (d + size) = omega arith in
-      rw e (halved-suc (d + size) base size (omega arith) ∙ halved-add d base size)
-
   pub halved-fuel : (n base size : ℕ) → size ≤ n → halved n keys key base size ≡ halved size keys key base size
-  halved-fuel n base size h =
-      let e : n ≡ n - size + size = omega arith in
-      ap (λ (m : ℕ). halved m keys key base size) e ∙ halved-add (n - size) base size
+  halved-fuel n base size = settled (λ (m : ℕ). halved m keys key base size) size (λ m. halved-suc m base size) n
 
   -- a turn of the loop: the half from the middle on where the key there is at most `key`, and else the half before
   pub halved-turn : (base size : ℕ) → 1 < size

@@ -1,6 +1,6 @@
 -- Quartering, by which a key is found (specs/Lent, `quarterOf`, `quartered`): a turn of the loop, that the fuel is enough, and that one of the keys is
 -- found. What quartering finds among rising keys is in FindingLaws. Assumes nothing.
-use mathlib.Core.Path.{_≡_, refl, sym, _∙_, ap}
+use mathlib.Core.Path.{_≡_, refl, sym, _∙_}
 use mathlib.Core.Bool.{Bool, true, false, cond}
 use mathlib.Core.Logic.{⊎-elim}
 use mathlib.Core.List.{List}
@@ -11,7 +11,7 @@ use lib.Dec.{leb}
 use lib.ListN.{getD}
 use Rattle.keys.specs.Lent.{halved, quarterOf, quartered}
 use Rattle.keys.proofs.Tests.{lt-or-le}
-use Rattle.keys.proofs.HalvingLaws.{halved-lt}
+use Rattle.keys.proofs.HalvingLaws.{settled, halved-lt}
 
 -- the quarters before one of four are at most three
 pub quarters-le : (width up : ℕ) → up ≤ 3 → width * up ≤ 3 * width
@@ -63,16 +63,8 @@ module _ (keys : List ℕ) (key : ℕ) where
       ∙ sym (quartered-many n base size p))
       (lt-or-le size 4)
 
-  pub quartered-add : (d base size : ℕ) → quartered (d + size) keys key base size ≡ quartered size keys key base size
-  quartered-add zero base size = let e : 0 + size ≡ size = omega arith in rw e
-  quartered-add (suc d) base size =
-      let e : suc d + size ≡ suc (d + size) = omega arith in
-      rw e (quartered-suc (d + size) base size (omega arith) ∙ quartered-add d base size)
-
   pub quartered-fuel : (n base size : ℕ) → size ≤ n → quartered n keys key base size ≡ quartered size keys key base size
-  quartered-fuel n base size h =
-      let e : n ≡ n - size + size = omega arith in
-      ap (λ (m : ℕ). quartered m keys key base size) e ∙ quartered-add (n - size) base size
+  quartered-fuel n base size = settled (λ (m : ℕ). quartered m keys key base size) size (λ m. quartered-suc m base size) n
 
   -- a turn of the loop: the quarter that is kept
   pub quartered-turn : (base size : ℕ) → 3 < size
