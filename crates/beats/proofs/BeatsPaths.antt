@@ -60,13 +60,6 @@ module _ (a b : Answer) (is : a ≡ b) (at : ℕ) (lent : List ℕ) where
 -- ---- `serve_table`
 
 -- a table written over blanks
-
-drop-blanks : (k n : ℕ) → drop k (blanks n) ≡ blanks (n - k)
-unfolding blanks
-drop-blanks zero n = rw sub-zero
-drop-blanks (suc k) zero = rw zero-sub
-drop-blanks (suc k) (suc n) = rw suc-sub-suc (drop-blanks k n)
-
 sets-blanks : (t : List Claim) → length t ≤ tableLimit → sets (blanks tableLimit) 0 t ≡ t ++ blanks (tableLimit - length t)
 sets-blanks t h =
     sets-writtenOver (blanks tableLimit) t (omega (arith, length-blanks tableLimit))
