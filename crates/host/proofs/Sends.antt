@@ -77,7 +77,8 @@ module _ (ws : List ℕ) (at n : ℕ) (few : n ≤ frameLimit) (room : claimWidt
   four-turn {out} {x} e f =
       let g : claimWidth * (at + i) ≡ claimWidth * at + claimWidth * i = omega arith in
       let read : x ≡ fromWords (drop (claimWidth * (at + i)) ws) = f ∙ claimAt-small ws (claimWidth * (at + i)) (omega arith) four-small in
-      set-readRun inWords (blanks frameLimit) ws (claimWidth * at) i (rw (length-blanks frameLimit) (omega arith)) e (read ∙ ap (λ (k : ℕ). fromWords (drop k ws)) g)
+      set-readRun inWords (blanks frameLimit) ws (claimWidth * at) i (rw (length-blanks frameLimit) (omega arith)) e
+      (read ∙ ap (λ (k : ℕ). fromWords (drop k ws)) g)
 
 -- ---- one frame, written to the part of the buffer from a place on
 

@@ -29,8 +29,10 @@ module _ (words : List ℕ) (at : ℕ) where
         → logWith after (at + 1) ≡ putRecord (logWith words at) sender c
     unfolding putRecord
     put-some h after e =
-        let room : at * recordWidth + 1 + claimWidth ≤ length (set words (at * recordWidth) sender) = omega (arith, length-set words (at * recordWidth) sender) in
-        rw (lt-ltb at (recordsIn words) h) (ap (λ (ws : List ℕ). logWith ws (at + 1)) (e ∙ (putClaim-fits (set words (at * recordWidth) sender) (at * recordWidth + 1) c room ∙ rw add-one)))
+        let base : ℕ = at * recordWidth in
+        let room : base + 1 + claimWidth ≤ length (set words base sender) = omega (arith, length-set words base sender) in
+        rw (lt-ltb at (recordsIn words) h)
+        (ap (λ (ws : List ℕ). logWith ws (at + 1)) (e ∙ (putClaim-fits (set words base sender) (base + 1) c room ∙ rw add-one)))
 
     pub put-past : recordsIn words ≤ at → logWith words at ≡ putRecord (logWith words at) sender c
     unfolding putRecord

@@ -47,7 +47,9 @@ module _ (done : List Delivery) (d : Delivery) (rest : List Delivery) (lent : Li
   sender-at =
       let w : List ℕ = writtenOver (deliveryWords (done ++ (d ∷ rest))) lent in
       let e : length done * recordWidth ≡ length done * recordWidth + 0 = omega arith in
-      ap (λ (k : ℕ). getD w k 0) e ∙ (sym (getD-drop (length done * recordWidth) w 0 0) ∙ (ap (λ (k : ℕ). getD (drop k w) 0 0) e ∙ ap (λ (l : List ℕ). getD l 0 0) (words-at 0)))
+      ap (λ (k : ℕ). getD w k 0) e
+      ∙ (sym (getD-drop (length done * recordWidth) w 0 0)
+      ∙ (ap (λ (k : ℕ). getD (drop k w) 0 0) e ∙ ap (λ (l : List ℕ). getD l 0 0) (words-at 0)))
 
   pub claim-at : length (done ++ (d ∷ rest)) ≤ recordsIn lent → d .claim .cnt ≤ limit
       → claimIn (writtenOver (deliveryWords (done ++ (d ∷ rest))) lent) (length done) ≡ d .claim

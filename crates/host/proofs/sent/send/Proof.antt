@@ -40,7 +40,8 @@ ran : (b : tie.After-beat-in) → let a = given b .args in
     Ran (node b) (beatenWith (a .keys .now) (a .held) (b .beat-in .result)) (b .beat-in .last .1 .1 .1 .1 .0)
 ran b =
     let s = given b in
-    beat-ran (node b) (s .pre .ordered) (s .pre .long) blank (length-replicate {A = ℕ} (claimWidth * beatLimit) 0) (b .beat-in .ensures .result) (b .beat-in .ensures .words)
+    beat-ran (node b) (s .pre .ordered) (s .pre .long) blank (length-replicate {A = ℕ} (claimWidth * beatLimit) 0)
+    (b .beat-in .ensures .result) (b .beat-in .ensures .words)
 
 -- where the image was written, and the beat before it
 abbrev image : tie.After-write-frames-arg → tie.After-write-image-in
