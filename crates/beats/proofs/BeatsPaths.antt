@@ -4,7 +4,7 @@ use mathlib.Core.Path.{_≡_, refl, sym, _∙_, ap}
 use mathlib.Core.Bool.{Bool, true, false, cond, not}
 use mathlib.Core.List.{List, [], _∷_, _++_}
 use Prim.Native.Nat.{ℕ, zero, suc, _+_, _*_, _-_, _/_, _≤_, _<_}
-use native.Mathlib.Nat.{sub-zero, zero-sub, suc-sub-suc, add-zero}
+use native.Mathlib.Nat.{add-zero}
 use native.Mathlib.Numerals.{add-one}
 use native.Mathlib.Omega.{arith}
 use borrow.Author.Tests.{le-leb, lt-leb, eq-eqb, ne-eqb, not-true, not-false}
@@ -26,7 +26,7 @@ use Rattle.rule.specs.Table.{tableLimit, beatLimit, remains, Served}
 use Rattle.rule.specs.Node.{blanks, nodeInOrder}
 use Rattle.rule.specs.Call.{claimWords, beaten, beatenLent}
 use Rattle.rule.proofs.TableLaws.{length-claimsOf}
-use Rattle.rule.proofs.NodeLaws.{length-blanks, nodeInOrder-ordered}
+use Rattle.rule.proofs.NodeLaws.{length-blanks, drop-blanks, nodeInOrder-ordered}
 use Rattle.rule.proofs.Words.{length-claimWords}
 use Rattle.nodes.specs.Lent.{nodeWith}
 use Rattle.beats.specs.declared.beats.Kept.{Kept}
