@@ -17,15 +17,15 @@ use Rattle.claims.specs.Call.{made, replied, judged}
 use Rattle.claims.specs.Lent.{replyIn}
 
 -- what a row compares: a reply with its store, a claim that was made, the number of a claim's first no, or whether a match is false
-pub data Outcome : Type 0 where
-  reply-is : Replied → Outcome
-  claim-is : Made → Outcome
-  number-is : ℕ → Outcome
-  false-is : Bool → Outcome
+pub data Compared : Type 0 where
+  reply-is : Replied → Compared
+  claim-is : Made → Compared
+  number-is : ℕ → Compared
+  false-is : Bool → Compared
 
 pub record Row : Type 0 where
-  pub gives : Outcome
-  pub wanted : Outcome
+  pub gives : Compared
+  pub wanted : Compared
 
 -- "Claims are (lo, hi, sum, cnt)."
 abbrev pub claim : ℕ → ℕ → ℕ → ℕ → Claim

@@ -16,15 +16,15 @@ use Rattle.wire.specs.Frame.{fourOf, noFrame, readFrame, writeFrame, fra
 use Rattle.wire.specs.Image.{imageBytes, noImage, readImage, imageLength, writeImage, imageLent}
 
 -- what a row compares
-pub data Outcome : Type 0 where
-  frame-is : Framed → Outcome
-  image-is : Imaged → Outcome
-  length-is : Length → Outcome
-  bytes-are : List ℕ → Outcome
+pub data Compared : Type 0 where
+  frame-is : Framed → Compared
+  image-is : Imaged → Compared
+  length-is : Length → Compared
+  bytes-are : List ℕ → Compared
 
 pub record Row : Type 0 where
-  pub gives : Outcome
-  pub wanted : Outcome
+  pub gives : Compared
+  pub wanted : Compared
 
 -- some bytes read as a frame, with the claims or the number that come of it
 abbrev pub frameGives : List ℕ → List Claim → ℕ → Row
