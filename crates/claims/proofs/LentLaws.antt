@@ -29,7 +29,7 @@ use Rattle.claims.specs.declared.answer.Replied.{Replied}
 use Rattle.claims.specs.declared.claim.Claim.{Claim}
 use Rattle.claims.specs.Claim.{span, xorAll, claimOf, noClaim}
 use Rattle.claims.specs.Question.{question, firstNo, claimQuestions}
-use Rattle.claims.specs.Reply.{hear, own, same, decide, half, help, answer, reply, numberOf}
+use Rattle.claims.specs.Reply.{hear, own, same, decide, zOf, help, answer, reply, numberOf}
 use Rattle.claims.specs.Call.{judged}
 use Rattle.claims.specs.Lent.{hearQuestions, Hearing, heard, unheard, hearIn, within, makeIn, middle, Halves, helpIn, answerAt, answerIn, replyIn}
 use Rattle.claims.proofs.Xor.{xor-assoc, xorAll-append, xorAll-snoc}
@@ -145,12 +145,12 @@ pub help-store : (l : List ℕ) (a b : ℕ) → a ≤ b → b < length l → hel
 help-store l a b h g = go (ltb (b - a) 3) refl
   where
     go : (t : Bool) → ltb (b - a) 3 ≡ t
-        → cond t (One (claimOf a b (storeOf l .keys))) (Two (claimOf a (a + half a b) (storeOf l .keys)) (claimOf (a + half a b + 1) b (storeOf l .keys)))
-        ≡ cond t (One (claimOf a b l)) (Two (claimOf a (a + half a b) l) (claimOf (a + half a b + 1) b l))
+        → cond t (One (claimOf a b (storeOf l .keys))) (Two (claimOf a (a + zOf a b) (storeOf l .keys)) (claimOf (a + zOf a b + 1) b (storeOf l .keys)))
+        ≡ cond t (One (claimOf a b l)) (Two (claimOf a (a + zOf a b) l) (claimOf (a + zOf a b + 1) b l))
     go true e = ap One (claimOf-store l a b h g)
     go false e =
         let far : 3 ≤ b - a = ltb-false (b - a) 3 e in
-        ap₂ Two (claimOf-store l a (a + half a b) (omega arith) (omega arith)) (claimOf-store l (a + half a b + 1) b (omega arith) g)
+        ap₂ Two (claimOf-store l a (a + zOf a b) (omega arith) (omega arith)) (claimOf-store l (a + zOf a b + 1) b (omega arith) g)
 
 module _ (l : List ℕ) (short : length l ≤ limit) (rise : Rising l) (c : Claim) (good : Passes c)
     (held-lo : List·Memᴰ (c .lo) l) (held-hi : List·Memᴰ (c .hi) l) where
@@ -246,8 +246,8 @@ xor-last i n l h =
     rw (e, getD-drop, xorAll-snoc, xor-assoc, xor-self, xor-zero-r)
 
 -- where the first of two claims ends
-pub middle-half : (first last : ℕ) → first + 1 < last → middle first last ≡ first + 1 + half (first + 1) (last - 1) + 1
-middle-half first last h = omega arith
+pub middle-zOf : (first last : ℕ) → first + 1 < last → middle first last ≡ first + 1 + zOf (first + 1) (last - 1) + 1
+middle-zOf first last h = omega arith
 
 pub middle-lt : (first last : ℕ) → 3 ≤ last - 1 - (first + 1) → middle first last < last
 middle-lt first last h = omega arith

@@ -20,11 +20,11 @@ use Rattle.claims.specs.declared.answer.Answer.the-variants.{Refused, Ma
 use Rattle.claims.specs.declared.claim.Claim.{Claim}
 use Rattle.claims.specs.declared.lent.Heard.{Heard}
 use Rattle.claims.specs.Claim.{xorAll, span, claimOf, noClaim}
-use Rattle.claims.specs.Reply.{same, half, decide}
+use Rattle.claims.specs.Reply.{same, zOf, decide}
 use Rattle.claims.specs.Call.{judged}
 use Rattle.claims.specs.Lent.{Hearing, hearingWith, heard, unheard, notHeard, hearIn}
 use Rattle.claims.specs.Lent.{within, Positions, makeIn, middle, helpIn, answerAt, answerIn, repliedWith, replyIn}
-use Rattle.claims.proofs.LentLaws.{hearIn-judged, hearIn-unfit, hearIn-fit, hearIn-kept, hearIn-laid, part, middle-half}
+use Rattle.claims.proofs.LentLaws.{hearIn-judged, hearIn-unfit, hearIn-fit, hearIn-kept, hearIn-laid, part, middle-zOf}
 
 -- `hear_in`
 
@@ -115,8 +115,8 @@ module _ (keys : List ℕ) (first last : ℕ) where
       → (c d : Claim) → c ≡ claimOf (first + 1) (middle first last - 1) keys → d ≡ claimOf (middle first last) (last - 1) keys
       → Two c d ≡ helpIn keys first last
   help-two h g c d e f =
-      let i = middle-half first last h in
-      let j = end-before (middle first last) (first + 1 + half (first + 1) (last - 1)) i in
+      let i = middle-zOf first last h in
+      let j = end-before (middle first last) (first + 1 + zOf (first + 1) (last - 1)) i in
       rw (lt-ltb (first + 1) last h, le-ltb (last - 1 - (first + 1)) 3 g)
       (ap₂ Two (e ∙ ap (λ (n : ℕ). claimOf (first + 1) n keys) j) (f ∙ ap (λ (n : ℕ). claimOf n (last - 1) keys) i))
 

@@ -24,7 +24,7 @@ use Rattle.claims.specs.declared.claim.Claim.{Claim}
 use Rattle.claims.specs.declared.answer.Answer.{Answer}
 use Rattle.claims.specs.declared.answer.Answer.the-variants.{Refused, Match, Ask, One, Two}
 use Rattle.claims.specs.Claim.{span, xorAll, claimOf, between}
-use Rattle.claims.specs.Reply.{adding, hear, own, same, half, help, decide, answer, reply, numberOf, claimsOf, matches, sameKeys, falseMatch}
+use Rattle.claims.specs.Reply.{adding, hear, own, same, zOf, help, decide, answer, reply, numberOf, claimsOf, matches, sameKeys, falseMatch}
 use Rattle.claims.proofs.Xor.{xorAll-one, xorAll-two}
 use Rattle.claims.proofs.Between.{inside, mem-between, between-one, between-inside, length-between-inside, between-rising, between-sub}
 use Rattle.claims.proofs.Span.{first, last, first-between, last-between, first-span, last-span, length-span, span-join, between-span, span-inside}
@@ -181,15 +181,15 @@ help-answered c l r i j p q h g n o = go (ltb (j - 1 - (i + 1)) 3) refl
     middle = span-inside i j l r h g ∙ ap₂ (λ (x y : ℕ). inside x y l) p q
 
     go : (t : Bool) → ltb (j - 1 - (i + 1)) 3 ≡ t
-        → Answered c l (cond t (One (claimOf (i + 1) (j - 1) l)) (Two (claimOf (i + 1) (i + 1 + half (i + 1) (j - 1)) l) (claimOf (i + 1 + half (i + 1) (j - 1) + 1) (j - 1) l)))
+        → Answered c l (cond t (One (claimOf (i + 1) (j - 1) l)) (Two (claimOf (i + 1) (i + 1 + zOf (i + 1) (j - 1)) l) (claimOf (i + 1 + zOf (i + 1) (j - 1) + 1) (j - 1) l)))
     go true e =
         helped-one n o
         (claimOf-span (i + 1) (j - 1) l h (omega arith) ∙ ap spanClaim middle)
         (subst (λ (m : List ℕ). Part (c .lo) (c .hi) l m) middle (span-part (c .lo) (c .hi) i (i + 1) (j - 1) j l r p q (omega arith) h (omega arith) g))
     go false e =
         let w : 3 ≤ j - 1 - (i + 1) = ltb-false (j - 1 - (i + 1)) 3 e in
-        let z : i + 1 + half (i + 1) (j - 1) < j - 1 = omega arith in
-        let cut = i + 1 + half (i + 1) (j - 1) in
+        let z : i + 1 + zOf (i + 1) (j - 1) < j - 1 = omega arith in
+        let cut = i + 1 + zOf (i + 1) (j - 1) in
         helped-two (span (i + 1) cut l) (span (cut + 1) (j - 1) l) n o
         (claimOf-span (i + 1) cut l (omega arith) (omega arith))
         (claimOf-span (cut + 1) (j - 1) l (omega arith) (omega arith))
@@ -228,7 +228,7 @@ reply-answered c l r p = answered c (hear c l) (hear-rising c l r) p (hear-lo c 
 pub numberOf-help : (a b : ℕ) (l : List ℕ) → numberOf (help a b l) ≡ 0
 numberOf-help a b l = go (ltb (b - a) 3)
   where
-    go : (t : Bool) → numberOf (cond t (One (claimOf a b l)) (Two (claimOf a (a + half a b) l) (claimOf (a + half a b + 1) b l))) ≡ 0
+    go : (t : Bool) → numberOf (cond t (One (claimOf a b l)) (Two (claimOf a (a + zOf a b) l) (claimOf (a + zOf a b + 1) b l))) ≡ 0
     go true = refl
     go false = refl
 
@@ -365,9 +365,9 @@ help-span a b l h g = go (ltb (b - a) 3) refl (length-span a b l h g)
         let size : length m - 1 ≡ b - a = omega arith in
         let z : b + 1 - a ≡ length m = omega arith in
         let w : 3 ≤ b - a = ltb-false (b - a) 3 e in
-        let i : half a b ≡ length m / 2 = ap (λ (x : ℕ). x / 2) z in
-        let cut : ℕ = a + half a b in
-        let f : a + half a b < b = omega arith in
+        let i : zOf a b ≡ length m / 2 = ap (λ (x : ℕ). x / 2) z in
+        let cut : ℕ = a + zOf a b in
+        let f : a + zOf a b < b = omega arith in
         let j : m ≡ span a cut l ++ span (cut + 1) b l = span-join a cut b l (omega arith) f in
         let k : length (span a cut l) ≡ length m / 2 + 1 = length-span a cut l (omega arith) (omega arith) ∙ (omega arith) in
         let x : take (length m / 2 + 1) m ≡ span a cut l = ap (take (length m / 2 + 1)) j ∙ take-at (span a cut l) (span (cut + 1) b l) (length m / 2 + 1) k in

@@ -32,14 +32,14 @@ abbrev pub same : Claim → Claim → Bool
 same c d = eqb (c .lo) (d .lo) && eqb (c .hi) (d .hi) && eqb (c .sum) (d .sum) && eqb (c .cnt) (d .cnt)
 
 -- "If b − a < 3: one claim, a to b. Else with z = (b + 1 − a) div 2: two claims, a to a + z, then a + z + 1 to b." Lines 30 to 35.
-abbrev pub half : ℕ → ℕ → ℕ
-half a b = (b + 1 - a) / 2
+abbrev pub zOf : ℕ → ℕ → ℕ
+zOf a b = (b + 1 - a) / 2
 
 abbrev pub help : ℕ → ℕ → List ℕ → Answer
 help a b l =
     cond (ltb (b - a) 3)
     (One (claimOf a b l))
-    (Two (claimOf a (a + half a b) l) (claimOf (a + half a b + 1) b l))
+    (Two (claimOf a (a + zOf a b) l) (claimOf (a + zOf a b + 1) b l))
 
 -- "Own equals the claim in all four fields: match. cnt greater than own cnt: ask, which carries own. Otherwise help." Lines 21 to 28.
 abbrev pub decide : Claim → Claim → Answer → Answer
