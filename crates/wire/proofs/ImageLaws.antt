@@ -28,7 +28,7 @@ use Rattle.wire.specs.Length.{noLength}
 use Rattle.wire.specs.Image.{keySection, claimSection, sections, sectionLength, imageLimit, sectionBytes, imageBytes, nodeBytes, Shaped, countOf, behind}
 use Rattle.wire.specs.Image.{countFits, countsFit, toldLength, question14, parse, nodeFrom, readImageQuestions, noImage, readImage}
 use Rattle.wire.specs.Image.{writeImageQuestions, writeImage, imageLent}
-use Rattle.wire.specs.Told.{AsTold}
+use Rattle.wire.specs.Sizes.{AsTold}
 use Rattle.wire.proofs.NumberLaws.{length-bytes}
 use Rattle.wire.proofs.RunLaws.{length-writeRun, key-faithful, claim-faithful}
 use Rattle.wire.proofs.QuestionLaws.{settle-number}

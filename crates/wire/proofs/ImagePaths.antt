@@ -21,7 +21,7 @@ use Rattle.rule.proofs.PlaceLaws.{putAt-front, putAt-replicate}
 use Rattle.nodes.specs.Lent.{nodeWith}
 use Rattle.wire.specs.declared.answer.Length.{Length}
 use Rattle.wire.specs.declared.image.Part.{Part}
-use Rattle.wire.specs.declared.image.Told.{Told}
+use Rattle.wire.specs.declared.image.Sizes.{Sizes}
 use Rattle.wire.specs.Number.{bytes, numberAt}
 use Rattle.wire.specs.Claim.{keyWidth, countWidth, claimSize}
 use Rattle.wire.specs.Run.{key, claim, readRun, writeRun}
@@ -29,12 +29,12 @@ use Rattle.wire.specs.Length.{noLength}
 use Rattle.wire.specs.Image.{keySection, claimSection, sections, sectionLength, imageBytes, nodeBytes, Shaped, countOf, behind, countFits}
 use Rattle.wire.specs.Image.{countsFit, toldLength}
 use Rattle.wire.specs.Image.{parse, nodeFrom, imageLength, writeImage, imageLent}
-use Rattle.wire.specs.Told.{partOf, toldOf, AsTold, Readable, HasRoom}
+use Rattle.wire.specs.Sizes.{partOf, sizesOf, AsTold, Readable, HasRoom}
 use Rattle.wire.specs.Lent.{noRest, readIn, readInLent, withinLimits, writeImageIn, imageInLent}
 use Rattle.wire.proofs.NumberLaws.{length-bytes, numberAt-drop}
 use Rattle.wire.proofs.RunLaws.{length-readRun, length-writeRun, key-faithful, claim-faithful}
 use Rattle.wire.proofs.ImageLaws.{countFits-missing, countFits-high, countFits-of, whole-told, length-nodeKeys, length-pending, length-nodeBytes}
-use Rattle.wire.proofs.ToldLaws.{partOf-no, partOf-yes, partOf-fits, partOf-count, toldOf-no, toldOf-yes, toldOf-fits, told-room}
+use Rattle.wire.proofs.SizesLaws.{partOf-no, partOf-yes, partOf-fits, partOf-count, sizesOf-no, sizesOf-yes, sizesOf-fits, told-room}
 use Rattle.wire.proofs.LentLaws.{withinLimits-yes, writeImageIn-0, writeImageIn-writeImage, imageInLent-imageLent}
 
 -- ---- part_at
@@ -56,7 +56,7 @@ module _ (most : ℕ) (bs : List ℕ) (at : ℕ) where
     pub part-fits : k ≤ most → record { fits = true; count = k } ≡ partOf most (drop at bs)
     part-fits h = (λ i. record { fits = true; count = counted i }) ∙ partOf-yes most (drop at bs) (countFits-of most (drop at bs) long (rw counted at h))
 
--- ---- told_by
+-- ---- sizes_of
 
 module _ (bs : List ℕ) {p q : Part} (e : p ≡ partOf limit bs)
     (f : q ≡ partOf tableLimit (drop (countWidth + keyWidth * p .count) bs)) where
@@ -69,32 +69,32 @@ module _ (bs : List ℕ) {p q : Part} (e : p ≡ partOf limit bs)
   pending-fit : p .fits ≡ true → q .fits ≡ countFits tableLimit (behind keySection bs)
   pending-fit t = rw (f, place t) (partOf-fits tableLimit (behind keySection bs))
 
-  pub told-keys : not (p .fits) ≡ true → record { fits = false; keys = 0; pending = 0; length = 0 } ≡ toldOf bs
+  pub sizes-keys : not (p .fits) ≡ true → record { fits = false; keys = 0; pending = 0; length = 0 } ≡ sizesOf bs
   unfolding countsFit
-  told-keys t = toldOf-no bs (rw (← keys-fit, not-true (p .fits) t))
+  sizes-keys t = sizesOf-no bs (rw (← keys-fit, not-true (p .fits) t))
 
-  pub told-pending : not (p .fits) ≡ false → not (q .fits) ≡ true → record { fits = false; keys = 0; pending = 0; length = 0 } ≡ toldOf bs
+  pub sizes-pending : not (p .fits) ≡ false → not (q .fits) ≡ true → record { fits = false; keys = 0; pending = 0; length = 0 } ≡ sizesOf bs
   unfolding countsFit
-  told-pending t u = let f = not-false (p .fits) t in toldOf-no bs (rw (← keys-fit, f, ← pending-fit f, not-true (q .fits) u))
+  sizes-pending t u = let f = not-false (p .fits) t in sizesOf-no bs (rw (← keys-fit, f, ← pending-fit f, not-true (q .fits) u))
 
-  pub told-both : not (p .fits) ≡ false → not (q .fits) ≡ false
+  pub sizes-both : not (p .fits) ≡ false → not (q .fits) ≡ false
       → record { fits = true; keys = p .count; pending = q .count; length = countWidth + keyWidth * p .count + countWidth + claimSize * q .count }
-      ≡ toldOf bs
+      ≡ sizesOf bs
   unfolding countsFit toldLength
-  told-both t′ u′ =
+  sizes-both t′ u′ =
       let t = not-false (p .fits) t′ in
       let k : countFits limit bs ≡ true = sym keys-fit ∙ t in
       let l : countFits tableLimit (behind keySection bs) ≡ true = sym (pending-fit t) ∙ not-false (q .fits) u′ in
       let m : p .count ≡ countOf bs = rw e (partOf-count limit bs k) in
       let n : q .count ≡ countOf (behind keySection bs) = rw (f, place t) (partOf-count tableLimit (behind keySection bs) l) in
       let whole : countWidth + keyWidth * p .count + countWidth + claimSize * q .count ≡ toldLength sections bs = rw (m, n) (omega arith) in
-      (λ i. record { fits = true; keys = m i; pending = n i; length = whole i }) ∙ toldOf-yes bs (rw (k, l))
+      (λ i. record { fits = true; keys = m i; pending = n i; length = whole i }) ∙ sizesOf-yes bs (rw (k, l))
 
 -- ---- image_length, read_image_in
 
-module _ (bs : List ℕ) {t : Told} (e : t ≡ toldOf bs) where
+module _ (bs : List ℕ) {t : Sizes} (e : t ≡ sizesOf bs) where
   counts : countsFit sections bs ≡ t .fits
-  counts = rw e (sym (toldOf-fits bs))
+  counts = rw e (sym (sizesOf-fits bs))
 
   lacking : not (t .fits) ≡ true → countsFit sections bs ≡ false
   lacking h = counts ∙ not-true (t .fits) h
@@ -116,7 +116,7 @@ module _ (bs : List ℕ) {t : Told} (e : t ≡ toldOf bs) where
     all-fit = counts ∙ not-false (t .fits) fits
 
     lengths : t .length ≡ toldLength sections bs
-    lengths = rw (e, ← toldOf-yes bs all-fit)
+    lengths = rw (e, ← sizesOf-yes bs all-fit)
 
     pub imageLength-short : length bs < t .length → noLength 14 ≡ imageLength bs
     unfolding imageLength
@@ -136,7 +136,7 @@ module _ (bs : List ℕ) {t : Told} (e : t ≡ toldOf bs) where
 
     told-as : length bs ≡ t .length → AsTold bs (t .keys) (t .pending)
     told-as whole =
-        record { counts = all-fit; whole = whole ∙ lengths; keys = rw (e, ← toldOf-yes bs all-fit); pending = rw (e, ← toldOf-yes bs all-fit) }
+        record { counts = all-fit; whole = whole ∙ lengths; keys = rw (e, ← sizesOf-yes bs all-fit); pending = rw (e, ← sizesOf-yes bs all-fit) }
 
     pub told-readable : length bs ≡ t .length → Readable bs (t .keys) (t .pending)
     told-readable whole =

@@ -23,7 +23,7 @@ use Rattle.wire.specs.Run.{key, claim, Each}
 use Rattle.wire.specs.Image.{keySection, claimSection, sections, sectionLength, imageLimit, sectionBytes, imageBytes, nodeBytes, Shaped}
 use Rattle.wire.specs.Image.{NodeFits, countOf, behind, countFits, countsFit, toldLength, thingsIn, parse, nodeFrom, readImage, writeImage}
 use Rattle.wire.specs.Image.{imageLent, imageLength}
-use Rattle.wire.specs.Told.{AsTold}
+use Rattle.wire.specs.Sizes.{AsTold}
 use Rattle.wire.proofs.NumberLaws.{below-drop}
 use Rattle.wire.proofs.RunLaws.{each-take, key-faithful, claim-faithful}
 use Rattle.wire.proofs.ImageLaws.{ordered-counts, length-nodeBytes, length-nodeKeys, length-pending, readImage-0, readImage-yes, writeImage-0}

@@ -22,13 +22,13 @@ use Rattle.rule.proofs.NodeLaws.{nodeKeys-nodeOf, pendingOf-nodeOf}
 use Rattle.nodes.specs.Lent.{nodeWith, frontIn}
 use Rattle.wire.specs.Claim.{countWidth}
 use Rattle.wire.specs.Run.{key, claim}
-use Rattle.wire.specs.Told.{AsTold}
+use Rattle.wire.specs.Sizes.{AsTold}
 use Rattle.wire.specs.Image.{nodeBytes, keySection, sections, countOf, behind, countsFit, toldLength, parse, nodeFrom, question14, noImage, readImage, writeImage, imageLent}
 use Rattle.wire.specs.Lent.{restOf, noRest, readIn, readInLent, withinLimits, writeImageIn, imageInLent}
 use Rattle.wire.proofs.QuestionLaws.{settle-number}
 use Rattle.wire.proofs.RunLaws.{length-readRun}
 use Rattle.wire.proofs.ImageLaws.{ordered-counts}
-use Rattle.wire.proofs.ToldLaws.{told-room}
+use Rattle.wire.proofs.SizesLaws.{told-room}
 
 -- ---- reading
 

@@ -8,7 +8,7 @@
 --   FramePaths    the ways of src/frame.rt
 --   FrameTrips    the round trips of frames
 --   ImageLaws     question 14, and what the calls return
---   ToldLaws      what an image's counts tell
+--   SizesLaws     what an image's counts tell
 --   LentLaws      the calls on lent keys, by the definitions of images
 --   ImagePaths    the ways of src/image.rt
 --   SectionLaws   a section at the front of some bytes, both ways
@@ -22,7 +22,7 @@ pub mod FrameLaws
 pub mod FramePaths
 pub mod FrameTrips
 pub mod ImageLaws
-pub mod ToldLaws
+pub mod SizesLaws
 pub mod LentLaws
 pub mod ImagePaths
 pub mod SectionLaws

@@ -5,7 +5,7 @@
 --   Length  a length as a call returns it
 --   Frame   frames, read and written
 --   Image   images, read and written
---   Told    what an image's counts tell, as the code hands it on
+--   Sizes   what an image's counts tell, as the code hands it on
 --   Cases   worked examples, as one table
 --   Lent    calls between our own crates, on lent keys, and no rule of document 01
 pub mod Number
@@ -14,6 +14,6 @@ pub mod Run
 pub mod Length
 pub mod Frame
 pub mod Image
-pub mod Told
+pub mod Sizes
 pub mod Cases
 pub mod Lent

@@ -19,7 +19,7 @@ ghost use Rattle.nodes.specs.Lent.{nodeWith};
 ghost use Rattle.wire.specs.Claim.{keyWidth, claimSize};
 ghost use Rattle.wire.specs.Run.{key as key-layout, claim as claim-layout, readRun, writeRun};
 ghost use Rattle.wire.specs.Image.{imageLimit, nodeBytes, noImage, readImage, imageLength, writeImage, imageLent};
-ghost use Rattle.wire.specs.Told.{IsPart, toldOf, Readable, HasRoom};
+ghost use Rattle.wire.specs.Sizes.{IsPart, sizesOf, Readable, HasRoom};
 ghost use Rattle.wire.specs.Lent.{noRest, readIn, readInLent, withinLimits, writeImageIn, imageInLent};
 
 // A section as its count tells it: whether the count is there and not too high, and the count.
@@ -29,7 +29,7 @@ struct Part {
 }
 
 // An image as its counts tell it: whether both are there and not too high, the counts and the length.
-struct Told {
+struct Sizes {
     fits: bool,
     keys: usize,
     pending: usize,
@@ -58,14 +58,14 @@ fn part_at(bytes: &[u8], at: usize, most: usize) -> Part
 }
 
 // What both counts tell.
-fn told_by(bytes: &[u8]) -> Told
-    ensures { λ r. ⌜ r ≡ toldOf (now (bytes .entry)) ⌝ }
+fn sizes_of(bytes: &[u8]) -> Sizes
+    ensures { λ r. ⌜ r ≡ sizesOf (now (bytes .entry)) ⌝ }
 {
     let keys = part_at(bytes, 0, Store::LIMIT);
     let at = number::COUNT + number::KEY * keys.count;
     let pending = part_at(bytes, at, Node::TABLE);
     if !keys.fits {
-        return Told {
+        return Sizes {
             fits: false,
             keys: 0,
             pending: 0,
@@ -73,14 +73,14 @@ fn told_by(bytes: &[u8]) -> Told
         };
     }
     if !pending.fits {
-        return Told {
+        return Sizes {
             fits: false,
             keys: 0,
             pending: 0,
             length: 0,
         };
     }
-    Told {
+    Sizes {
         fits: true,
         keys: keys.count,
         pending: pending.count,
@@ -92,14 +92,14 @@ fn told_by(bytes: &[u8]) -> Told
 pub fn image_length(bytes: &[u8]) -> Length
     ensures { λ r. ⌜ r ≡ imageLength (now (bytes .entry)) ⌝ }
 {
-    let told = told_by(bytes);
-    if !told.fits {
+    let sizes = sizes_of(bytes);
+    if !sizes.fits {
         return Length {
             number: 14,
             length: 0,
         };
     }
-    if bytes.len() < told.length {
+    if bytes.len() < sizes.length {
         return Length {
             number: 14,
             length: 0,
@@ -107,7 +107,7 @@ pub fn image_length(bytes: &[u8]) -> Length
     }
     Length {
         number: 0,
-        length: told.length,
+        length: sizes.length,
     }
 }
 
@@ -202,14 +202,14 @@ pub fn read_image_in(bytes: &[u8], keys: &mut [u64; Store::LIMIT]) -> Rest
     ensures { λ r. ⌜ (r ≡ readIn (now (bytes .entry)))
         × (now (keys .exit) ≡ readInLent (now (bytes .entry)) (now (keys .entry))) ⌝ }
 {
-    let told = told_by(bytes);
-    if !told.fits {
+    let sizes = sizes_of(bytes);
+    if !sizes.fits {
         return unread(14);
     }
-    if bytes.len() != told.length {
+    if bytes.len() != sizes.length {
         return unread(14);
     }
-    contents(bytes, told.keys, told.pending, keys)
+    contents(bytes, sizes.keys, sizes.pending, keys)
 }
 
 // A node with the empty store and nothing pending.

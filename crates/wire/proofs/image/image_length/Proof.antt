@@ -4,8 +4,8 @@ use Rattle.wire.proofs.ImagePaths.{imageLength-counts, imageLength-shor
 use Rattle.wire.proofs.image.image_length.Statement.{statement}
 use Rattle.wire.proofs.image.image_length.Tie as tie
 
-told-by-requires : tie.Need-told-by-requires
-told-by-requires c κs = search needs
+sizes-of-requires : tie.Need-sizes-of-requires
+sizes-of-requires c κs = search needs
 
 returns : tie.Need-returns
 returns c = search (needs, imageLength-counts)
@@ -17,4 +17,4 @@ returns-3 : tie.Need-returns-3
 returns-3 c = search (needs, imageLength-0)
 
 pub image-length-spec : {M : Type 1} → statement M
-image-length-spec = tie.close (tie.spec told-by-requires returns returns-2 returns-3)
+image-length-spec = tie.close (tie.spec sizes-of-requires returns returns-2 returns-3)

@@ -4,8 +4,8 @@ use Rattle.wire.proofs.ImagePaths.{readIn-counts, readInLent-counts, re
 use Rattle.wire.proofs.image.read_image_in.Statement.{statement}
 use Rattle.wire.proofs.image.read_image_in.Tie as tie
 
-told-by-requires : tie.Need-told-by-requires
-told-by-requires c κs = search needs
+sizes-of-requires : tie.Need-sizes-of-requires
+sizes-of-requires c κs = search needs
 
 unread-requires : tie.Need-unread-requires
 unread-requires c κs = search needs
@@ -29,7 +29,7 @@ pub read-image-in-spec : {M : Type 1} → statement M
 read-image-in-spec =
     tie.close
     (tie.spec
-    told-by-requires
+    sizes-of-requires
     unread-requires
     returns
     unread-requires-2

@@ -1,4 +1,4 @@
--- Laws of specs/Told: a part and a whole image as their counts tell them. Assumes nothing.
+-- Laws of specs/Sizes: a part and a whole image as their counts tell them. Assumes nothing.
 use Prim.Native.Nat.{ℕ, _+_, _≤_}
 use native.Mathlib.Omega.{arith}
 use mathlib.Core.Bool.{Bool, true, false, _&&_}
@@ -9,7 +9,7 @@ use Rattle.keys.specs.Store.{limit}
 use Rattle.keys.proofs.Tests.{and-left, and-right}
 use Rattle.rule.specs.Table.{tableLimit}
 use Rattle.wire.specs.Image.{keySection, claimSection, sections, sectionLength, countOf, behind, countFits, countsFit, toldLength}
-use Rattle.wire.specs.Told.{partOf, toldOf, AsTold}
+use Rattle.wire.specs.Sizes.{partOf, sizesOf, AsTold}
 use Rattle.wire.proofs.ImageLaws.{countFits-yes}
 
 module _ (most : ℕ) (bs : List ℕ) where
@@ -33,21 +33,21 @@ module _ (most : ℕ) (bs : List ℕ) where
   partOf-count e = rw (← partOf-yes e)
 
 module _ (bs : List ℕ) where
-  pub toldOf-no : countsFit sections bs ≡ false → record { fits = false; keys = 0; pending = 0; length = 0 } ≡ toldOf bs
-  unfolding toldOf
-  toldOf-no e = rw e
+  pub sizesOf-no : countsFit sections bs ≡ false → record { fits = false; keys = 0; pending = 0; length = 0 } ≡ sizesOf bs
+  unfolding sizesOf
+  sizesOf-no e = rw e
 
-  pub toldOf-yes : countsFit sections bs ≡ true
-      → record { fits = true; keys = countOf bs; pending = countOf (behind keySection bs); length = toldLength sections bs } ≡ toldOf bs
-  unfolding toldOf
-  toldOf-yes e = rw e
+  pub sizesOf-yes : countsFit sections bs ≡ true
+      → record { fits = true; keys = countOf bs; pending = countOf (behind keySection bs); length = toldLength sections bs } ≡ sizesOf bs
+  unfolding sizesOf
+  sizesOf-yes e = rw e
 
-  pub toldOf-fits : toldOf bs .fits ≡ countsFit sections bs
-  toldOf-fits = go (countsFit sections bs) refl
+  pub sizesOf-fits : sizesOf bs .fits ≡ countsFit sections bs
+  sizesOf-fits = go (countsFit sections bs) refl
     where
-      go : (t : Bool) → countsFit sections bs ≡ t → toldOf bs .fits ≡ countsFit sections bs
-      go true e = rw (e, ← toldOf-yes e)
-      go false e = rw (e, ← toldOf-no e)
+      go : (t : Bool) → countsFit sections bs ≡ t → sizesOf bs .fits ≡ countsFit sections bs
+      go true e = rw (e, ← sizesOf-yes e)
+      go false e = rw (e, ← sizesOf-no e)
 
 -- counts and length as told leave room for what is read
 module _ {bs : List ℕ} {n m : ℕ} (told : AsTold bs n m) where

@@ -1,8 +1,8 @@
--- `image::told_by` meets its contract: one law for each way. Assumes nothing.
+-- `image::sizes_of` meets its contract: one law for each way. Assumes nothing.
 use borrow.Author.Needs.{needs}
-use Rattle.wire.proofs.ImagePaths.{told-keys, told-pending, told-both}
-use Rattle.wire.proofs.image.told_by.Statement.{statement}
-use Rattle.wire.proofs.image.told_by.Tie as tie
+use Rattle.wire.proofs.ImagePaths.{sizes-keys, sizes-pending, sizes-both}
+use Rattle.wire.proofs.image.sizes_of.Statement.{statement}
+use Rattle.wire.proofs.image.sizes_of.Tie as tie
 
 part-at-requires : tie.Need-part-at-requires
 part-at-requires c κs = search needs
@@ -17,10 +17,10 @@ part-at-requires-2 : tie.Need-part-at-requires-2
 part-at-requires-2 c κs = search needs
 
 returns : tie.Need-returns
-returns c = search (needs, told-keys)
+returns c = search (needs, sizes-keys)
 
 returns-2 : tie.Need-returns-2
-returns-2 c = search (needs, told-pending)
+returns-2 c = search (needs, sizes-pending)
 
 add-t5 : tie.Need-add-t5
 add-t5 c = search needs
@@ -32,10 +32,10 @@ add-t8 : tie.Need-add-t8
 add-t8 c = search needs
 
 returns-3 : tie.Need-returns-3
-returns-3 c = search (needs, told-both)
+returns-3 c = search (needs, sizes-both)
 
-pub told-by-spec : {M : Type 1} → statement M
-told-by-spec =
+pub sizes-of-spec : {M : Type 1} → statement M
+sizes-of-spec =
     tie.close
     (tie.spec
     part-at-requires

@@ -8,7 +8,7 @@ use Rattle.keys.specs.Store.{limit}
 use Rattle.rule.specs.declared.node.Node.{Node}
 use Rattle.rule.specs.Table.{tableLimit}
 use Rattle.wire.specs.declared.image.Part.{Part}
-use Rattle.wire.specs.declared.image.Told.{Told}
+use Rattle.wire.specs.declared.image.Sizes.{Sizes}
 use Rattle.wire.specs.Image.{keySection, claimSection, sections, sectionLength, countOf, behind, countFits, countsFit, toldLength}
 
 -- the section at the front, of which there may be `most` things
@@ -21,8 +21,8 @@ pub record IsPart (most : ℕ) (bs : List ℕ) (r : Part) : Type 0 where
   pub few : r .count ≤ most
 
 -- the whole image
-unfoldable pub toldOf : List ℕ → Told
-toldOf bs =
+unfoldable pub sizesOf : List ℕ → Sizes
+sizesOf bs =
     cond (countsFit sections bs)
     (record { fits = true; keys = countOf bs; pending = countOf (behind keySection bs); length = toldLength sections bs })
     (record { fits = false; keys = 0; pending = 0; length = 0 })
