@@ -312,19 +312,19 @@ matches-match (One c) h = absurd (false≢true h)
 matches-match (Two c d) h = absurd (false≢true h)
 
 -- a match that is not false: the sender held just what the receiver holds
-pub match-same : (held : List ℕ) (c : Claim) (l : List ℕ) → falseMatch held c l ≡ false → reply c l ≡ Match → held ≡ between (c .lo) (c .hi) (hear c l)
-match-same held c l h e = go (matches (reply c l)) (ap matches e) (sameKeys held (between (c .lo) (c .hi) (hear c l))) refl h
+pub match-same : (claimed : List ℕ) (c : Claim) (l : List ℕ) → falseMatch claimed c l ≡ false → reply c l ≡ Match → claimed ≡ between (c .lo) (c .hi) (hear c l)
+match-same claimed c l h e = go (matches (reply c l)) (ap matches e) (sameKeys claimed (between (c .lo) (c .hi) (hear c l))) refl h
   where
-    go : (t : Bool) → t ≡ true → (u : Bool) → sameKeys held (between (c .lo) (c .hi) (hear c l)) ≡ u → (t && not u) ≡ false
-        → held ≡ between (c .lo) (c .hi) (hear c l)
-    go true p true q f = sameKeys-equal held (between (c .lo) (c .hi) (hear c l)) q
+    go : (t : Bool) → t ≡ true → (u : Bool) → sameKeys claimed (between (c .lo) (c .hi) (hear c l)) ≡ u → (t && not u) ≡ false
+        → claimed ≡ between (c .lo) (c .hi) (hear c l)
+    go true p true q f = sameKeys-equal claimed (between (c .lo) (c .hi) (hear c l)) q
     go true p false q f = absurd (true≢false f)
     go false p u q f = absurd (false≢true p)
 
 -- .. and the other way round
-pub same-match : (held : List ℕ) (c : Claim) (l : List ℕ) → held ≡ between (c .lo) (c .hi) (hear c l) → falseMatch held c l ≡ false
-same-match held c l e =
-    go (matches (reply c l)) (sameKeys held (between (c .lo) (c .hi) (hear c l))) (subst (λ (k : List ℕ). sameKeys held k ≡ true) e (sameKeys-refl held))
+pub same-match : (claimed : List ℕ) (c : Claim) (l : List ℕ) → claimed ≡ between (c .lo) (c .hi) (hear c l) → falseMatch claimed c l ≡ false
+same-match claimed c l e =
+    go (matches (reply c l)) (sameKeys claimed (between (c .lo) (c .hi) (hear c l))) (subst (λ (k : List ℕ). sameKeys claimed k ≡ true) e (sameKeys-refl claimed))
   where
     go : (t u : Bool) → u ≡ true → (t && not u) ≡ false
     go true true h = refl
@@ -332,11 +332,11 @@ same-match held c l e =
     go false u h = refl
 
 -- What the definition means, cited nowhere: a false match is a match, and the keys differ.
-pub falseMatch-differs : (held : List ℕ) (c : Claim) (l : List ℕ) → falseMatch held c l ≡ true
-    → (reply c l ≡ Match) × (held ≡ between (c .lo) (c .hi) (hear c l) → ⊥)
-falseMatch-differs held c l h = (
-  matches-match (reply c l) (and-left (matches (reply c l)) (not (sameKeys held (between (c .lo) (c .hi) (hear c l)))) h),
-  λ (e : held ≡ between (c .lo) (c .hi) (hear c l)). false≢true (sym (same-match held c l e) ∙ h),
+pub falseMatch-differs : (claimed : List ℕ) (c : Claim) (l : List ℕ) → falseMatch claimed c l ≡ true
+    → (reply c l ≡ Match) × (claimed ≡ between (c .lo) (c .hi) (hear c l) → ⊥)
+falseMatch-differs claimed c l h = (
+  matches-match (reply c l) (and-left (matches (reply c l)) (not (sameKeys claimed (between (c .lo) (c .hi) (hear c l)))) h),
+  λ (e : claimed ≡ between (c .lo) (c .hi) (hear c l)). false≢true (sym (same-match claimed c l e) ∙ h),
 )
 
 -- ---- an answer by the keys from lo to hi alone

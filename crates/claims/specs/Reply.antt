@@ -103,6 +103,6 @@ sameKeys (j ∷ js) [] = false
 sameKeys (j ∷ js) (k ∷ ks) = eqb j k && sameKeys js ks
 
 -- "A match is false if, when the claim was made, its sender held other keys from lo to hi than the receiver holds at the match, what the reply
--- added counted in." Of the reply to c by a receiver with the keys l, where the sender held `held` from lo to hi.
+-- added counted in." Of the reply to c by a receiver with the keys l, where the sender held `claimed` from lo to hi.
 abbrev pub falseMatch : List ℕ → Claim → List ℕ → Bool
-falseMatch held c l = matches (reply c l) && not (sameKeys held (between (c .lo) (c .hi) (hear c l)))
+falseMatch claimed c l = matches (reply c l) && not (sameKeys claimed (between (c .lo) (c .hi) (hear c l)))

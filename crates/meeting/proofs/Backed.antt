@@ -101,10 +101,10 @@ sending-backed u l t r h s f d m =
 
 pub sound-backed : (u : List ℕ) (p : Pair) (q : List Entry) (e : Entry) → Fine u p q → Sound p e → Backed u (e .claim)
 sound-backed u p q e f s =
-    let w : Sub (e .held) u = sound-within u p e s (f .within) in
-    let n : length (e .held) ≤ length u = rising-length (e .held) u (s .rises) (f .whole) w in
+    let w : Sub (e .claimed) u = sound-within u p e s (f .within) in
+    let n : length (e .claimed) ≤ length u = rising-length (e .claimed) u (s .rises) (f .whole) w in
     let h : length u ≤ limit = f .fits in
-    record { keys = e .held; claim = s .is; rises = s .rises; some = s .some; fits = omega arith; within = w }
+    record { keys = e .claimed; claim = s .is; rises = s .rises; some = s .some; fits = omega arith; within = w }
 
 abbrev pub AllBacked : List ℕ → List Line → Type 0
 AllBacked u xs = (x : Line) → List·Memᴰ x xs → Backed u (x .delivery .claim)

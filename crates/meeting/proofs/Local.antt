@@ -104,7 +104,7 @@ waits-local s a b l m (c ∷ cs) e f =
     let t = f c (List·Memᴰ·head refl) in
     let h : between (c .lo) (c .hi) l ≡ between (c .lo) (c .hi) m
     = sym (between-between a b (c .lo) (c .hi) l (t .0) (t .1)) ∙ ap (between (c .lo) (c .hi)) e ∙ between-between a b (c .lo) (c .hi) m (t .0) (t .1) in
-    ap₂ (λ (x : List ℕ) (y : List Entry). record { sender = s; claim = c; held = x } ∷ y) h (waits-local s a b l m cs e (λ d i. f d (List·Memᴰ·tail i)))
+    ap₂ (λ (x : List ℕ) (y : List Entry). record { sender = s; claim = c; claimed = x } ∷ y) h (waits-local s a b l m cs e (λ d i. f d (List·Memᴰ·tail i)))
 
 -- an entry that waits is one of the claims
 waits-mem : (s : End) (l : List ℕ) (cs : List Claim) (x : Entry) → List·Memᴰ x (waits s l cs) → List·Memᴰ (x .claim) cs
@@ -136,7 +136,7 @@ line-local p p′ e r r′ q a =
     = reply-local c (keysBefore e p) (keysBefore e p′) (r (receiver e)) (r′ (receiver e)) q (a (receiver e)) in
     let g : between (c .lo) (c .hi) (hear c (keysBefore e p)) ≡ between (c .lo) (c .hi) (hear c (keysBefore e p′))
     = hear-local c (c .lo) (c .hi) (keysBefore e p) (keysBefore e p′) (r (receiver e)) (r′ (receiver e)) (a (receiver e)) in
-    ap (λ (b : Bool). record { delivery = line e p .delivery; isFalse = b }) (ap₂ (λ (x : Answer) (y : List ℕ). matches x && not (sameKeys (e .held) y)) h g)
+    ap (λ (b : Bool). record { delivery = line e p .delivery; isFalse = b }) (ap₂ (λ (x : Answer) (y : List ℕ). matches x && not (sameKeys (e .claimed) y)) h g)
 
 -- where two pairs agree on a range, they do so after the same delivery to both
 pub delivered-local : (p p′ : Pair) (e f : Entry) → Rises p → Rises p′ → AgreeOn p p′ f → AgreeOn (delivered e p) (delivered e p′) f

@@ -47,7 +47,7 @@ grows-same p p′ r r′ g h =
 -- ---- fresh entries: what the sender held when the claim was made, it holds now
 
 abbrev pub Fresh : Pair → Entry → Type 0
-Fresh p e = e .held ≡ between (e .claim .lo) (e .claim .hi) (keysAt (e .sender) p)
+Fresh p e = e .claimed ≡ between (e .claim .lo) (e .claim .hi) (keysAt (e .sender) p)
 
 pub waits-fresh : (p : Pair) (s : End) (l : List ℕ) (cs : List Claim) → l ≡ keysAt s p → (e : Entry) → List·Memᴰ e (waits s l cs) → Fresh p e
 waits-fresh p s l [] h e m = absurd (List·Memᴰ·not-nil m)
@@ -57,7 +57,7 @@ waits-fresh p s l (c ∷ cs) h e (List·Memᴰ·tail m) = waits-fresh p s l cs h
 -- ---- entries that agree: the receiver holds just what the sender held
 
 abbrev pub Agrees : Pair → Entry → Type 0
-Agrees p e = e .held ≡ between (e .claim .lo) (e .claim .hi) (keysBefore e p)
+Agrees p e = e .claimed ≡ between (e .claim .lo) (e .claim .hi) (keysBefore e p)
 
 pub or-left : (a b : Bool) → (a || b) ≡ false → a ≡ false
 or-left true b h = h
@@ -69,7 +69,7 @@ or-right false b h = h
 
 -- an entry agrees where nothing was added, no match was false, and its answers agree
 module _ (p : Pair) (e : Entry) (s : Sound p e) (r : Rises p) (passes : Passes (e .claim)) (fresh : Fresh p e)
-    (heard : hear (e .claim) (keysBefore e p) ≡ keysBefore e p) (honest : falseMatch (e .held) (e .claim) (keysBefore e p) ≡ false) where
+    (heard : hear (e .claim) (keysBefore e p) ≡ keysBefore e p) (honest : falseMatch (e .claimed) (e .claim) (keysBefore e p) ≡ false) where
   abbrev c : Claim
   c = e .claim
 
@@ -79,13 +79,13 @@ module _ (p : Pair) (e : Entry) (s : Sound p e) (r : Rises p) (passes : Passes (
   -- the helper's keys strictly between lo and hi are the sender's too
   agrees-helped : c .cnt ≤ length (between (c .lo) (c .hi) k) → Sub (inside (c .lo) (c .hi) k) (keysAt (e .sender) p) → Agrees p e
   agrees-helped h i =
-      let n : c .cnt ≡ length (e .held) = sound-cnt p e s in
-      let j : between (c .lo) (c .hi) k ≡ e .held
-      = rising-same (between (c .lo) (c .hi) k) (e .held) (between-rising (c .lo) (c .hi) k (hear-rising c (keysBefore e p) (r (receiver e)))) (s .rises)
+      let n : c .cnt ≡ length (e .claimed) = sound-cnt p e s in
+      let j : between (c .lo) (c .hi) k ≡ e .claimed
+      = rising-same (between (c .lo) (c .hi) k) (e .claimed) (between-rising (c .lo) (c .hi) k (hear-rising c (keysBefore e p) (r (receiver e)))) (s .rises)
       (λ x m. within x (between-mem (c .lo) (c .hi) k x m) (order (c .lo) x) (order x (c .hi))) (omega arith) in
       sym j ∙ ap (between (c .lo) (c .hi)) heard
     where
-      within : (x : ℕ) → List·Memᴰ x k × (c .lo ≤ x) × (x ≤ c .hi) → Order (c .lo) x → Order x (c .hi) → List·Memᴰ x (e .held)
+      within : (x : ℕ) → List·Memᴰ x k × (c .lo ≤ x) × (x ≤ c .hi) → Order (c .lo) x → Order x (c .hi) → List·Memᴰ x (e .claimed)
       within x t (less a) (less b) =
           subst (λ (l : List ℕ). List·Memᴰ x l) (sym fresh)
           (mem-between (c .lo) (c .hi) (keysAt (e .sender) p) x (i x (mem-inside (c .lo) (c .hi) k x (t .0) a b)) (t .1) (t .2))
@@ -104,16 +104,16 @@ module _ (p : Pair) (e : Entry) (s : Sound p e) (r : Rises p) (passes : Passes (
 
   agrees-from : (a : Answer) → reply c (keysBefore e p) ≡ a → Answered c k a →
       ((x : Entry) → List·Memᴰ x (waits (receiver e) k (claimsOf a)) → Agrees p x) → Agrees p e
-  agrees-from _ q (matched i) f = match-same (e .held) c (keysBefore e p) honest q ∙ ap (between (c .lo) (c .hi)) heard
+  agrees-from _ q (matched i) f = match-same (e .claimed) c (keysBefore e p) honest q ∙ ap (between (c .lo) (c .hi)) heard
   agrees-from _ q (asked {d = d} i g) f =
       let t : d ≡ rangeClaim (c .lo) (c .hi) k
       = i ∙ spanClaim-range (c .lo) (c .hi) k (hear-rising c (keysBefore e p) (r (receiver e))) (passes .ordered) (hear-lo c (keysBefore e p))
       (hear-hi c (keysBefore e p)) in
       let a : between (c .lo) (c .hi) k ≡ between (c .lo) (c .hi) (keysAt (other (receiver e)) p)
       = subst (λ (z : Claim). Agrees p (entry (receiver e) k z)) t (f (entry (receiver e) k d) (List·Memᴰ·head refl)) in
-      let b : between (c .lo) (c .hi) k ≡ e .held = a ∙ ap (λ (x : End). between (c .lo) (c .hi) (keysAt x p)) (other-other (e .sender)) ∙ sym fresh in
-      let n : c .cnt ≡ length (e .held) = sound-cnt p e s in
-      let l : length (between (c .lo) (c .hi) k) ≡ length (e .held) = ap length b in
+      let b : between (c .lo) (c .hi) k ≡ e .claimed = a ∙ ap (λ (x : End). between (c .lo) (c .hi) (keysAt x p)) (other-other (e .sender)) ∙ sym fresh in
+      let n : c .cnt ≡ length (e .claimed) = sound-cnt p e s in
+      let l : length (between (c .lo) (c .hi) k) ≡ length (e .claimed) = ap length b in
       absurd (omega arith)
   agrees-from _ q (helped-one {d = d} g o i t) f =
       agrees-helped g (part-sub (inside (c .lo) (c .hi) k) d i (t .whole) (f (entry (receiver e) k d) (List·Memᴰ·head refl)))
@@ -129,7 +129,7 @@ module _ (p : Pair) (e : Entry) (s : Sound p e) (r : Rises p) (passes : Passes (
 -- one delivery that added nothing: what waited agrees if what waits after it does
 agrees-step : (u : List ℕ) (p : Pair) (e : Entry) (q : List Entry) → Fine u p (e ∷ q) → ((x : Entry) → List·Memᴰ x (e ∷ q) → Fresh p x) →
     size (delivered e p) ≤ size p →
-    falseMatch (e .held) (e .claim) (keysBefore e p) ≡ false →
+    falseMatch (e .claimed) (e .claim) (keysBefore e p) ≡ false →
     (((x : Entry) → List·Memᴰ x (q ++ answers e p) → Fresh (delivered e p) x) → (x : Entry) → List·Memᴰ x (q ++ answers e p) → Agrees (delivered e p) x) →
     (x : Entry) → List·Memᴰ x (e ∷ q) → Agrees p x
 agrees-step u p e q f fresh still honest below = go
@@ -179,7 +179,7 @@ run-agrees (suc n) u p (e ∷ q) f fresh ends honest h =
     let p′ : Pair = delivered e p in
     let q′ : List Entry = q ++ answers e p in
     let f′ : Fine u p′ q′ = fine-step u p e q f in
-    let here : Bool = falseMatch (e .held) (e .claim) (keysBefore e p) in
+    let here : Bool = falseMatch (e .claimed) (e .claim) (keysBefore e p) in
     let grew : size p ≤ size p′ = delivered-size e p in
     let grew′ : size p′ ≤ size (run n p′ q′ .stores) = grows-size p′ (run n p′ q′ .stores) (f′ .rises) (run-fine n u p′ q′ f′ .rises) (run-grows n p′ q′) in
     agrees-step u p e q f fresh (omega arith) (or-left here (anyFalse (run n p′ q′ .lines)) honest)

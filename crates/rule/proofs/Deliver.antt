@@ -86,12 +86,12 @@ answers-weight u p e s r w ru h = go (reply c l) (reply-answered c l rl (sound-l
 
     ask-weight : length (between (c .lo) (c .hi) k) < c .cnt → weight u p′ (entry (receiver e) k ask) + 1 ≤ weight u p e
     ask-weight g =
-        let a : c .cnt ≡ length (e .held) = sound-cnt p e s in
-        let b : length (e .held) ≤ length (between (c .lo) (c .hi) (keysAt (e .sender) p))
-        = rising-length (e .held) (between (c .lo) (c .hi) (keysAt (e .sender) p)) (s .rises)
+        let a : c .cnt ≡ length (e .claimed) = sound-cnt p e s in
+        let b : length (e .claimed) ≤ length (between (c .lo) (c .hi) (keysAt (e .sender) p))
+        = rising-length (e .claimed) (between (c .lo) (c .hi) (keysAt (e .sender) p)) (s .rises)
         (between-rising (c .lo) (c .hi) (keysAt (e .sender) p) (r (e .sender))) (sound-sub-between p e (keysAt (e .sender) p) s (s .there)) in
-        let b′ : length (e .held) ≤ length (between (c .lo) (c .hi) (keysAt (other (receiver e)) p′))
-        = subst (λ (m : List ℕ). length (e .held) ≤ length (between (c .lo) (c .hi) m)) (sym (keysAt-back e p)) b in
+        let b′ : length (e .claimed) ≤ length (between (c .lo) (c .hi) (keysAt (other (receiver e)) p′))
+        = subst (λ (m : List ℕ). length (e .claimed) ≤ length (between (c .lo) (c .hi) m)) (sym (keysAt-back e p)) b in
         let d : weight u p′ (entry (receiver e) k ask) ≡ length (between (c .lo) (c .hi) u) - 1 = weight-less u p′ (entry (receiver e) k ask) (omega arith) in
         let f : length (between (c .lo) (c .hi) l) ≤ length (between (c .lo) (c .hi) k)
         = length-sub-between (c .lo) (c .hi) l k rl (hear-rising c l rl) (hear-old c l) in

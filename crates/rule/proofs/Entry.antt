@@ -22,63 +22,63 @@ use Rattle.rule.proofs.Pair.{Rises, Within, Grows}
 -- ---- a sound entry
 
 pub record Sound (p : Pair) (e : Entry) : Type 0 where
-  pub is : e .claim ≡ spanClaim (e .held)
-  pub rises : Rising (e .held)
-  pub some : 0 < length (e .held)
-  pub there : Sub (e .held) (keysAt (e .sender) p)
+  pub is : e .claim ≡ spanClaim (e .claimed)
+  pub rises : Rising (e .claimed)
+  pub some : 0 < length (e .claimed)
+  pub there : Sub (e .claimed) (keysAt (e .sender) p)
 
-pub sound-cnt : (p : Pair) (e : Entry) → Sound p e → e .claim .cnt ≡ length (e .held)
+pub sound-cnt : (p : Pair) (e : Entry) → Sound p e → e .claim .cnt ≡ length (e .claimed)
 sound-cnt p e s = ap (λ (c : Claim). c .cnt) (s .is)
 
-pub sound-lo : (p : Pair) (e : Entry) → Sound p e → e .claim .lo ≡ first (e .held)
+pub sound-lo : (p : Pair) (e : Entry) → Sound p e → e .claim .lo ≡ first (e .claimed)
 sound-lo p e s = ap (λ (c : Claim). c .lo) (s .is)
 
-pub sound-hi : (p : Pair) (e : Entry) → Sound p e → e .claim .hi ≡ last (e .held)
+pub sound-hi : (p : Pair) (e : Entry) → Sound p e → e .claim .hi ≡ last (e .claimed)
 sound-hi p e s = ap (λ (c : Claim). c .hi) (s .is)
 
-pub sound-ends : (p : Pair) (e : Entry) → Sound p e → Sub (ends (e .claim)) (e .held)
-sound-ends p e s k (List·Memᴰ·head h) = Memᴰ·cast (h ∙ sound-lo p e s) (mem-first (e .held) (s .some))
-sound-ends p e s k (List·Memᴰ·tail (List·Memᴰ·head h)) = Memᴰ·cast (h ∙ sound-hi p e s) (mem-last (e .held) (s .some))
+pub sound-ends : (p : Pair) (e : Entry) → Sound p e → Sub (ends (e .claim)) (e .claimed)
+sound-ends p e s k (List·Memᴰ·head h) = Memᴰ·cast (h ∙ sound-lo p e s) (mem-first (e .claimed) (s .some))
+sound-ends p e s k (List·Memᴰ·tail (List·Memᴰ·head h)) = Memᴰ·cast (h ∙ sound-hi p e s) (mem-last (e .claimed) (s .some))
 sound-ends p e s k (List·Memᴰ·tail (List·Memᴰ·tail m)) = absurd (List·Memᴰ·not-nil m)
 
 -- what was held lies from lo to hi
-pub sound-range : (p : Pair) (e : Entry) → Sound p e → (k : ℕ) → List·Memᴰ k (e .held) → (e .claim .lo ≤ k) × (k ≤ e .claim .hi)
+pub sound-range : (p : Pair) (e : Entry) → Sound p e → (k : ℕ) → List·Memᴰ k (e .claimed) → (e .claim .lo ≤ k) × (k ≤ e .claim .hi)
 sound-range p e s k m =
-    let a : first (e .held) ≤ k = first-le (e .held) (s .rises) k m in
-    let b : k ≤ last (e .held) = le-last (e .held) (s .rises) k m in
-    let c : e .claim .lo ≡ first (e .held) = sound-lo p e s in
-    let d : e .claim .hi ≡ last (e .held) = sound-hi p e s in
+    let a : first (e .claimed) ≤ k = first-le (e .claimed) (s .rises) k m in
+    let b : k ≤ last (e .claimed) = le-last (e .claimed) (s .rises) k m in
+    let c : e .claim .lo ≡ first (e .claimed) = sound-lo p e s in
+    let d : e .claim .hi ≡ last (e .claimed) = sound-hi p e s in
     (omega arith, omega arith)
 
-pub sound-sub-between : (p : Pair) (e : Entry) (l : List ℕ) → Sound p e → Sub (e .held) l → Sub (e .held) (between (e .claim .lo) (e .claim .hi) l)
+pub sound-sub-between : (p : Pair) (e : Entry) (l : List ℕ) → Sound p e → Sub (e .claimed) l → Sub (e .claimed) (between (e .claim .lo) (e .claim .hi) l)
 sound-sub-between p e l s h k m = let t = sound-range p e s k m in mem-between (e .claim .lo) (e .claim .hi) l k (h k m) (t .0) (t .1)
 
-pub sound-passes : (p : Pair) (e : Entry) → Sound p e → length (e .held) ≤ limit → Passes (e .claim)
-sound-passes p e s h = subst Passes (sym (s .is)) (spanClaim-passes (e .held) (s .rises) (s .some) h)
+pub sound-passes : (p : Pair) (e : Entry) → Sound p e → length (e .claimed) ≤ limit → Passes (e .claim)
+sound-passes p e s h = subst Passes (sym (s .is)) (spanClaim-passes (e .claimed) (s .rises) (s .some) h)
 
 -- where its sender's keys lie within u, so does what was held ..
-pub sound-within : (u : List ℕ) (p : Pair) (e : Entry) → Sound p e → Within p u → Sub (e .held) u
-sound-within u p e s w = sub-trans (e .held) (keysAt (e .sender) p) u (s .there) (w (e .sender))
+pub sound-within : (u : List ℕ) (p : Pair) (e : Entry) → Sound p e → Within p u → Sub (e .claimed) u
+sound-within u p e s w = sub-trans (e .claimed) (keysAt (e .sender) p) u (s .there) (w (e .sender))
 
 -- .. and no more was held than u has from lo to hi
 pub sound-length : (p : Pair) (e : Entry) (u : List ℕ) → Sound p e → Within p u → Rising u → e .claim .cnt ≤ length (between (e .claim .lo) (e .claim .hi) u)
 sound-length p e u s w r =
-    let c : e .claim .cnt ≡ length (e .held) = sound-cnt p e s in
-    let h : length (e .held) ≤ length (between (e .claim .lo) (e .claim .hi) u)
-    = rising-length (e .held) (between (e .claim .lo) (e .claim .hi) u) (s .rises) (between-rising (e .claim .lo) (e .claim .hi) u r)
+    let c : e .claim .cnt ≡ length (e .claimed) = sound-cnt p e s in
+    let h : length (e .claimed) ≤ length (between (e .claim .lo) (e .claim .hi) u)
+    = rising-length (e .claimed) (between (e .claim .lo) (e .claim .hi) u) (s .rises) (between-rising (e .claim .lo) (e .claim .hi) u r)
     (sound-sub-between p e u s (sound-within u p e s w)) in
     omega arith
 
 pub sound-limit : (p : Pair) (e : Entry) (u : List ℕ) → Sound p e → Within p u → Rising u → length u ≤ limit → Passes (e .claim)
 sound-limit p e u s w r h =
-    sound-passes p e s (let a : length (e .held) ≤ length u = rising-length (e .held) u (s .rises) r (sound-within u p e s w) in omega arith)
+    sound-passes p e s (let a : length (e .claimed) ≤ length u = rising-length (e .claimed) u (s .rises) r (sound-within u p e s w) in omega arith)
 
 pub sound-grown : (p p′ : Pair) (e : Entry) → Grows p p′ → Sound p e → Sound p′ e
 sound-grown p p′ e g s = record {
   is = s .is;
   rises = s .rises;
   some = s .some;
-  there = sub-trans (e .held) (keysAt (e .sender) p) (keysAt (e .sender) p′) (s .there) (g (e .sender));
+  there = sub-trans (e .claimed) (keysAt (e .sender) p) (keysAt (e .sender) p′) (s .there) (g (e .sender));
 }
 
 -- ---- entries that wait
@@ -155,8 +155,8 @@ pub weight-least : (u : List ℕ) (p : Pair) (e : Entry) → Sound p e → Rises
 unfolding weight
 weight-least u p e s r w ru =
     let a : e .claim .cnt ≤ length (between (e .claim .lo) (e .claim .hi) u) = sound-length p e u s w ru in
-    let b : e .claim .cnt ≡ length (e .held) = sound-cnt p e s in
-    let c : 0 < length (e .held) = s .some in
+    let b : e .claim .cnt ≡ length (e .claimed) = sound-cnt p e s in
+    let c : 0 < length (e .claimed) = s .some in
     let d : length (between (e .claim .lo) (e .claim .hi) (keysBefore e p)) ≤ length (between (e .claim .lo) (e .claim .hi) u)
     = length-sub-between (e .claim .lo) (e .claim .hi) (keysBefore e p) u (r (receiver e)) ru (w (receiver e)) in
     omega arith

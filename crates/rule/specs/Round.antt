@@ -50,11 +50,11 @@ holding rightEnd l p = pair (p .left) l
 pub record Entry : Type 0 where
   pub sender : End
   pub claim : Claim
-  pub held : List ℕ
+  pub claimed : List ℕ
 
 -- a claim that one end makes when its keys are l
 abbrev pub entry : End → List ℕ → Claim → Entry
-entry s l c = record { sender = s; claim = c; held = between (c .lo) (c .hi) l }
+entry s l c = record { sender = s; claim = c; claimed = between (c .lo) (c .hi) l }
 
 -- claims that one end makes when its keys are l wait for the other, in their order
 abbrev pub waits : End → List ℕ → List Claim → List Entry
@@ -84,7 +84,7 @@ pub record Line : Type 0 where
 abbrev pub line : Entry → Pair → Line
 line e p = record {
   delivery = record { sender = senderNumber (e .sender); claim = e .claim };
-  isFalse = falseMatch (e .held) (e .claim) (keysBefore e p);
+  isFalse = falseMatch (e .claimed) (e .claim) (keysBefore e p);
 }
 
 -- what delivering comes to: both stores, a line for each delivery, and what still waits

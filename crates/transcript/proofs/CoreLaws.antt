@@ -127,14 +127,14 @@ module _ (lent u : List ℕ) (p : Pair) (e : Entry) (q : List Entry) (done : Lis
   head-then = ap (λ (n : ℕ). n + 1) (laid .head-is) ∙ sym (length-append done (noted e ∷ []))
 
 -- by the sender: to the right end, or to the left one
-laid-deliver : (lent u : List ℕ) (p : Pair) (x : End) (c : Claim) (held : List ℕ) (q : List Entry) (done : List Delivery) (s : Core)
-    → Fine u p (record { sender = x; claim = c; held = held } ∷ q) → Laid lent p (record { sender = x; claim = c; held = held } ∷ q) done s
-    → length done + weights u p (record { sender = x; claim = c; held = held } ∷ q) ≤ recordsIn lent
-    → Laid lent (delivered (record { sender = x; claim = c; held = held }) p) (q ++ answers (record { sender = x; claim = c; held = held }) p)
-    (done ++ (noted (record { sender = x; claim = c; held = held }) ∷ [])) (step s)
+laid-deliver : (lent u : List ℕ) (p : Pair) (x : End) (c : Claim) (claimed : List ℕ) (q : List Entry) (done : List Delivery) (s : Core)
+    → Fine u p (record { sender = x; claim = c; claimed = claimed } ∷ q) → Laid lent p (record { sender = x; claim = c; claimed = claimed } ∷ q) done s
+    → length done + weights u p (record { sender = x; claim = c; claimed = claimed } ∷ q) ≤ recordsIn lent
+    → Laid lent (delivered (record { sender = x; claim = c; claimed = claimed }) p) (q ++ answers (record { sender = x; claim = c; claimed = claimed }) p)
+    (done ++ (noted (record { sender = x; claim = c; claimed = claimed }) ∷ [])) (step s)
 unfolding step
-laid-deliver lent u p leftEnd c held q done s fine laid room =
-    let e : Entry = record { sender = leftEnd; claim = c; held = held } in
+laid-deliver lent u p leftEnd c claimed q done s fine laid room =
+    let e : Entry = record { sender = leftEnd; claim = c; claimed = claimed } in
     rw (
       eq-eqb (senderIn (s .log .words) (s .head)) 0 (sender-is lent u p e q done s fine laid room),
       replied lent u p e q done s fine laid room (s .right) (laid .right-is),
@@ -145,8 +145,8 @@ laid-deliver lent u p leftEnd c held q done s fine laid room =
       log-is = log-then lent u p e q done s fine laid room;
       head-is = head-then lent u p e q done s fine laid room;
     })
-laid-deliver lent u p rightEnd c held q done s fine laid room =
-    let e : Entry = record { sender = rightEnd; claim = c; held = held } in
+laid-deliver lent u p rightEnd c claimed q done s fine laid room =
+    let e : Entry = record { sender = rightEnd; claim = c; claimed = claimed } in
     let one : senderIn (s .log .words) (s .head) ≡ 1 = sender-is lent u p e q done s fine laid room in
     rw (
       ne-eqb (senderIn (s .log .words) (s .head)) 0 (λ (z : senderIn (s .log .words) (s .head) ≡ 0). omega arith),
@@ -162,7 +162,7 @@ laid-deliver lent u p rightEnd c held q done s fine laid room =
 laid-step : (lent u : List ℕ) (p : Pair) (e : Entry) (q : List Entry) (done : List Delivery) (s : Core)
     → Fine u p (e ∷ q) → Laid lent p (e ∷ q) done s → length done + weights u p (e ∷ q) ≤ recordsIn lent
     → Laid lent (delivered e p) (q ++ answers e p) (done ++ (noted e ∷ [])) (step s)
-laid-step lent u p e q done s fine laid room = laid-deliver lent u p (e .sender) (e .claim) (e .held) q done s fine laid room
+laid-step lent u p e q done s fine laid room = laid-deliver lent u p (e .sender) (e .claim) (e .claimed) q done s fine laid room
 
 -- ---- deliveries until none waits
 

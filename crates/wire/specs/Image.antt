@@ -104,7 +104,7 @@ question14 bs = question 14 (countsFit sections bs && eqb (length bs) (toldLengt
 abbrev pub frontQuestion14 : List ℕ → Question
 frontQuestion14 bs = question 14 (countsFit sections bs && leb (toldLength sections bs) (length bs))
 
--- ---- reading: parse, judge, keep, node
+-- ---- reading: parse, judge, use, node
 
 pub record Contents : Type 0 where
   pub keys : List ℕ
@@ -124,9 +124,9 @@ nodeFrom c = nodeOf (c .keys) (c .pending)
 abbrev pub readImageQuestions : List ℕ → List Question
 readImageQuestions bs = question14 bs ∷ nodeQuestion1 (nodeFrom (parse bs)) ∷ []
 
--- What is kept of an image that has passed: all of it today.
-abbrev pub kept : Contents → Contents
-kept c = c
+-- What is used of an image that has passed: all of it today.
+abbrev pub used : Contents → Contents
+used c = c
 
 abbrev pub noImage : ℕ → Imaged
 noImage number = record { number = number; node = emptyNode }
@@ -134,7 +134,7 @@ noImage number = record { number = number; node = emptyNode }
 unfoldable pub readImage : List ℕ → Imaged
 readImage bs =
     settle (firstNo (readImageQuestions bs))
-    (record { number = 0; node = nodeFrom (kept (parse bs)) })
+    (record { number = 0; node = nodeFrom (used (parse bs)) })
     noImage
 
 -- the length of the image at the front of some bytes
