@@ -21,7 +21,7 @@ use Rattle.rule.specs.declared.answer.Rest.{Rest}
 use Rattle.rule.specs.Node.{nodeInOrder}
 use Rattle.rule.specs.Question.{question15}
 use Rattle.rule.specs.Call.{writtenOver}
-use Rattle.rule.proofs.PlaceLaws.{putAt-zero}
+use Rattle.keys.proofs.PlaceLaws.{putAt-zero}
 use Rattle.wire.specs.declared.answer.Length.{Length}
 use Rattle.wire.specs.Image.{imageLimit, nodeBytes, Shaped}
 use Rattle.wire.specs.Lent.{writeImageIn, imageInLent}

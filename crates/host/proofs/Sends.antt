@@ -21,9 +21,9 @@ use Rattle.claims.proofs.QuestionLaws.{passes, judged-firstNo}
 use Rattle.claims.proofs.WordsLaws.{claimAt-small}
 use Rattle.rule.specs.Node.{blanks}
 use Rattle.rule.specs.Call.{writtenOver}
-use Rattle.rule.specs.Place.{putAt}
+use Rattle.keys.specs.Place.{putAt}
 use Rattle.rule.proofs.NodeLaws.{length-blanks}
-use Rattle.rule.proofs.PlaceLaws.{length-putAt, putAt-nil, putAt-zero, putAt-append}
+use Rattle.keys.proofs.PlaceLaws.{length-putAt, putAt-nil, putAt-zero, putAt-append}
 use Rattle.wire.specs.declared.answer.Length.{Length}
 use Rattle.wire.specs.Frame.{frameLimit, frameLength, frameBytes, countable, allPass, writeFrameQuestions, writeFrame, frameLent}
 use Rattle.wire.specs.Run.{readRun}
@@ -101,7 +101,7 @@ module _ (frames : List ℕ) (at n : ℕ) (cs : List Claim) (many : countable n 
   unfolding putAt
   frame-put {new} e =
       let bs = frameBytes (take n cs) in
-      let g : new ≡ bs ++ drop (at + length bs) frames = e ∙ (frameLent-yes cs n part part-yes ∙ rw (putAt-zero, part-is, drop-drop)) in
+      let g : new ≡ bs ++ drop (length bs) (drop at frames) = e ∙ (frameLent-yes cs n part part-yes ∙ rw (putAt-zero, part-is)) in
       let all : length frames ≤ length frames = omega arith in
       let past : drop (length frames) frames ≡ [] = drop-of-length-le frames all in
       rw (post-is at (length frames) frames (omega arith), past, append-nil) (ap (λ (z : List ℕ). take at frames ++ z) g)

@@ -12,7 +12,7 @@ ghost use mathlib.Core.Bool.{true};
 ghost use Prim.Native.Nat.{_+_, _*_, _≤_};
 ghost use lib.ListN.{length, take, drop};
 ghost use Rattle.claims.specs.Words.{claimWidth};
-ghost use Rattle.rule.specs.Place.{putAt};
+ghost use Rattle.keys.specs.Place.{putAt};
 ghost use Rattle.nodes.specs.Lent.{nodeWith};
 ghost use Rattle.wire.specs.Frame.{frameLimit, frameLength, frameBytes, countable, allPass, fourOf};
 ghost use Rattle.wire.specs.Run.{readRun};

@@ -1,6 +1,7 @@
 -- The laws of the definitions of specs/. A file uses only those named before it. `..Laws` say what definitions mean, `..Paths` have one law for each way
 -- that the code of a file of src/ goes.
 --   Tests           conjunctions, the cases of two numbers
+--   PlaceLaws       what a lent run holds once something is written to it (specs/Place)
 --   Rising          rising lists of keys, by their members
 --   Insert          entering keys
 --   Position        the position of a key
@@ -13,6 +14,7 @@
 --   LeafPaths       src/leaf.rt
 --   LentPaths       src/lent.rt
 pub mod Tests
+pub mod PlaceLaws
 pub mod Rising
 pub mod Insert
 pub mod Position

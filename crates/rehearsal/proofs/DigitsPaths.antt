@@ -4,8 +4,8 @@ use native.Mathlib.Omega.{arith}
 use mathlib.Core.List.{List}
 use mathlib.Core.Path.{_≡_, ap, sym, _∙_}
 use lib.ListN.{length, set}
-use Rattle.rule.specs.Place.{putAt}
-use Rattle.rule.proofs.PlaceLaws.{putAt-snoc}
+use Rattle.keys.specs.Place.{putAt}
+use Rattle.keys.proofs.PlaceLaws.{putAt-snoc}
 use Rattle.rehearsal.specs.Decimal.{digit, decimal, digitLimit}
 use Rattle.rehearsal.proofs.PutLaws.{putAt-one}
 use Rattle.rehearsal.proofs.DecimalLaws.{decimal-digit, decimal-step, length-decimal-step, length-decimal-some}

@@ -9,8 +9,8 @@ use lib.Seq.{take-all, take-suc, length-take-le}
 use Rattle.claims.proofs.QuestionLaws.{settle-done, settle-refused}
 use Rattle.rule.specs.Round.{Line}
 use Rattle.rule.specs.Call.{roundBy, deliveryWords, recordWidth, recordsIn}
-use Rattle.rule.specs.Place.{putAt}
-use Rattle.rule.proofs.PlaceLaws.{length-putAt, putAt-nil, putAt-append}
+use Rattle.keys.specs.Place.{putAt}
+use Rattle.keys.proofs.PlaceLaws.{length-putAt, putAt-nil, putAt-append}
 use Rattle.rehearsal.specs.declared.answer.Rehearsed.{Rehearsed}
 use Rattle.rehearsal.specs.Rehearsal.{firstBytes, secondBytes, storeIn, rehearseNumber, rehearsed, Rehearsal, roundWords}
 use Rattle.rehearsal.specs.Put.{Put}

@@ -5,8 +5,8 @@ use native.Mathlib.Omega.{arith}
 use mathlib.Core.List.{List, [], _∷_, _++_}
 use mathlib.Core.Path.{_≡_, refl, sym, _∙_}
 use lib.ListN.{length, set, length-append}
-use Rattle.rule.specs.Place.{putAt}
-use Rattle.rule.proofs.PlaceLaws.{length-putAt, putAt-nil, putAt-snoc, putAt-append}
+use Rattle.keys.specs.Place.{putAt}
+use Rattle.keys.proofs.PlaceLaws.{length-putAt, putAt-nil, putAt-snoc, putAt-append}
 use Rattle.rehearsal.specs.Put.{Put}
 
 -- ---- one character

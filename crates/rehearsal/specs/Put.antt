@@ -4,7 +4,7 @@ use Prim.Native.Nat.{ℕ, _+_, _≤_}
 use mathlib.Core.List.{List}
 use mathlib.Core.Path.{_≡_}
 use lib.ListN.{length}
-use Rattle.rule.specs.Place.{putAt}
+use Rattle.keys.specs.Place.{putAt}
 
 pub record Put (out : List ℕ) (at : ℕ) (text : List ℕ) (most end : ℕ) (after : List ℕ) : Type 0 where
   pub end-is : end ≡ at + length text

@@ -1,6 +1,5 @@
 -- Laws of the definitions of the upper layer. The worked examples stand first: a definition that is wrong fails there. XLaws are the laws of specs/X.
 --   Cases      the worked examples
---   PlaceLaws  what a lent run holds once something is written to it
 --   TableLaws  the pending table
 --   NodeLaws   a node in order
 --   RoundLaws  a round: both stores grow within their union, nothing waits at the end, how many deliveries there are. It rests, idea by idea, on
@@ -12,7 +11,6 @@
 --   CallLaws   what the calls return, one law a return path; what comes out is in order
 --   Words      claims and records as words
 pub mod Cases
-pub mod PlaceLaws
 pub mod TableLaws
 pub mod NodeLaws
 pub mod Union

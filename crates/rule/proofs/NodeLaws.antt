@@ -23,7 +23,7 @@ use Rattle.claims.proofs.ClaimLaws.{same-claim}
 use Rattle.rule.specs.declared.node.Node.{Node}
 use Rattle.rule.specs.Table.{tableLimit, climbs}
 use Rattle.rule.specs.Node.{blanks, pendingOf, nodeKeys, nodeOf, emptyNode, holdsAll, allFit, allUnused, nodeInOrder}
-use Rattle.rule.proofs.PlaceLaws.{drop-replicate}
+use Rattle.keys.proofs.PlaceLaws.{drop-replicate}
 
 -- ---- keys held, and claims that fit
 

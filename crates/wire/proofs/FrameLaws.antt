@@ -16,8 +16,8 @@ use Rattle.claims.specs.Question.{firstNo}
 use Rattle.claims.proofs.QuestionLaws.{firstNo-zero, settle-done}
 use Rattle.rule.specs.Node.{blanks}
 use Rattle.rule.specs.Question.{question15}
-use Rattle.rule.specs.Place.{putAt}
-use Rattle.rule.proofs.PlaceLaws.{putAt-replicate}
+use Rattle.keys.specs.Place.{putAt}
+use Rattle.keys.proofs.PlaceLaws.{putAt-replicate}
 use Rattle.wire.specs.declared.answer.Framed.{Framed}
 use Rattle.wire.specs.declared.answer.Length.{Length}
 use Rattle.wire.specs.Claim.{claimSize}

@@ -16,8 +16,8 @@ use Rattle.claims.specs.Call.{judged}
 use Rattle.claims.specs.Question.{firstNo}
 use Rattle.claims.proofs.QuestionLaws.{firstNo-append-no, settle-refused}
 use Rattle.rule.specs.Node.{blanks}
-use Rattle.rule.specs.Place.{putAt}
-use Rattle.rule.proofs.PlaceLaws.{putAt-front}
+use Rattle.keys.specs.Place.{putAt}
+use Rattle.keys.proofs.PlaceLaws.{putAt-front}
 use Rattle.wire.specs.declared.answer.Framed.{Framed}
 use Rattle.wire.specs.Run.{claim, readRun, writeRun}
 use Rattle.wire.specs.Length.{noLength}

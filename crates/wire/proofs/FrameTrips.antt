@@ -13,8 +13,8 @@ use lib.Seq.{take-all, length-take-le}
 use Rattle.keys.proofs.Tests.{and-left, and-right}
 use Rattle.claims.specs.declared.claim.Claim.{Claim}
 use Rattle.claims.specs.Question.{firstNo}
-use Rattle.rule.specs.Place.{putAt}
-use Rattle.rule.proofs.PlaceLaws.{take-front}
+use Rattle.keys.specs.Place.{putAt}
+use Rattle.keys.proofs.PlaceLaws.{take-front}
 use Rattle.wire.specs.Number.{byte, Below}
 use Rattle.wire.specs.Claim.{claimSize, ClaimFits}
 use Rattle.wire.specs.Run.{claim, readRun, writeRun, Each}

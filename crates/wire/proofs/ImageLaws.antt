@@ -17,7 +17,7 @@ use Rattle.rule.specs.declared.node.Node.{Node}
 use Rattle.rule.specs.Table.{tableLimit}
 use Rattle.rule.specs.Node.{nodeInOrder, nodeKeys, pendingOf}
 use Rattle.rule.specs.Question.{nodeQuestion1, question15}
-use Rattle.rule.specs.Place.{putAt}
+use Rattle.keys.specs.Place.{putAt}
 use Rattle.rule.proofs.NodeLaws.{nodeInOrder-ordered}
 use Rattle.wire.specs.declared.answer.Length.{Length}
 use Rattle.wire.specs.declared.answer.Imaged.{Imaged}

@@ -16,8 +16,8 @@ use Rattle.rule.specs.declared.node.Node.{Node}
 use Rattle.rule.specs.declared.answer.Rest.{Rest}
 use Rattle.rule.specs.Table.{tableLimit}
 use Rattle.rule.specs.Node.{nodeKeys, pendingOf, nodeOf, nodeInOrder}
-use Rattle.rule.specs.Place.{putAt}
-use Rattle.rule.proofs.PlaceLaws.{putAt-replicate}
+use Rattle.keys.specs.Place.{putAt}
+use Rattle.keys.proofs.PlaceLaws.{putAt-replicate}
 use Rattle.rule.proofs.NodeLaws.{nodeKeys-nodeOf, pendingOf-nodeOf}
 use Rattle.nodes.specs.Lent.{nodeWith, frontIn}
 use Rattle.wire.specs.Claim.{countWidth}

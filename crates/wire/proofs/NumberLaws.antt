@@ -11,8 +11,8 @@ use lib.Arith.{digits-lt, digits-div, mod-mul}
 use lib.Dec.{lit<}
 use lib.ListN.{length, take, drop, getD, set, length-append, length-take, length-drop}
 use lib.Seq.{take-suc, drop-drop, getD-drop, take-at, drop-append-add}
-use Rattle.rule.specs.Place.{putAt}
-use Rattle.rule.proofs.PlaceLaws.{putAt-nil, putAt-snoc}
+use Rattle.keys.specs.Place.{putAt}
+use Rattle.keys.proofs.PlaceLaws.{putAt-nil, putAt-snoc}
 use Rattle.wire.specs.Number.{byte, number, bytes, numberAt, Below}
 
 -- ---- lists below a bound

@@ -9,8 +9,8 @@ use mathlib.Core.List.{List, [], _∷_, _++_, append-assoc, append-nil, List·Me
 use lib.Dec.{lit≤}
 use lib.ListN.{length, take, drop, getD, set, replicate, length-append, length-drop}
 use lib.Seq.{drop-drop, take-add, take-suc, length-take-le, drop-at}
-use Rattle.rule.specs.Place.{putAt}
-use Rattle.rule.proofs.PlaceLaws.{putAt-append, set-front}
+use Rattle.keys.specs.Place.{putAt}
+use Rattle.keys.proofs.PlaceLaws.{putAt-append, set-front}
 use Rattle.wire.specs.Number.{byte, Below}
 use Rattle.wire.specs.Claim.{keyWidth, ClaimFits}
 use Rattle.wire.specs.Run.{Layout, key, claim, readRun, writeRun, Each}

@@ -8,7 +8,7 @@ ghost use mathlib.Core.Path.{_≡_};
 ghost use Prim.Native.Nat.{_+_, _*_, _≤_};
 ghost use lib.ListN.{length, take, drop};
 ghost use Rattle.claims.specs.Question.{firstNo};
-ghost use Rattle.rule.specs.Place.{putAt};
+ghost use Rattle.keys.specs.Place.{putAt};
 ghost use Rattle.wire.specs.Claim.{claimSize};
 ghost use Rattle.wire.specs.Run.{claim as claim-layout, readRun, writeRun};
 ghost use Rattle.wire.specs.Frame.{frameLimit, headSize, headBytes, frameLength, fourOf, marked, countable, sized, allPass};

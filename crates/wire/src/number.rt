@@ -2,7 +2,7 @@
 ghost use mathlib.Core.Path.{_≡_};
 ghost use Prim.Native.Nat.{_+_, _≤_};
 ghost use lib.ListN.{length};
-ghost use Rattle.rule.specs.Place.{putAt};
+ghost use Rattle.keys.specs.Place.{putAt};
 ghost use Rattle.wire.specs.Number.{bytes, numberAt};
 ghost use Rattle.wire.specs.Claim.{keyWidth};
 

@@ -6,8 +6,8 @@ use borrow.Author.Needs.{needs}
 use lib.ListN.{drop}
 use Rattle.claims.specs.Words.{claimWidth}
 use Rattle.rule.specs.Node.{blanks}
-use Rattle.rule.specs.Place.{putAt}
-use Rattle.rule.proofs.PlaceLaws.{putAt-nil}
+use Rattle.keys.specs.Place.{putAt}
+use Rattle.keys.proofs.PlaceLaws.{putAt-nil}
 use Rattle.wire.specs.Frame.{frameLimit}
 use Rattle.wire.specs.Run.{readRun}
 use Rattle.wire.proofs.FrameLaws.{blanks-four, putAt-four}

@@ -4,7 +4,7 @@ use Prim.Native.Nat.{_≤_}
 use mathlib.Core.Path.{_≡_}
 use borrow.Author.Needs.{needs}
 use lib.ListN.{length}
-use Rattle.rule.specs.Place.{putAt}
+use Rattle.keys.specs.Place.{putAt}
 use Rattle.rehearsal.specs.Decimal.{decimal, digitLimit}
 use Rattle.rehearsal.proofs.DigitsPaths.{some-digit, one-fewer, last-digit, first-digit}
 use Rattle.rehearsal.proofs.digits.put_decimal.Statement.{statement}

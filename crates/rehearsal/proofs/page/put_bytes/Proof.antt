@@ -3,7 +3,7 @@ use Prim.Native.Nat.{_-_, _≤_}
 use mathlib.Core.Path.{_≡_}
 use borrow.Author.Needs.{needs}
 use lib.ListN.{length, take}
-use Rattle.rule.specs.Place.{putAt}
+use Rattle.keys.specs.Place.{putAt}
 use Rattle.rehearsal.proofs.PagePaths.{bytes-none, bytes-more, bytes-all}
 use Rattle.rehearsal.proofs.page.put_bytes.Statement.{statement}
 use Rattle.rehearsal.proofs.page.put_bytes.Tie as tie

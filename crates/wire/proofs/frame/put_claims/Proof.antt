@@ -5,9 +5,9 @@ use mathlib.Core.Path.{_≡_, sym, _∙_}
 use borrow.Author.Needs.{needs}
 use lib.ListN.{length, take}
 use Rattle.claims.specs.Claim.{noClaim}
-use Rattle.rule.specs.Place.{putAt}
+use Rattle.keys.specs.Place.{putAt}
 use Rattle.rule.proofs.NodeLaws.{length-mapped}
-use Rattle.rule.proofs.PlaceLaws.{putAt-nil}
+use Rattle.keys.proofs.PlaceLaws.{putAt-nil}
 use Rattle.wire.specs.Frame.{headSize, frameLimit}
 use Rattle.wire.specs.Run.{claim, writeRun}
 use Rattle.wire.proofs.RunLaws.{putAt-writeRun, end-writeRun, claim-faithful}

@@ -3,8 +3,8 @@ use Prim.Native.Nat.{_≤_, _-_}
 use mathlib.Core.Path.{_≡_, sym}
 use borrow.Author.Needs.{needs}
 use lib.ListN.{length, drop, length-set}
-use Rattle.rule.specs.Place.{putAt}
-use Rattle.rule.proofs.PlaceLaws.{putAt-nil}
+use Rattle.keys.specs.Place.{putAt}
+use Rattle.keys.proofs.PlaceLaws.{putAt-nil}
 use Rattle.wire.specs.Run.{key, readRun}
 use Rattle.wire.proofs.RunLaws.{set-readRun, end-readRun}
 use Rattle.wire.proofs.image.read_keys.Statement.{statement}

@@ -3,8 +3,8 @@ use Prim.Native.Nat.{_≤_, _-_}
 use mathlib.Core.Path.{_≡_, sym, _∙_}
 use borrow.Author.Needs.{needs}
 use lib.ListN.{length, take}
-use Rattle.rule.specs.Place.{putAt}
-use Rattle.rule.proofs.PlaceLaws.{putAt-nil}
+use Rattle.keys.specs.Place.{putAt}
+use Rattle.keys.proofs.PlaceLaws.{putAt-nil}
 use Rattle.wire.specs.Run.{key, writeRun}
 use Rattle.wire.proofs.RunLaws.{putAt-writeRun, end-writeRun, key-faithful}
 use Rattle.wire.proofs.image.write_keys.Statement.{statement}

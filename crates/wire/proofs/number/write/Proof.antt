@@ -5,7 +5,7 @@ use native.Mathlib.Omega.{arith}
 use mathlib.Core.Path.{_≡_, sym, _∙_}
 use borrow.Author.Needs.{needs}
 use lib.ListN.{length}
-use Rattle.rule.specs.Place.{putAt}
+use Rattle.keys.specs.Place.{putAt}
 use Rattle.wire.specs.Number.{bytes}
 use Rattle.wire.proofs.NumberLaws.{putAt-bytes, putAt-none}
 use Rattle.wire.proofs.number.write.Statement.{statement}

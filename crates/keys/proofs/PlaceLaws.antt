@@ -1,43 +1,46 @@
 -- Laws of specs/Place, what a lent run holds once something is written at a place of it: nothing written, one element more, a block right after a block.
 -- Assumes nothing.
 use Prim.Native.Nat.{ℕ, zero, suc, _+_, _-_, _≤_, _<_}
-use native.Mathlib.Nat.{zero-add, add-zero, add-assoc, sub-zero, zero-sub, suc-sub-suc}
+use native.Mathlib.Nat.{zero-add, add-assoc, sub-zero, zero-sub, suc-sub-suc}
 use native.Mathlib.Omega.{arith}
-use mathlib.Core.Path.{_≡_}
+use mathlib.Core.Path.{_≡_, refl}
 use mathlib.Core.List.{List, [], _∷_, _++_, append-assoc}
 use lib.ListN.{length, take, drop, getD, set, replicate, length-append, length-take, length-drop, length-set, take-append-drop}
 use lib.Seq.{take-set-le, drop-set-lt, getD-set-same, drop-drop, drop-cons, set-at, take-at, drop-append-add}
-use Rattle.rule.specs.Place.{putAt}
+use Rattle.keys.specs.Place.{putAt}
 
 module _ {A : Type 0} where
   pub length-putAt : (s : List A) (at : ℕ) (bs : List A) → at + length bs ≤ length s → length (putAt s at bs) ≡ length s
   unfolding putAt
-  length-putAt s at bs h = rw (length-append, length-append, length-take, length-drop) (omega arith)
+  length-putAt s at bs h = rw (length-append, length-append, length-take, length-drop, length-drop) (omega arith)
 
   pub putAt-nil : (s : List A) (at : ℕ) → putAt s at [] ≡ s
   unfolding putAt
-  putAt-nil s at = rw add-zero (take-append-drop at s)
+  putAt-nil s at = take-append-drop at s
 
   pub putAt-zero : (s bs : List A) → putAt s 0 bs ≡ bs ++ drop (length bs) s
   unfolding putAt
-  putAt-zero s bs = rw zero-add
+  putAt-zero s bs = refl
+
+  -- what stands past it, by its place in the run
+  pub putAt-past : (s : List A) (at : ℕ) (bs : List A) → putAt s at bs ≡ take at s ++ (bs ++ drop (at + length bs) s)
+  unfolding putAt
+  putAt-past s at bs = rw drop-drop
 
   -- one element more: the one past the end may be written first
   pub putAt-snoc : (s : List A) (at : ℕ) (bs : List A) (b : A) (n : ℕ) → length bs ≡ n → at + n < length s
       → putAt (set s (at + n) b) at bs ≡ putAt s at (bs ++ (b ∷ []))
-  unfolding putAt
   putAt-snoc s at bs b n e h =
       let front : take at (set s (at + n) b) ≡ take at s = take-set-le at s (at + n) b (omega arith) in
       let past : at + length (bs ++ (b ∷ [])) ≡ suc (at + n) = rw (length-append, e) (omega arith) in
       let rest : drop (at + length bs) (set s (at + n) b) ≡ b ∷ drop (suc (at + n)) s =
       let there : at + n < length (set s (at + n) b) = rw length-set h in
       rw (e, drop-cons (set s (at + n) b) (at + n) b, getD-set-same s (at + n) b b h, drop-set-lt (suc (at + n)) s (at + n) b (omega arith)) in
-      rw (front, rest, past, append-assoc bs)
+      rw (putAt-past, putAt-past, front, rest, past, append-assoc bs)
 
   -- a block right after a block is one block
   pub putAt-append : (s : List A) (at : ℕ) (xs ys : List A) (n : ℕ) → length xs ≡ n → at + n ≤ length s
       → putAt (putAt s at xs) (at + n) ys ≡ putAt s at (xs ++ ys)
-  unfolding putAt
   putAt-append s at xs ys n e h =
       let long : length (take at s ++ xs) ≡ at + n = rw (length-append, length-take, e) (omega arith) in
       let whole : take at s ++ (xs ++ drop (at + length xs) s) ≡ (take at s ++ xs) ++ drop (at + n) s = rw (e, append-assoc) in
@@ -45,7 +48,7 @@ module _ {A : Type 0} where
       rw whole (take-at (take at s ++ xs) (drop (at + n) s) (at + n) long) in
       let rest : drop (at + n + length ys) (take at s ++ (xs ++ drop (at + length xs) s)) ≡ drop (at + length (xs ++ ys)) s =
       rw (whole, ← long, drop-append-add, long, drop-drop, length-append, e, add-assoc) in
-      rw (front, rest, append-assoc (take at s), append-assoc xs)
+      rw (putAt-past s at xs, putAt-past, putAt-past, front, rest, append-assoc (take at s), append-assoc xs)
 
   -- ---- written to the beginning
 
