@@ -13,6 +13,7 @@ use lib.Seq.{sets, length-sets, drop-cons, length-take-le, getD-take}
 use Rattle.keys.specs.declared.store.Store.{Store}
 use Rattle.keys.specs.Store.{limit}
 use Rattle.keys.specs.Lent.{storeWith}
+use Rattle.keys.proofs.PlaceLaws.{putAt-zero, sets-putAt}
 use Rattle.claims.specs.declared.claim.Claim.{Claim}
 use Rattle.claims.specs.declared.answer.Answer.{Answer}
 use Rattle.claims.specs.declared.answer.Made.{Made}
@@ -32,7 +33,7 @@ use Rattle.nodes.specs.Lent.{nodeWith}
 use Rattle.beats.specs.declared.beats.Kept.{Kept}
 use Rattle.beats.specs.Lent.{serveIn, wholeIn, sendingIn, wroteAt, Wrote, keptWith, ServedAt}
 use Rattle.beats.specs.Lent.{beatenWith, unbeaten, beatIn, beatInLent, BeatsIn}
-use Rattle.beats.proofs.LentLaws.{sets-writtenOver, putClaim-wroteAt, wroteAt-append, length-wholeIn, length-sendingIn, length-keptIn}
+use Rattle.beats.proofs.LentLaws.{putClaim-wroteAt, wroteAt-append, length-wholeIn, length-sendingIn, length-keptIn}
 use Rattle.beats.proofs.LentLaws.{beatIn-beaten, beatInLent-beatenLent}
 
 -- ---- `write_answer`
@@ -62,8 +63,8 @@ module _ (a b : Answer) (is : a ≡ b) (at : ℕ) (lent : List ℕ) where
 -- a table written over blanks
 sets-blanks : (t : List Claim) → length t ≤ tableLimit → sets (blanks tableLimit) 0 t ≡ t ++ blanks (tableLimit - length t)
 sets-blanks t h =
-    sets-writtenOver (blanks tableLimit) t (omega (arith, length-blanks tableLimit))
-    ∙ ap (λ (l : List Claim). t ++ l) (drop-blanks (length t) tableLimit)
+    sets-putAt (blanks tableLimit) 0 t (omega (arith, length-blanks tableLimit))
+    ∙ rw putAt-zero (ap (λ (l : List Claim). t ++ l) (drop-blanks (length t) tableLimit))
 
 -- A store serves the first `pending` claims of a table, and writes what is sent from the place `at` on.
 module _ (s : Store) (table : List Claim) (pending at : ℕ) (lent₀ : List ℕ) where
@@ -223,7 +224,7 @@ module _ (keys : List ℕ) (held : ℕ) (table : List Claim) (count : ℕ) (lent
         record {
           result = rw (le-leb count tableLimit h, le-leb beatLimit (length lent / claimWidth) g) (ap (beatenWith keys held) kept-is);
           words = rw (le-leb count tableLimit h, le-leb beatLimit (length lent / claimWidth) g)
-              (done .words ∙ (joined ∙ sets-writtenOver lent (claimWords (sendingIn s (take count table))) fits));
+              (done .words ∙ (joined ∙ sets-putAt lent 0 (claimWords (sendingIn s (take count table))) (omega (arith, fits))));
         }
 
 -- ---- `beat`

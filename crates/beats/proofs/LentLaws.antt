@@ -4,14 +4,15 @@ use mathlib.Core.Path.{_≡_, refl, sym, _∙_, ap, ap₂}
 use mathlib.Core.Bool.{Bool, true, false, cond}
 use mathlib.Core.List.{List, [], _∷_, _++_, List·Memᴰ, List·Memᴰ·head, List·Memᴰ·tail}
 use Prim.Native.Nat.{ℕ, suc, _+_, _*_, _-_, _/_, _≤_}
-use native.Mathlib.Nat.{zero-add, add-zero}
+use native.Mathlib.Nat.{add-zero}
 use native.Mathlib.Omega.{arith}
 use borrow.Author.Tests.{le-leb, lt-ltb, ne-eqb}
 use lib.Dec.{leb, eqb}
-use lib.ListN.{length, drop, set, length-append}
-use lib.Seq.{sets, sets-eq}
+use lib.ListN.{length, set, length-append}
+use lib.Seq.{sets}
 use Rattle.keys.specs.declared.store.Store.{Store}
 use Rattle.keys.specs.Store.{limit, storeOf}
+use Rattle.keys.specs.Place.{putAt}
 use Rattle.keys.proofs.Rising.{Rising}
 use Rattle.keys.proofs.StoreLaws.{inOrder-count, inOrder-rising, length-keysOf, storeOf-keysOf, count-storeOf}
 use Rattle.claims.specs.declared.claim.Claim.{Claim}
@@ -28,7 +29,7 @@ use Rattle.rule.specs.declared.node.Node.{Node}
 use Rattle.rule.specs.declared.answer.Beaten.{Beaten}
 use Rattle.rule.specs.Table.{tableLimit, beatLimit, remains, Served, serve, sending}
 use Rattle.rule.specs.Node.{blanks, pendingOf, nodeKeys, nodeOf}
-use Rattle.rule.specs.Call.{writtenOver, claimWords, beaten, beatenLent}
+use Rattle.rule.specs.Call.{claimWords, beaten, beatenLent}
 use Rattle.rule.proofs.TableLaws.{length-claimsOf}
 use Rattle.rule.proofs.NodeLaws.{Fits, Ordered, ordered-nodeInOrder}
 use Rattle.rule.proofs.Words.{length-claimWords, claimWords-append}
@@ -42,10 +43,6 @@ module _ {A : Type 0} where
   sets-append l i (x ∷ xs) ys =
       let e : suc i + length xs ≡ i + length (x ∷ xs) = omega arith in
       sets-append (set l i x) (suc i) xs ys ∙ ap (λ (n : ℕ). sets (sets (set l i x) (suc i) xs) n ys) e
-
-  -- from the beginning on, that is what `writtenOver` says
-  pub sets-writtenOver : (l xs : List A) → length xs ≤ length l → sets l 0 xs ≡ writtenOver xs l
-  sets-writtenOver l xs h = sets-eq xs l 0 (omega arith) ∙ ap (λ (n : ℕ). xs ++ drop n l) (zero-add (length xs))
 
 -- one claim, where there are words for it
 pub putClaim-wroteAt : (at : ℕ) (c : Claim) (lent : List ℕ) → claimWidth * (at + 1) ≤ length lent → putClaim lent (claimWidth * at) c ≡ wroteAt at (c ∷ []) lent
@@ -176,4 +173,4 @@ module _ (n : Node) (lent : List ℕ) (long : length (n .store .keys) ≡ limit)
   unfolding beatInLent beatenLent
   beatInLent-beatenLent =
       rw (le-leb (n .count) tableLimit (o .count), ordered-nodeInOrder n o)
-      (λ i. settle (cond (leb beatLimit (length lent / claimWidth)) 0 15) (writtenOver (claimWords (sent-is i)) lent) (λ x. lent))
+      (λ i. settle (cond (leb beatLimit (length lent / claimWidth)) 0 15) (putAt lent 0 (claimWords (sent-is i))) (λ x. lent))

@@ -11,6 +11,7 @@ use lib.Dec.{leb, eqb}
 use lib.ListN.{length}
 use lib.Seq.{sets}
 use Rattle.keys.specs.declared.store.Store.{Store}
+use Rattle.keys.specs.Place.{putAt}
 use Rattle.claims.specs.declared.claim.Claim.{Claim}
 use Rattle.claims.specs.Question.{Question, firstNo, settle, question}
 use Rattle.claims.specs.Reply.{claimsOf}
@@ -21,7 +22,7 @@ use Rattle.rule.specs.declared.answer.Beaten.{Beaten}
 use Rattle.rule.specs.Table.{tableLimit, beatLimit, Served, remains}
 use Rattle.rule.specs.Node.{blanks, pendingOf}
 use Rattle.rule.specs.Question.{question15}
-use Rattle.rule.specs.Call.{claimWords, writtenOver}
+use Rattle.rule.specs.Call.{claimWords}
 use Rattle.nodes.specs.Lent.{nodeWith}
 use Rattle.beats.specs.declared.beats.Kept.{Kept}
 
@@ -85,7 +86,7 @@ beatIn n lent =
 
 -- .. and what the lent words hold afterwards
 unfoldable pub beatInLent : Node → List ℕ → List ℕ
-beatInLent n lent = settle (firstNo (beatInQuestions n lent)) (writtenOver (claimWords (sendingIn (n .store) (pendingOf n))) lent) (λ x. lent)
+beatInLent n lent = settle (firstNo (beatInQuestions n lent)) (putAt lent 0 (claimWords (sendingIn (n .store) (pendingOf n)))) (λ x. lent)
 
 -- both
 pub record BeatsIn (n : Node) (lent : List ℕ) (r : Beaten) (after : List ℕ) : Type 0 where

@@ -14,6 +14,7 @@ use mir.Val.{toZ, ofZ}
 use Rattle.keys.specs.declared.lent.Added.{Added}
 use Rattle.keys.specs.Store.{limit}
 use Rattle.keys.specs.Lent.{storeWith, grownWith, addIn}
+use Rattle.keys.specs.Place.{putAt}
 use Rattle.keys.proofs.StoreLaws.{inOrder-count, length-keysOf}
 use Rattle.claims.specs.Question.{Question, firstNo, question6}
 use Rattle.claims.proofs.QuestionLaws.{Numbered, firstNo-append-zero, firstNo-append-no}
@@ -22,7 +23,6 @@ use Rattle.rule.specs.declared.answer.Rest.{Rest}
 use Rattle.rule.specs.declared.answer.Taken.{Taken}
 use Rattle.rule.specs.Node.{nodeInOrder, nodeKeys}
 use Rattle.rule.specs.Question.{question15}
-use Rattle.rule.specs.Call.{writtenOver}
 use Rattle.rule.proofs.NodeLaws.{Ordered, nodeInOrder-ordered, ordered-nodeInOrder}
 use Rattle.nodes.specs.Lent.{nodeWith, takenWith}
 use Rattle.wire.specs.declared.answer.Framed.{Framed}
@@ -235,6 +235,6 @@ module _ (image out frames : List ℕ) {keys : List ℕ} {r : Rest} (loaded : Lo
           let n = loaded .node read in
           let most = s .most in (
             returned e (fits-pos _ (omega arith)) ∙ rw q (ap pos (s .size ∙ ap (λ (m : Node). length (framesSent m)) n)),
-            s .left ∙ rw q (ap (λ (m : Node). writtenOver (nodeBytes (nodeServed m)) out) n),
-            s .sent ∙ rw q (ap (λ (m : Node). writtenOver (framesSent m) frames) n),
+            s .left ∙ rw q (ap (λ (m : Node). putAt out 0 (nodeBytes (nodeServed m))) n),
+            s .sent ∙ rw q (ap (λ (m : Node). putAt frames 0 (framesSent m)) n),
           )

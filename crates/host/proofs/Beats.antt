@@ -8,6 +8,8 @@ use mathlib.Core.Path.{_≡_, ap, _∙_}
 use borrow.Author.Tests.{le-leb}
 use lib.ListN.{length, drop}
 use Rattle.keys.specs.Store.{limit}
+use Rattle.keys.specs.Place.{putAt}
+use Rattle.keys.proofs.PlaceLaws.{length-putAt, putAt-zero}
 use Rattle.keys.proofs.StoreLaws.{inOrder-rising, inOrder-count, length-keysOf}
 use Rattle.claims.specs.declared.claim.Claim.{Claim}
 use Rattle.claims.specs.Question.{firstNo}
@@ -16,11 +18,11 @@ use Rattle.rule.specs.declared.node.Node.{Node}
 use Rattle.rule.specs.declared.answer.Beaten.{Beaten}
 use Rattle.rule.specs.Table.{beatLimit, sending}
 use Rattle.rule.specs.Node.{nodeKeys, pendingOf, nodeInOrder}
-use Rattle.rule.specs.Call.{writtenOver, claimWords, beatQuestions}
+use Rattle.rule.specs.Call.{claimWords, beatQuestions}
 use Rattle.rule.proofs.NodeLaws.{Ordered, nodeInOrder-ordered, ordered-nodeInOrder}
 use Rattle.rule.proofs.CallLaws.{beaten-done, beatenLent-done, ordered-beaten, length-pendingOf}
 use Rattle.rule.proofs.TableLaws.{length-sending}
-use Rattle.rule.proofs.Words.{length-claimWords, length-writtenOver}
+use Rattle.rule.proofs.Words.{length-claimWords}
 use Rattle.beats.specs.Lent.{beatIn, beatInLent}
 use Rattle.beats.proofs.LentLaws.{beatIn-beaten, beatInLent-beatenLent}
 use Rattle.wire.specs.Frame.{allPass}
@@ -66,17 +68,17 @@ module _ (n : Node) (ordered : nodeInOrder n ≡ true) where
     beat-written : r .written ≡ length sent
     beat-written = ap (λ (b : Beaten). b .written) done
 
-    beat-words : words ≡ writtenOver (claimWords sent) lent
+    beat-words : words ≡ putAt lent 0 (claimWords sent)
     beat-words = left ∙ (beatInLent-beatenLent n lent long o ∙ beatenLent-done n lent asked)
 
     beat-read : readRun inWords (r .written) words ≡ sent
-    beat-read = rw (beat-written, beat-words) (readRun-claimWords sent (drop (length (claimWords sent)) lent))
+    beat-read = rw (beat-written, beat-words, putAt-zero) (readRun-claimWords sent (drop (length (claimWords sent)) lent))
 
     beat-room : claimWidth * r .written ≤ length words
     beat-room =
         let m = length-claimWords sent in
         let k = sent-count in
-        rw (beat-written, beat-words, length-writtenOver (claimWords sent) lent (omega arith)) (omega arith)
+        rw (beat-written, beat-words, length-putAt lent 0 (claimWords sent) (omega arith)) (omega arith)
 
     pub beat-ran : Ran n r words
     beat-ran =

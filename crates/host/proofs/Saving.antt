@@ -13,6 +13,7 @@ use lib.ListN.{length}
 use mir.Syntax.{w64}
 use mir.Val.{SFits, toZ, ofZ}
 use Rattle.keys.specs.Store.{limit}
+use Rattle.keys.specs.Place.{putAt}
 use Rattle.keys.proofs.Tests.{eq-or-ne}
 use Rattle.claims.specs.Question.{Question, firstNo, settle}
 use Rattle.claims.proofs.QuestionLaws.{Numbered, firstNo-append-zero, firstNo-append-no}
@@ -20,8 +21,6 @@ use Rattle.rule.specs.declared.node.Node.{Node}
 use Rattle.rule.specs.declared.answer.Rest.{Rest}
 use Rattle.rule.specs.Node.{nodeInOrder}
 use Rattle.rule.specs.Question.{question15}
-use Rattle.rule.specs.Call.{writtenOver}
-use Rattle.keys.proofs.PlaceLaws.{putAt-zero}
 use Rattle.wire.specs.declared.answer.Length.{Length}
 use Rattle.wire.specs.Image.{imageLimit, nodeBytes, Shaped}
 use Rattle.wire.specs.Lent.{writeImageIn, imageInLent}
@@ -40,11 +39,10 @@ known-refused e long f = record { number = e; node = λ z. absurd (f z); sound =
 -- ---- the longest image has room for any
 
 pub writeImageIn-room : (n : Node) → Shaped n → nodeInOrder n ≡ true → (out : List ℕ) → imageLimit ≤ length out
-    → (record { number = 0; length = length (nodeBytes n) } ≡ writeImageIn n (length out)) × (writtenOver (nodeBytes n) out ≡ imageInLent n out)
+    → (record { number = 0; length = length (nodeBytes n) } ≡ writeImageIn n (length out)) × (putAt out 0 (nodeBytes n) ≡ imageInLent n out)
 writeImageIn-room n shaped ordered out h =
     let l = image-at-most n shaped ordered in
-    let (r, after) = writeImageIn-0 n out (ordered-withinLimits n out (shaped .keys) ordered) (omega arith) in
-    (r, sym (putAt-zero out (nodeBytes n)) ∙ after)
+    writeImageIn-0 n out (ordered-withinLimits n out (shaped .keys) ordered) (omega arith)
 
 -- .. and then its length is at most that
 pub written-length : (n : Node) → Shaped n → nodeInOrder n ≡ true → (out : List ℕ) → imageLimit ≤ length out
@@ -109,5 +107,5 @@ module _ {questions : List Question} {n : Node} {keys : List ℕ} {r : Rest} (nu
   unfolding saved savedOut
   saved-known {before} s = (
     s .returned ∙ settle-known (length before) (λ (m : Node). pos (length (nodeBytes m))) minus,
-    s .left ∙ settle-known (length before) (λ (m : Node). writtenOver (nodeBytes m) before) (λ (k : ℕ). before),
+    s .left ∙ settle-known (length before) (λ (m : Node). putAt before 0 (nodeBytes m)) (λ (k : ℕ). before),
   )

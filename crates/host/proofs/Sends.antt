@@ -20,7 +20,6 @@ use Rattle.claims.specs.Words.{claimWidth, fromWords, claimAt}
 use Rattle.claims.proofs.QuestionLaws.{passes, judged-firstNo}
 use Rattle.claims.proofs.WordsLaws.{claimAt-small}
 use Rattle.rule.specs.Node.{blanks}
-use Rattle.rule.specs.Call.{writtenOver}
 use Rattle.keys.specs.Place.{putAt}
 use Rattle.rule.proofs.NodeLaws.{length-blanks}
 use Rattle.keys.proofs.PlaceLaws.{length-putAt, putAt-nil, putAt-zero, putAt-append}
@@ -110,12 +109,12 @@ module _ (frames : List ℕ) (at n : ℕ) (cs : List Claim) (many : countable n 
 
 pub record Written (cs : List Claim) (before frames : List ℕ) (i at : ℕ) : Type 0 where
   pub whole : at + length (framesBytes (drop i cs)) ≡ length (framesBytes cs)
-  pub put : putAt frames at (framesBytes (drop i cs)) ≡ writtenOver (framesBytes cs) before
+  pub put : putAt frames at (framesBytes (drop i cs)) ≡ putAt before 0 (framesBytes cs)
   pub long : length frames ≡ length before
 
 module _ (cs : List Claim) (before : List ℕ) where
   pub written-none : Written cs before before 0 0
-  written-none = record { whole = zero-add (length (framesBytes cs)); put = putAt-zero before (framesBytes cs); long = refl }
+  written-none = record { whole = zero-add (length (framesBytes cs)); put = refl; long = refl }
 
   module _ (frames : List ℕ) (i at : ℕ) (so : Written cs before frames i at) where
     pub written-all : length cs ≤ i → FramesWritten cs before frames at

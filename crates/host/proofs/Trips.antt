@@ -10,6 +10,7 @@ use lib.IntN.{pos}
 use lib.ListN.{length, take, drop}
 use lib.Seq.{take-append-seam}
 use Rattle.keys.proofs.Tests.{eq-or-ne}
+use Rattle.keys.proofs.PlaceLaws.{putAt-zero, take-front}
 use Rattle.keys.proofs.StoreLaws.{inOrder-rising}
 use Rattle.claims.specs.declared.claim.Claim.{Claim}
 use Rattle.claims.specs.Question.{Question, firstNo, settle, question6}
@@ -75,7 +76,7 @@ saved-is-read questions m out n good e =
     let z : k ≡ 0 = was-done k (length (nodeBytes m)) n e in
     let long : length (nodeBytes m) ≡ n = is-length k (length (nodeBytes m)) n e in
     let (o, w) = good (firstNo-front questions (question15 (length out) imageLimit ∷ []) z) in
-    rw (z, ← long, take-append-seam (nodeBytes m) (drop (length (nodeBytes m)) out)) (node-read m o w)
+    rw (z, take-front out (nodeBytes m) n long) (node-read m o w)
 
 -- ---- the image that a call is given
 
@@ -157,7 +158,7 @@ beaten-image-is-read image out frames m below e =
     let w = narrow-served (nodeIn image) o (narrow image (rooms image out frames m e) (beat-yes image out frames m e) below) in
     let served : Ordered n = ordered-beaten (nodeIn image) o (length-pendingOf (nodeIn image) o) in
     let rest = drop (length (nodeBytes n)) out in
-    rw (beat-yes image out frames m e) (
+    rw (beat-yes image out frames m e, putAt-zero) (
       image-length-is-told n rest (w .shaped) (ordered-nodeInOrder n served),
       rw (take-append-seam (nodeBytes n) rest) (node-read n served w),
     )
@@ -178,7 +179,7 @@ beaten-frames-are-read image out frames m below e =
     let o = beat-ordered image out frames m e in
     let fit = sending-fits n o (narrow image (rooms image out frames m e) (beat-yes image out frames m e) below) in
     let rise = inOrder-rising (n .store) (o .store) in (
-      rw (beat-yes image out frames m e, ← beat-length image out frames m e) (take-append-seam (framesSent n) (drop (length (framesSent n)) frames)),
+      rw (beat-yes image out frames m e, ← beat-length image out frames m e) (take-front frames (framesSent n) (length (framesSent n)) refl),
       flatten-fours sent,
       λ g i.
           let (some, few, sub) = fours-mem sent g i in

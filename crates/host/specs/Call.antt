@@ -4,13 +4,13 @@ use Prim.Native.Nat.{ℕ}
 use mathlib.Core.List.{List, [], _∷_, _++_}
 use lib.IntN.{ℤ, pos, negℤ}
 use lib.ListN.{length}
+use Rattle.keys.specs.Place.{putAt}
 use Rattle.claims.specs.Question.{Question, firstNo, settle, question6}
 use Rattle.claims.specs.Call.{entered}
 use Rattle.rule.specs.declared.node.Node.{Node}
 use Rattle.rule.specs.Node.{nodeKeys, pendingOf, nodeOf}
 use Rattle.rule.specs.Table.{serve, sending}
 use Rattle.rule.specs.Question.{question15}
-use Rattle.rule.specs.Call.{writtenOver}
 use Rattle.wire.specs.Frame.{frameClaims, readFrameQuestions}
 use Rattle.wire.specs.Image.{imageLimit, nodeBytes, readImageQuestions, readImage}
 use Rattle.host.specs.Taking.{questions6, takenInTurn}
@@ -39,7 +39,7 @@ unfoldable pub saved : List Question → Node → ℕ → ℤ
 saved questions n room = settle (firstNo (savingQuestions questions room)) (pos (length (nodeBytes n))) minus
 
 unfoldable pub savedOut : List Question → Node → List ℕ → List ℕ
-savedOut questions n out = settle (firstNo (savingQuestions questions (length out))) (writtenOver (nodeBytes n) out) (λ k. out)
+savedOut questions n out = settle (firstNo (savingQuestions questions (length out))) (putAt out 0 (nodeBytes n)) (λ k. out)
 
 -- ---- a frame: "One takes an image and a frame, takes each claim in turn, writes the new image and returns its length."
 
@@ -98,11 +98,11 @@ imageBeaten image room framesRoom =
 unfoldable pub imageBeatenOut : List ℕ → List ℕ → ℕ → List ℕ
 imageBeatenOut image out framesRoom =
     settle (firstNo (beatImageQuestions image (length out) framesRoom))
-    (writtenOver (nodeBytes (nodeServed (nodeIn image))) out)
+    (putAt out 0 (nodeBytes (nodeServed (nodeIn image))))
     (λ k. out)
 
 unfoldable pub imageBeatenFrames : List ℕ → ℕ → List ℕ → List ℕ
 imageBeatenFrames image room frames =
     settle (firstNo (beatImageQuestions image room (length frames)))
-    (writtenOver (framesSent (nodeIn image)) frames)
+    (putAt frames 0 (framesSent (nodeIn image)))
     (λ k. frames)

@@ -10,13 +10,13 @@ use lib.ListN.{length}
 use mir.Syntax.{w64}
 use mir.Val.{SFits}
 use Rattle.keys.specs.Store.{limit}
+use Rattle.keys.specs.Place.{putAt}
 use Rattle.claims.specs.declared.claim.Claim.{Claim}
 use Rattle.claims.specs.Question.{Question, question, firstNo}
 use Rattle.claims.specs.Words.{claimWidth}
 use Rattle.rule.specs.declared.node.Node.{Node}
 use Rattle.rule.specs.declared.answer.Rest.{Rest}
 use Rattle.rule.specs.Node.{nodeInOrder}
-use Rattle.rule.specs.Call.{writtenOver}
 use Rattle.nodes.specs.Lent.{nodeWith, takenWith}
 use Rattle.wire.specs.Run.{readRun}
 use Rattle.wire.specs.Frame.{frameLimit, allPass}
@@ -85,7 +85,7 @@ pub record FramesGiven (words : List ℕ) (count room : ℕ) : Type 0 where
 -- told: the length of the claims' frames, which stand at the front of the buffer `before`
 pub record FramesWritten (cs : List Claim) (before after : List ℕ) (r : ℕ) : Type 0 where
   pub size : r ≡ length (framesBytes cs)
-  pub frames : after ≡ writtenOver (framesBytes cs) before
+  pub frames : after ≡ putAt before 0 (framesBytes cs)
 
 -- given: a node in order, its run of keys with all places, and room for any image and for the frames of any beat
 pub record SendGiven (n : Node) (room framesRoom : ℕ) : Type 0 where
@@ -98,5 +98,5 @@ pub record SendGiven (n : Node) (room framesRoom : ℕ) : Type 0 where
 pub record Sent (n : Node) (out out₁ frames frames₁ : List ℕ) (r : ℕ) : Type 0 where
   pub size : r ≡ length (framesSent n)
   pub most : r ≤ framesLimit
-  pub left : out₁ ≡ writtenOver (nodeBytes (nodeServed n)) out
-  pub sent : frames₁ ≡ writtenOver (framesSent n) frames
+  pub left : out₁ ≡ putAt out 0 (nodeBytes (nodeServed n))
+  pub sent : frames₁ ≡ putAt frames 0 (framesSent n)

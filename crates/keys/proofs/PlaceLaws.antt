@@ -1,12 +1,13 @@
--- Laws of specs/Place, what a lent run holds once something is written at a place of it: nothing written, one element more, a block right after a block.
+-- Laws of specs/Place, what a lent run holds once something is written at a place of it: nothing written, one element more, a block right after a block,
+-- one store after the other.
 -- Assumes nothing.
 use Prim.Native.Nat.{ℕ, zero, suc, _+_, _-_, _≤_, _<_}
 use native.Mathlib.Nat.{zero-add, add-assoc, sub-zero, zero-sub, suc-sub-suc}
 use native.Mathlib.Omega.{arith}
-use mathlib.Core.Path.{_≡_, refl}
+use mathlib.Core.Path.{_≡_, refl, _∙_}
 use mathlib.Core.List.{List, [], _∷_, _++_, append-assoc}
 use lib.ListN.{length, take, drop, getD, set, replicate, length-append, length-take, length-drop, length-set, take-append-drop}
-use lib.Seq.{take-set-le, drop-set-lt, getD-set-same, drop-drop, drop-cons, set-at, take-at, drop-append-add}
+use lib.Seq.{sets, sets-eq, take-set-le, drop-set-lt, getD-set-same, drop-drop, drop-cons, set-at, take-at, drop-append-add}
 use Rattle.keys.specs.Place.{putAt}
 
 module _ {A : Type 0} where
@@ -49,6 +50,10 @@ module _ {A : Type 0} where
       let rest : drop (at + n + length ys) (take at s ++ (xs ++ drop (at + length xs) s)) ≡ drop (at + length (xs ++ ys)) s =
       rw (whole, ← long, drop-append-add, long, drop-drop, length-append, e, add-assoc) in
       rw (putAt-past s at xs, putAt-past, putAt-past, front, rest, append-assoc (take at s), append-assoc xs)
+
+  -- stores one after the other
+  pub sets-putAt : (s : List A) (at : ℕ) (bs : List A) → at + length bs ≤ length s → sets s at bs ≡ putAt s at bs
+  sets-putAt s at bs h = rw putAt-past (sets-eq bs s at h ∙ append-assoc (take at s) bs (drop (at + length bs) s))
 
   -- ---- written to the beginning
 

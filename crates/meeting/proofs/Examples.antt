@@ -9,6 +9,7 @@ use native.Mathlib.Omega.{arith}
 use lib.Dec.{lit<, lit≤}
 use lib.ListN.{length}
 use Rattle.keys.specs.Store.{limit, zeros, storeOf, emptyStore, inOrder, allZero}
+use Rattle.keys.specs.Place.{putAt}
 use Rattle.claims.specs.Cases.{claim}
 use Rattle.claims.specs.Reply.{answer}
 use Rattle.claims.specs.Call.{judged, entered, made, replied}
@@ -25,7 +26,7 @@ use Rattle.meeting.proofs.Meeting.{BothEnd}
 
 -- all that has to be opened to compute with the calls
 opened : Unit {0}
-unfolding zeros storeOf emptyStore inOrder answer judged entered made replied blanks nodeOf emptyNode nodeInOrder
+unfolding zeros storeOf emptyStore inOrder putAt answer judged entered made replied blanks nodeOf emptyNode nodeInOrder
     run runAll half roundOf taken beaten beatenLent met metLent outcome
 opened = tt
 

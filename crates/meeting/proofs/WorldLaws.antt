@@ -13,6 +13,7 @@ use lib.ListN.{length, drop}
 use Rattle.keys.specs.declared.store.Store.{Store}
 use Rattle.keys.specs.Store.{limit, keysOf, storeOf, inOrder, insert, insertAll}
 use Rattle.keys.proofs.Tests.{and-left, and-right, eq-or-ne}
+use Rattle.keys.proofs.PlaceLaws.{putAt-zero}
 use Rattle.claims.specs.declared.claim.Claim.{Claim}
 use Rattle.claims.specs.Claim.{claimOf}
 use Rattle.claims.specs.Question.{firstNo, question1, question6, question7, claimQuestions}
@@ -178,7 +179,7 @@ pub beats-done : (k : ℕ) (lent : List ℕ) (kiosks : ℕ → Node) → firstNo
 unfolding outcome
 beats-done k lent kiosks h =
     let cs : List Claim = sending (nodeKeys (kiosks k)) (pendingOf (kiosks k)) in
-    rw (beaten-done (kiosks k) lent h, beatenLent-done (kiosks k) lent h, readClaims-words cs (drop (length (claimWords cs)) lent))
+    rw (beaten-done (kiosks k) lent h, beatenLent-done (kiosks k) lent h, putAt-zero, readClaims-words cs (drop (length (claimWords cs)) lent))
 
 pub beats-refused : (k : ℕ) (lent : List ℕ) (kiosks : ℕ → Node) → (firstNo (beatQuestions (kiosks k) lent) ≡ 0 → ⊥) →
     outcome (beats k lent) kiosks ≡ refusal (firstNo (beatQuestions (kiosks k) lent)) kiosks
@@ -202,7 +203,7 @@ unfolding outcome
 meets-done k m lent kiosks h =
     let s : Store = kiosks k .store in
     let t : Store = kiosks m .store in
-    rw (met-done s t (length lent) h, metLent-done s t lent h, readRecords-lines (roundBy s t .lines) (drop (length (transcript (roundBy s t))) lent))
+    rw (met-done s t (length lent) h, metLent-done s t lent h, putAt-zero, readRecords-lines (roundBy s t .lines) (drop (length (transcript (roundBy s t))) lent))
 
 pub meets-refused : (k m : ℕ) (lent : List Delivery) (kiosks : ℕ → Node) →
     (firstNo (roundQuestions (kiosks k .store) (kiosks m .store) (length lent)) ≡ 0 → ⊥) →

@@ -13,6 +13,7 @@ use lib.ListN.{length, take, drop, getD, length-take, length-drop}
 use lib.Seq.{length-take-le, take-all, drop-drop}
 use Rattle.keys.specs.declared.store.Store.{Store}
 use Rattle.keys.specs.Store.{limit, storeOf, insertAll}
+use Rattle.keys.specs.Place.{putAt}
 use Rattle.keys.proofs.Tests.{and-left, and-right, lt-or-le, eq-or-ne}
 use Rattle.keys.proofs.Rising.{Rising}
 use Rattle.keys.proofs.StoreLaws.{inOrder-rising, storeOf-keysOf}
@@ -26,7 +27,7 @@ use Rattle.claims.proofs.ClaimLaws.{same-claim}
 use Rattle.claims.proofs.QuestionLaws.{Passes, passes, firstNo-yes, firstNo-no, firstNo-append-no, settle-kept, judged-firstNo}
 use Rattle.claims.proofs.LentLaws.{hearIn-judged, hearIn-fits, hearIn-full}
 use Rattle.rule.specs.Table.{tableLimit, before, climbsFrom, climbs, insertClaim, tableWith}
-use Rattle.rule.specs.Call.{writtenOver, takeQuestions, taken}
+use Rattle.rule.specs.Call.{takeQuestions, taken}
 use Rattle.rule.specs.declared.node.Node.{Node}
 use Rattle.rule.specs.declared.answer.Taken.{Taken}
 use Rattle.rule.specs.Node.{blanks, pendingOf, nodeKeys, nodeOf}
@@ -192,7 +193,7 @@ takeIn-kept n c = settle-kept (λ (t : Taken). t .number) (λ (t : Taken). t .no
       number = 0;
       node = record {
         store = hearIn (n .store) c .store;
-        pending = writtenOver (tableIn c (pendingOf n)) (n .pending);
+        pending = putAt (n .pending) 0 (tableIn c (pendingOf n));
         count = length (tableIn c (pendingOf n));
       };
     })
@@ -212,8 +213,9 @@ length-insertClaim-ge c (d ∷ ds) = go (before d c) (same d c) (length-insertCl
 
 module _ (n : Node) (whole : length (n .pending) ≡ tableLimit) (o : Ordered n) where
   -- a table written over that of a node in order, and no shorter: the rest is blanks
-  pub writtenOver-blanks : (t : List Claim) → n .count ≤ length t → writtenOver t (n .pending) ≡ t ++ blanks (tableLimit - length t)
-  writtenOver-blanks t h =
+  pub putAt-blanks : (t : List Claim) → n .count ≤ length t → putAt (n .pending) 0 t ≡ t ++ blanks (tableLimit - length t)
+  unfolding putAt
+  putAt-blanks t h =
       let past : drop (n .count) (n .pending) ≡ blanks (tableLimit - n .count) =
       blanks-allUnused (drop (n .count) (n .pending)) (o .unused) ∙ ap blanks (length-drop (n .count) (n .pending) ∙ ap (λ (m : ℕ). m - n .count) whole) in
       let on : n .count + (length t - n .count) ≡ length t = omega arith in
@@ -230,7 +232,7 @@ module _ (n : Node) (whole : length (n .pending) ≡ tableLimit) (o : Ordered n)
     own-store = storeOf-keysOf (n .store) long (o .store)
 
     -- the table with the claim put in, laid out
-    table-is : writtenOver (tableIn c (pendingOf n)) (n .pending) ≡ tableWith c (pendingOf n) ++ blanks (tableLimit - length (tableWith c (pendingOf n)))
+    table-is : putAt (n .pending) 0 (tableIn c (pendingOf n)) ≡ tableWith c (pendingOf n) ++ blanks (tableLimit - length (tableWith c (pendingOf n)))
     table-is =
         let t = tableIn-tableWith c (pendingOf n) (o .table) (length-pendingOf n o) in
         let few : n .count ≤ tableLimit = o .count in
@@ -238,7 +240,7 @@ module _ (n : Node) (whole : length (n .pending) ≡ tableLimit) (o : Ordered n)
         let grown : length (pendingOf n) ≤ length (insertClaim c (pendingOf n)) = length-insertClaim-ge c (pendingOf n) in
         let cut : length (tableWith c (pendingOf n)) ≡ min tableLimit (length (insertClaim c (pendingOf n))) =
         length-take tableLimit (insertClaim c (pendingOf n)) in
-        ap (λ (u : List Claim). writtenOver u (n .pending)) t ∙ writtenOver-blanks (tableWith c (pendingOf n)) (omega arith)
+        ap (λ (u : List Claim). putAt (n .pending) 0 u) t ∙ putAt-blanks (tableWith c (pendingOf n)) (omega arith)
 
     take-judged : (judged c ≡ 0 → ⊥) → takeIn n c ≡ taken n c
     unfolding takeIn taken judged

@@ -13,6 +13,7 @@ use lib.Seq.{getD-take, length-take-le, take-take, take-all, take-nil, take-at}
 use Rattle.keys.specs.Lent.{insertedAt, storeWith}
 use Rattle.keys.specs.declared.store.Store.{Store}
 use Rattle.keys.specs.Store.{limit}
+use Rattle.keys.specs.Place.{putAt}
 use Rattle.keys.proofs.Tests.{lt-or-le}
 use Rattle.claims.specs.declared.claim.Claim.{Claim}
 use Rattle.claims.specs.Claim.{noClaim}
@@ -21,7 +22,7 @@ use Rattle.claims.specs.declared.lent.Heard.{Heard}
 use Rattle.claims.specs.Lent.{Hearing, hearingWith, hearIn}
 use Rattle.claims.proofs.LentLaws.{hearIn-kept}
 use Rattle.rule.specs.Table.{tableLimit, before}
-use Rattle.rule.specs.Call.{writtenOver, taken}
+use Rattle.rule.specs.Call.{taken}
 use Rattle.rule.specs.declared.node.Node.{Node}
 use Rattle.rule.specs.declared.answer.Taken.{Taken}
 use Rattle.rule.specs.Node.{nodeInOrder}
@@ -89,8 +90,8 @@ drop-take (suc p) (suc n) (x ∷ xs) = let e : suc n - suc p ≡ n - p = omega a
 
 -- what was moved and set is the run with the claim placed among the first `count`, and what stood past them
 pub insertedAt-placedAt : (table : List Claim) (count at : ℕ) (c : Claim) → at ≤ count → count < length table
-    → insertedAt at count c table ≡ writtenOver (placedAt at c (take count table)) table
-unfolding insertedAt
+    → insertedAt at count c table ≡ putAt table 0 (placedAt at c (take count table))
+unfolding insertedAt putAt
 insertedAt-placedAt table count at c h g =
     let long : length (placedAt at c (take count table)) ≡ count + 1 = simp (length-append, length-take, length-drop) (omega arith) in
     rw (long, take-take at count table h, drop-take at count table)
@@ -118,6 +119,7 @@ module _ (table : List Claim) (count at : ℕ) (c : Claim) (whole : length table
 
   -- nothing is put in
   enlisted-same : placedIn at c (take count table) ≡ take count table → Enlisted table (placedIn at c (take count table)) table count
+  unfolding putAt
   enlisted-same e = rw e (record { places = rw length-pending (sym (take-append-drop count table)); many = sym length-pending })
 
   pub enlisted-held : (t : Bool) → t ≡ isAt at c (take count table) → t ≡ true → Enlisted table (placedIn at c (take count table)) table count
@@ -136,7 +138,7 @@ module _ (table : List Claim) (count at : ℕ) (c : Claim) (whole : length table
         (take-all at (take count table) (omega (arith, length-pending))))
 
     pub enlisted-put : (at ≡ tableLimit → ⊥) → (kept : ℕ) → kept ≡ min count (tableLimit - 1) → (moved : List Claim)
-        → moved ≡ writtenOver (placedAt at c (take kept table)) table → Enlisted table (placedIn at c (take count table)) moved (kept + 1)
+        → moved ≡ putAt table 0 (placedAt at c (take kept table)) → Enlisted table (placedIn at c (take count table)) moved (kept + 1)
     enlisted-put h kept k moved m =
         let cut : placedIn at c (take count table) ≡ placedAt at c (take kept table) =
         rw other (take-placedAt (tableLimit - 1) at c (take count table) (omega arith)

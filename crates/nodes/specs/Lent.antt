@@ -9,6 +9,7 @@ use mathlib.Core.List.{List, _∷_, _++_}
 use lib.Dec.{ltb, leb, eqb}
 use lib.ListN.{length, take, drop, getD}
 use Rattle.keys.specs.Lent.{storeWith}
+use Rattle.keys.specs.Place.{putAt}
 use Rattle.claims.specs.declared.claim.Claim.{Claim}
 use Rattle.claims.specs.Claim.{noClaim}
 use Rattle.claims.specs.Question.{settle}
@@ -18,7 +19,6 @@ use Rattle.rule.specs.declared.answer.Rest.{Rest}
 use Rattle.rule.specs.declared.answer.Taken.{Taken}
 use Rattle.rule.specs.Table.{tableLimit, before, climbs}
 use Rattle.rule.specs.Node.{pendingOf, nodeOf, allFit, nodeInOrder}
-use Rattle.rule.specs.Call.{writtenOver}
 
 -- the node of these parts: a run of keys and how many are held, a table and how many are pending
 abbrev pub nodeWith : List ℕ → ℕ → List Claim → ℕ → Node
@@ -62,7 +62,7 @@ tableIn c t = placedIn (placeAmong c t) c t
 
 -- `new` and `count` are a table and its count once it has the claims t in place of those that were pending
 pub record Enlisted (table t new : List Claim) (count : ℕ) : Type 0 where
-  pub places : new ≡ writtenOver t table
+  pub places : new ≡ putAt table 0 t
   pub many : count ≡ length t
 
 -- what is taken, by the run of keys as it is then and what the call returns
@@ -77,7 +77,7 @@ takeIn n c =
       number = 0;
       node = record {
         store = hearIn (n .store) c .store;
-        pending = writtenOver (tableIn c (pendingOf n)) (n .pending);
+        pending = putAt (n .pending) 0 (tableIn c (pendingOf n));
         count = length (tableIn c (pendingOf n));
       };
     })

@@ -11,8 +11,9 @@ use rule::Taken;
 ghost use mathlib.Core.Path.{_≡_};
 ghost use Prim.Native.Nat.{_≤_, _<_};
 ghost use lib.ListN.{take};
+ghost use Rattle.keys.specs.Place.{putAt};
 ghost use Rattle.rule.specs.Table.{tableLimit};
-ghost use Rattle.rule.specs.Call.{writtenOver, taken};
+ghost use Rattle.rule.specs.Call.{taken};
 ghost use Rattle.nodes.specs.Lent.{placeAmong, isAt, placedAt, placedIn, tableIn, Enlisted, nodeWith, takenWith, takeIn};
 
 // A table, and how many claims are pending in it.
@@ -55,7 +56,7 @@ fn stands(table: [Claim; Node::TABLE], count: usize, at: usize, claim: Claim) ->
 // Puts a claim in at a place: the claims from there to the count move up by one, the last one first.
 fn put(table: [Claim; Node::TABLE], count: usize, at: usize, claim: Claim) -> [Claim; Node::TABLE]
     requires { ⌜ (at ≤ count) × (count < tableLimit) ⌝ }
-    ensures { λ r. ⌜ r ≡ writtenOver (placedAt at claim (take count table)) table ⌝ }
+    ensures { λ r. ⌜ r ≡ putAt table 0 (placedAt at claim (take count table)) ⌝ }
 {
     let mut moved = table;
     let mut i = count;

@@ -10,7 +10,7 @@ use Rattle.claims.proofs.QuestionLaws.{settle-done, settle-refused}
 use Rattle.rule.specs.Round.{Line}
 use Rattle.rule.specs.Call.{roundBy, deliveryWords, recordWidth, recordsIn}
 use Rattle.keys.specs.Place.{putAt}
-use Rattle.keys.proofs.PlaceLaws.{length-putAt, putAt-nil, putAt-append}
+use Rattle.keys.proofs.PlaceLaws.{length-putAt, putAt-nil, putAt-zero, putAt-append}
 use Rattle.rehearsal.specs.declared.answer.Rehearsed.{Rehearsed}
 use Rattle.rehearsal.specs.Rehearsal.{firstBytes, secondBytes, storeIn, rehearseNumber, rehearsed, Rehearsal, roundWords}
 use Rattle.rehearsal.specs.Put.{Put}
@@ -168,7 +168,7 @@ module _ (input lent : List ℕ) (long : length lent ≡ recordWidth * lentRecor
     printed-told =
         let ds = deliveriesOf input in
         let t = rehearsed input lentRecords in
-        let p : rows (r .deliveries) words ≡ lines ds = rw (many, words-are) (rows-lines ds (drop (length (deliveryWords ds)) lent)) in
+        let p : rows (r .deliveries) words ≡ lines ds = rw (many, words-are, putAt-zero) (rows-lines ds (drop (length (deliveryWords ds)) lent)) in
         ap₂ _++_ p (ap (λ (x : Rehearsed). lastLine (x .left) (x .right) (x .deliveries)) told)
         ∙ sym (settle-done (t .number) (lines ds ++ lastLine (t .left) (t .right) (t .deliveries)) refusedLine number-zero)
 

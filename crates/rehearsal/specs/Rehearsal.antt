@@ -5,9 +5,10 @@ use mathlib.Core.List.{List, _∷_, _++_}
 use mathlib.Core.Path.{_≡_}
 use lib.ListN.{length, take, drop}
 use Rattle.keys.specs.declared.store.Store.{Store}
+use Rattle.keys.specs.Place.{putAt}
 use Rattle.claims.specs.Question.{Question, firstNo, settle}
 use Rattle.rule.specs.Round.{transcript}
-use Rattle.rule.specs.Call.{roundQuestions, roundBy, deliveryWords, writtenOver, recordsIn}
+use Rattle.rule.specs.Call.{roundQuestions, roundBy, deliveryWords, recordsIn}
 use Rattle.wire.specs.Image.{sections, toldLength, frontQuestion14, readImageQuestions, readImage}
 use Rattle.rehearsal.specs.declared.answer.Rehearsed.{Rehearsed}
 
@@ -47,7 +48,7 @@ roundTold left right = record {
 
 -- the lent words after the round: a record a delivery, five words to a record; "output past what was written keeps its contents"
 abbrev pub roundWords : Store → Store → List ℕ → List ℕ
-roundWords left right lent = writtenOver (deliveryWords (transcript (roundBy left right))) lent
+roundWords left right lent = putAt lent 0 (deliveryWords (transcript (roundBy left right)))
 
 -- What is decided by a number, that of the first question answered no or 0, for the round of two stores: what is returned, and the lent words afterwards.
 unfoldable pub toldBy : ℕ → Store → Store → Rehearsed

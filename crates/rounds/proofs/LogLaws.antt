@@ -12,6 +12,8 @@ use lib.ListN.{length, take, drop, getD, set, replicate, length-replicate, lengt
 use lib.Seq.{length-take-le, take-suc, drop-cons, split-at, append-snoc, set-at, drop-append-le, take-length}
 use Rattle.keys.specs.declared.store.Store.{Store}
 use Rattle.keys.specs.Store.{limit, inOrder, keysOf, storeOf}
+use Rattle.keys.specs.Place.{putAt}
+use Rattle.keys.proofs.PlaceLaws.{putAt-zero}
 use Rattle.keys.proofs.StoreLaws.{inOrder-rising}
 use Rattle.keys.proofs.Tests.{eq-or-ne}
 use Rattle.claims.specs.declared.claim.Claim.{Claim}
@@ -19,7 +21,7 @@ use Rattle.claims.specs.Question.{firstNo, settle}
 use Rattle.rule.specs.declared.delivery.Delivery.{Delivery}
 use Rattle.rule.specs.declared.answer.Met.{Met}
 use Rattle.rule.specs.Round.{union, Line, transcript}
-use Rattle.rule.specs.Call.{writtenOver, recordWidth, recordsIn, deliveryWords, roundQuestions, roundBy, met, metLent, metWords}
+use Rattle.rule.specs.Call.{recordWidth, recordsIn, deliveryWords, roundQuestions, roundBy, met, metLent, metWords}
 use Rattle.rule.proofs.CallLaws.{RoundYes, roundQuestions-yes, met-done, met-refused, roundYes-rounded, metLent-done, metLent-refused, metWords-done}
 use Rattle.rule.proofs.Words.{length-deliveryWords}
 use Rattle.transcript.specs.Core.{claimIn}
@@ -62,9 +64,9 @@ length-copied (suc n) words lent = length-set (copied n words lent) n _ ∙ leng
 module _ (lent : List ℕ) where
   -- the record after those in front
   deliveryIn-at : (done : List Delivery) (d : Delivery) (rest : List Delivery) → Narrow d → length (done ++ (d ∷ rest)) ≤ recordsIn lent
-      → deliveryIn (writtenOver (deliveryWords (done ++ (d ∷ rest))) lent) (length done) ≡ d
+      → deliveryIn (putAt lent 0 (deliveryWords (done ++ (d ∷ rest)))) (length done) ≡ d
   deliveryIn-at done d rest w h =
-      let all : List ℕ = writtenOver (deliveryWords (done ++ (d ∷ rest))) lent in
+      let all : List ℕ = putAt lent 0 (deliveryWords (done ++ (d ∷ rest))) in
       let same : length all ≡ length lent = length-over (done ++ (d ∷ rest)) lent h in
       let some : length done < recordsIn all = omega (arith, length-append done (d ∷ rest)) in
       let byte : getD all (length done * recordWidth) 0 % 256 ≡ d .sender = let e : getD all (length done * recordWidth) 0 ≡ d .sender = sender-at done d rest lent in omega (arith, w .sender) in
@@ -73,15 +75,15 @@ module _ (lent : List ℕ) where
 
   -- the records of some words, stored: the first n of them, then what stood there before
   copied-take : (ds into : List Delivery) → ((n : ℕ) → n < length ds → Narrow (getD ds n noDelivery)) → length ds ≤ recordsIn lent → length ds ≤ length into
-      → (n : ℕ) → n ≤ length ds → copied n (writtenOver (deliveryWords ds) lent) into ≡ take n ds ++ drop n into
+      → (n : ℕ) → n ≤ length ds → copied n (putAt lent 0 (deliveryWords ds)) into ≡ take n ds ++ drop n into
   copied-take ds into narrow h g zero k = refl
   copied-take ds into narrow h g (suc n) k =
       let d : Delivery = getD ds n noDelivery in
-      let all : List ℕ = writtenOver (deliveryWords ds) lent in
+      let all : List ℕ = putAt lent 0 (deliveryWords ds) in
       let cut : ds ≡ take n ds ++ (d ∷ drop (suc n) ds) = split-at ds n noDelivery (omega arith) in
       let long : length (take n ds) ≡ n = length-take-le n ds (omega arith) in
       let read : deliveryIn all n ≡ d =
-      ap₂ (λ (x : List Delivery) (m : ℕ). deliveryIn (writtenOver (deliveryWords x) lent) m) cut (sym long)
+      ap₂ (λ (x : List Delivery) (m : ℕ). deliveryIn (putAt lent 0 (deliveryWords x)) m) cut (sym long)
       ∙ deliveryIn-at (take n ds) d (drop (suc n) ds) (narrow n (omega arith)) (subst (λ (x : List Delivery). length x ≤ recordsIn lent) cut h) in
       ap₂ (λ (l : List Delivery) (x : Delivery). set l n x) (copied-take ds into narrow h g n (omega arith)) read
       ∙ (ap (λ (l : List Delivery). set (take n ds ++ l) n d) (drop-cons into n noDelivery (omega arith))
@@ -89,8 +91,9 @@ module _ (lent : List ℕ) where
       ∙ (sym (append-snoc (take n ds) d (drop (suc n) into)) ∙ ap (λ (l : List Delivery). l ++ drop (suc n) into) (sym (take-suc ds n noDelivery (omega arith))))))
 
 -- what is written to the first words is written to the words
-writtenOver-front : {A : Type 0} (new lent : List A) (k : ℕ) → length new ≤ k → k ≤ length lent → writtenOver new (take k lent) ++ drop k lent ≡ writtenOver new lent
-writtenOver-front new lent k h g =
+putAt-take : {A : Type 0} (new lent : List A) (k : ℕ) → length new ≤ k → k ≤ length lent → putAt (take k lent) 0 new ++ drop k lent ≡ putAt lent 0 new
+unfolding putAt
+putAt-take new lent k h g =
     let a : length new ≤ length (take k lent) = omega (arith, length-take-le k lent g) in
     append-assoc new (drop (length new) (take k lent)) (drop k lent)
     ∙ ap (λ l. new ++ l) (sym (drop-append-le (length new) (take k lent) (drop k lent) a) ∙ ap (drop (length new)) (take-append-drop k lent))
@@ -135,7 +138,7 @@ module _ (s t : Store) (words : List ℕ) (long : 2 * limit ≤ recordsIn words)
       let count : length (transcript (roundBy s t)) ≡ length (roundBy s t .lines) = length-map (roundBy s t .lines) (λ (x : Line). x .delivery) in
       omega (arith, y .room, y .fits)
 
-  frontWords-done : (n : ℕ) → firstNo (roundQuestions s t n) ≡ 0 → frontWords s t words n ≡ writtenOver (deliveryWords (transcript (roundBy s t))) words
+  frontWords-done : (n : ℕ) → firstNo (roundQuestions s t n) ≡ 0 → frontWords s t words n ≡ putAt words 0 (deliveryWords (transcript (roundBy s t)))
   unfolding frontWords
   frontWords-done n h =
       let k : ℕ = frontRecords words n in
@@ -144,7 +147,7 @@ module _ (s t : Store) (words : List ℕ) (long : 2 * limit ≤ recordsIn words)
       let same : recordsIn (take (k * recordWidth) words) ≡ k = omega arith in
       let fit : length (transcript (roundBy s t)) ≤ k = lines-fit n (roundQuestions-yes s t n h) in
       ap (λ (l : List ℕ). l ++ drop (k * recordWidth) words) (metWords-done s t (take (k * recordWidth) words) (ap (λ (m : ℕ). firstNo (roundQuestions s t m)) same ∙ (roundQuestions-min s t n (recordsIn words) long ∙ h)))
-      ∙ writtenOver-front (deliveryWords (transcript (roundBy s t))) words (k * recordWidth) (omega (arith, length-deliveryWords (transcript (roundBy s t)))) (omega arith)
+      ∙ putAt-take (deliveryWords (transcript (roundBy s t))) words (k * recordWidth) (omega (arith, length-deliveryWords (transcript (roundBy s t)))) (omega arith)
 
   met-lent-done : (lent : List Delivery) → firstNo (roundQuestions s t (length lent)) ≡ 0 → copied (met s t (length lent) .deliveries) (frontWords s t words (length lent)) lent ≡ metLent s t lent
   met-lent-done lent h =
@@ -154,9 +157,9 @@ module _ (s t : Store) (words : List ℕ) (long : 2 * limit ≤ recordsIn words)
       let fit : length ds ≤ frontRecords words (length lent) = lines-fit (length lent) y in
       let narrow : AllNarrow (roundBy s t .lines) = round-narrow (keysOf s) (keysOf t) (inOrder-rising s (y .left)) (inOrder-rising t (y .right)) (y .fits) in
       ap₂ (λ (m : Met) (w : List ℕ). copied (m .deliveries) w lent) (met-done s t (length lent) h) (frontWords-done (length lent) h)
-      ∙ (ap (λ (m : ℕ). copied m (writtenOver (deliveryWords ds) words) lent) (sym count)
+      ∙ (ap (λ (m : ℕ). copied m (putAt words 0 (deliveryWords ds)) lent) (sym count)
       ∙ (copied-take words ds lent (λ n b. allNarrow-getD (roundBy s t .lines) n noDelivery narrow (omega arith)) (omega arith) (omega arith) (length ds) (omega arith)
-      ∙ (ap (λ (l : List Delivery). l ++ drop (length ds) lent) (take-length ds) ∙ sym (metLent-done s t lent h))))
+      ∙ (ap (λ (l : List Delivery). l ++ drop (length ds) lent) (take-length ds) ∙ (sym (putAt-zero lent ds) ∙ sym (metLent-done s t lent h)))))
 
   pub met-lent : (lent : List Delivery) → copied (met s t (length lent) .deliveries) (frontWords s t words (length lent)) lent ≡ metLent s t lent
   met-lent lent =

@@ -12,6 +12,7 @@ use borrow.Author.Tests.{ltb-true, leb-true}
 use lib.ListN.{length, length-take}
 use Rattle.keys.specs.declared.store.Store.{Store}
 use Rattle.keys.specs.Store.{limit, keysOf, storeOf, inOrder, insertAll}
+use Rattle.keys.specs.Place.{putAt}
 use Rattle.keys.proofs.Tests.{eq-or-ne}
 use Rattle.keys.proofs.StoreLaws.{inOrder-count, inOrder-rising}
 use Rattle.claims.specs.declared.claim.Claim.{Claim}
@@ -28,7 +29,7 @@ use Rattle.rule.specs.Table.{tableLimit, tableWith, serve, sending}
 use Rattle.rule.specs.Node.{nodeKeys, pendingOf, nodeOf}
 use Rattle.rule.specs.Round.{union, transcript}
 use Rattle.rule.specs.Question.{nodeQuestion1, question8, question9}
-use Rattle.rule.specs.Call.{writtenOver, takeQuestions, taken, claimWords, beatQuestions, beaten, beatenLent}
+use Rattle.rule.specs.Call.{takeQuestions, taken, claimWords, beatQuestions, beaten, beatenLent}
 use Rattle.rule.specs.Call.{roundQuestions, roundBy, met, metLent, deliveryWords, recordsIn, metWords}
 use Rattle.rule.proofs.TableLaws.{climbs-tableWith, climbs-kept, tableWith-mem, kept-mem, length-tableWith, length-kept}
 use Rattle.rule.proofs.NodeLaws.{Fits, fits-sub, Ordered, ordered-nodeInOrder, nodeInOrder-ordered, ordered-nodeOf}
@@ -85,7 +86,7 @@ unfolding beaten
 beaten-refused n lent f = settle-refused _ _ (λ x. record { number = x; node = n; written = 0 }) f
 
 pub beatenLent-done : (n : Node) (lent : List ℕ) → firstNo (beatQuestions n lent) ≡ 0 →
-    beatenLent n lent ≡ writtenOver (claimWords (sending (nodeKeys n) (pendingOf n))) lent
+    beatenLent n lent ≡ putAt lent 0 (claimWords (sending (nodeKeys n) (pendingOf n)))
 unfolding beatenLent
 beatenLent-done n lent h = settle-done _ _ (λ x. lent) h
 
@@ -138,7 +139,7 @@ met-zero s t n h =
     (eq-or-ne (firstNo (roundQuestions s t n)) 0)
 
 pub metLent-done : (s t : Store) (lent : List Delivery) → firstNo (roundQuestions s t (length lent)) ≡ 0 →
-    metLent s t lent ≡ writtenOver (transcript (roundBy s t)) lent
+    metLent s t lent ≡ putAt lent 0 (transcript (roundBy s t))
 unfolding metLent
 metLent-done s t lent h = settle-done _ _ (λ x. lent) h
 
@@ -147,7 +148,7 @@ unfolding metLent
 metLent-refused s t lent f = settle-refused _ _ (λ x. lent) f
 
 pub metWords-done : (s t : Store) (lent : List ℕ) → firstNo (roundQuestions s t (recordsIn lent)) ≡ 0 →
-    metWords s t lent ≡ writtenOver (deliveryWords (transcript (roundBy s t))) lent
+    metWords s t lent ≡ putAt lent 0 (deliveryWords (transcript (roundBy s t)))
 unfolding metWords
 metWords-done s t lent h = settle-done _ _ (λ x. lent) h
 

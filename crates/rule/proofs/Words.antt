@@ -1,19 +1,20 @@
--- Claims and records as words: `claimWords`, `deliveryWords` and `writtenOver` of Call. In order: how many words; joins; parts; what is written over a
--- lent run keeps its length; a round's records and its words are one and the same. Assumes nothing.
+-- Claims and records as words: `claimWords` and `deliveryWords` of Call. In order: how many words; joins; parts; records written to
+-- the beginning of a lent run; a round's records and its words are one and the same. Assumes nothing.
 use Prim.Native.Nat.{ℕ, _*_, _≤_}
 use mathlib.Core.List.{List, [], _∷_, _++_}
 use mathlib.Core.Logic.{⊎-elim}
 use mathlib.Core.Path.{_≡_, refl, sym, ap, _∙_}
 use native.Mathlib.Omega.{arith}
-use lib.ListN.{length, drop, length-append, length-drop}
+use lib.ListN.{length, drop}
 use Rattle.keys.specs.declared.store.Store.{Store}
+use Rattle.keys.specs.Place.{putAt}
 use Rattle.keys.proofs.Tests.{eq-or-ne}
 use Rattle.claims.specs.declared.claim.Claim.{Claim}
 use Rattle.claims.specs.Question.{firstNo}
 use Rattle.claims.specs.Words.{claimWidth, wordsOf}
 use Rattle.rule.specs.declared.delivery.Delivery.{Delivery}
 use Rattle.rule.specs.Round.{transcript}
-use Rattle.rule.specs.Call.{writtenOver, claimWords, roundQuestions, roundBy, metLent, recordWidth, recordWords, deliveryWords, recordsIn, metWords}
+use Rattle.rule.specs.Call.{claimWords, roundQuestions, roundBy, metLent, recordWidth, recordWords, deliveryWords, recordsIn, metWords}
 use Rattle.rule.proofs.CallLaws.{metLent-done, metLent-refused, metWords-done, metWords-refused}
 
 -- ---- how many words
@@ -44,13 +45,11 @@ deliveryWords-drop [] lent = refl
 deliveryWords-drop (d ∷ ds) [] = refl
 deliveryWords-drop (d ∷ ds) (e ∷ lent) = deliveryWords-drop ds lent
 
--- ---- written over a lent run
+-- ---- records written to the beginning of a lent run
 
-pub length-writtenOver : {A : Type 0} (new lent : List A) → length new ≤ length lent → length (writtenOver new lent) ≡ length lent
-length-writtenOver new lent h = omega (arith, length-append new (drop (length new) lent), length-drop (length new) lent)
-
-pub deliveryWords-writtenOver : (new lent : List Delivery) → deliveryWords (writtenOver new lent) ≡ writtenOver (deliveryWords new) (deliveryWords lent)
-deliveryWords-writtenOver new lent =
+deliveryWords-putAt : (new lent : List Delivery) → deliveryWords (putAt lent 0 new) ≡ putAt (deliveryWords lent) 0 (deliveryWords new)
+unfolding putAt
+deliveryWords-putAt new lent =
     deliveryWords-append new (drop (length new) lent) ∙ ap (λ (x : List ℕ). deliveryWords new ++ x) (sym (deliveryWords-drop new lent))
 
 -- ---- a round, as records and as words
@@ -62,7 +61,7 @@ metWords-records s t lent =
     {C = metWords s t (deliveryWords lent) ≡ deliveryWords (metLent s t lent)}
     (λ (z : firstNo (roundQuestions s t (length lent)) ≡ 0).
     metWords-done s t (deliveryWords lent) (ap (λ (n : ℕ). firstNo (roundQuestions s t n)) records ∙ z)
-    ∙ sym (ap deliveryWords (metLent-done s t lent z) ∙ deliveryWords-writtenOver (transcript (roundBy s t)) lent))
+    ∙ sym (ap deliveryWords (metLent-done s t lent z) ∙ deliveryWords-putAt (transcript (roundBy s t)) lent))
     (λ (f : firstNo (roundQuestions s t (length lent)) ≡ 0 → ⊥).
     metWords-refused s t (deliveryWords lent) (λ (z : firstNo (roundQuestions s t (recordsIn (deliveryWords lent))) ≡ 0). f (sym (ap (λ (n : ℕ). firstNo (roundQuestions s t n)) records) ∙ z))
     ∙ sym (ap deliveryWords (metLent-refused s t lent f)))

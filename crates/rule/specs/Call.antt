@@ -3,9 +3,10 @@
 -- output past what was written keeps its contents." Assumes nothing.
 use Prim.Native.Nat.{ℕ, _+_, _/_}
 use mathlib.Core.List.{List, [], _∷_, _++_}
-use lib.ListN.{length, drop}
+use lib.ListN.{length}
 use Rattle.keys.specs.declared.store.Store.{Store}
 use Rattle.keys.specs.Store.{keysOf, storeOf}
+use Rattle.keys.specs.Place.{putAt}
 use Rattle.claims.specs.declared.claim.Claim.{Claim}
 use Rattle.claims.specs.Question.{Question, firstNo, settle, question1, question6, claimQuestions}
 use Rattle.claims.specs.Reply.{ends, hear}
@@ -19,11 +20,6 @@ use Rattle.rule.specs.Table.{tableWith, serve, sending, beatLimit}
 use Rattle.rule.specs.Node.{nodeKeys, pendingOf, nodeOf}
 use Rattle.rule.specs.Round.{Run, roundOf, transcript}
 use Rattle.rule.specs.Question.{nodeQuestion1, question8, question9, question15}
-
--- A lent run after something was written to its beginning: what was written, then what stood there before. It is `putAt lent 0 new` of Place
--- (`putAt-zero` of proofs/PlaceLaws), said without a place.
-abbrev pub writtenOver : {A : Type 0} → List A → List A → List A
-writtenOver new lent = new ++ drop (length new) lent
 
 -- `take` asks 1, 2 to 5 and 6: "Taking a claim adds lo and hi, then the claim .."
 abbrev pub takeQuestions : Node → Claim → List Question
@@ -54,7 +50,7 @@ beaten n lent =
 unfoldable pub beatenLent : Node → List ℕ → List ℕ
 beatenLent n lent =
     settle (firstNo (beatQuestions n lent))
-    (writtenOver (claimWords (sending (nodeKeys n) (pendingOf n))) lent)
+    (putAt lent 0 (claimWords (sending (nodeKeys n) (pendingOf n))))
     (λ x. lent)
 
 -- `round` asks 1 of the left store and of the right one, 8 and 9, of so many records.
@@ -81,7 +77,7 @@ met s t records =
 unfoldable pub metLent : Store → Store → List Delivery → List Delivery
 metLent s t lent =
     settle (firstNo (roundQuestions s t (length lent)))
-    (writtenOver (transcript (roundBy s t)) lent)
+    (putAt lent 0 (transcript (roundBy s t)))
     (λ x. lent)
 
 -- .. and as words: a record is its sender, then its claim. How many those are, code knows as `Delivery::WORDS`.
@@ -102,5 +98,5 @@ recordsIn words = length words / recordWidth
 unfoldable pub metWords : Store → Store → List ℕ → List ℕ
 metWords s t lent =
     settle (firstNo (roundQuestions s t (recordsIn lent)))
-    (writtenOver (deliveryWords (transcript (roundBy s t))) lent)
+    (putAt lent 0 (deliveryWords (transcript (roundBy s t))))
     (λ x. lent)

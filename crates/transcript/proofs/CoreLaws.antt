@@ -9,6 +9,7 @@ use borrow.Author.Tests.{eq-eqb, ne-eqb, lt-ltb, le-leb}
 use lib.ListN.{length, length-append, length-map}
 use Rattle.keys.specs.declared.store.Store.{Store}
 use Rattle.keys.specs.Store.{limit, storeOf}
+use Rattle.keys.specs.Place.{putAt}
 use Rattle.keys.proofs.Rising.{Rising, rising-length}
 use Rattle.keys.proofs.StoreLaws.{count-storeOf}
 use Rattle.claims.specs.declared.claim.Claim.{Claim}
@@ -21,7 +22,7 @@ use Rattle.claims.proofs.LentLaws.{replyIn-fits, makeIn-store}
 use Rattle.rule.specs.declared.delivery.Delivery.{Delivery}
 use Rattle.rule.specs.Round.{End, leftEnd, rightEnd, senderNumber, Pair, pair, Entry, waits, receiver, keysBefore, delivered, answers}
 use Rattle.rule.specs.Round.{Line, Run, run, half, roundOf, transcript, union}
-use Rattle.rule.specs.Call.{recordsIn, deliveryWords, writtenOver}
+use Rattle.rule.specs.Call.{recordsIn, deliveryWords}
 use Rattle.rule.proofs.Pair.{Rises, unionOf, rises-pair}
 use Rattle.rule.proofs.Entry.{Sound, weights, sound-limit, length-waits}
 use Rattle.rule.proofs.Deliver.{adding-within}
@@ -73,7 +74,7 @@ module _ (lent u : List ℕ) (p : Pair) (e : Entry) (q : List Entry) (done : Lis
   fits-words = omega (arith, length-append done (map noted (e ∷ q)), length-map (e ∷ q) noted, fine-length u p (e ∷ q) fine, room)
 
   -- what is read of the first record waiting
-  words-are : s .log .words ≡ writtenOver (deliveryWords (done ++ map noted (e ∷ q))) lent
+  words-are : s .log .words ≡ putAt lent 0 (deliveryWords (done ++ map noted (e ∷ q)))
   words-are = ap (λ (l : Log). l .words) (laid .log-is)
 
   sender-is : senderIn (s .log .words) (s .head) ≡ senderNumber (e .sender)
@@ -228,7 +229,7 @@ module _ (lent l r : List ℕ) (rl : Rising l) (rr : Rising r) (fits : length (u
   left-le = length-left-union l r rl rr
 
   laid-opened : Laid lent (pair l r) (opening leftEnd (pair l r)) [] (opened (storeOf l) (storeOf r) lent)
-  unfolding opened
+  unfolding opened putAt
   laid-opened =
       let w = whole-put lent [] l 0 (omega (arith, left-le)) (omega (arith, left-le)) in
       let e : map (delivery 0) (wholeClaim l) ≡ map noted (opening leftEnd (pair l r)) = sym (noted-waits leftEnd l (wholeClaim l)) in

@@ -1,19 +1,21 @@
--- Records laid out as words (specs/Core, `putRecord`, `claimIn`, against `deliveryWords` and `writtenOver` of `rule`, specs/Call): how long they are, what
+-- Records laid out as words (specs/Core, `putRecord`, `claimIn`, against `deliveryWords` of `rule`, specs/Call): how long they are, what
 -- is read at a record, and that a record put after those that are written is one record more. Assumes nothing.
 use Prim.Native.Nat.{ℕ, _+_, _*_, _≤_, _<_}
 use mathlib.Core.List.{List, [], _∷_, _++_, map, append-assoc, append-nil}
 use mathlib.Core.Path.{_≡_, sym, ap, ap₂, _∙_}
 use native.Mathlib.Omega.{arith}
 use borrow.Author.Tests.{lt-ltb}
-use lib.ListN.{length, take, drop, getD, length-append}
-use lib.Seq.{sets, sets-eq, getD-drop, take-append-seam, drop-append-add, drop-drop}
+use lib.ListN.{length, drop, getD, length-append}
+use lib.Seq.{sets, getD-drop, drop-append-add}
 use Rattle.keys.specs.Store.{limit}
+use Rattle.keys.specs.Place.{putAt}
+use Rattle.keys.proofs.PlaceLaws.{length-putAt, putAt-front, sets-putAt}
 use Rattle.claims.specs.declared.claim.Claim.{Claim}
 use Rattle.claims.specs.Words.{fromWords}
 use Rattle.claims.proofs.WordsLaws.{claimAt-small}
 use Rattle.rule.specs.declared.delivery.Delivery.{Delivery}
-use Rattle.rule.specs.Call.{recordWidth, recordWords, recordsIn, deliveryWords, writtenOver}
-use Rattle.rule.proofs.Words.{length-deliveryWords, deliveryWords-append, length-writtenOver}
+use Rattle.rule.specs.Call.{recordWidth, recordWords, recordsIn, deliveryWords}
+use Rattle.rule.proofs.Words.{length-deliveryWords, deliveryWords-append}
 use Rattle.transcript.specs.Core.{senderIn, claimIn, Log, logWith, delivery, putRecord, putRecords}
 
 -- so many words to a record
@@ -21,8 +23,8 @@ words-of : (ds : List Delivery) → length (deliveryWords ds) ≡ length ds * re
 words-of ds = omega (arith, length-deliveryWords ds)
 
 -- the words keep their number
-pub length-over : (ds : List Delivery) (lent : List ℕ) → length ds ≤ recordsIn lent → length (writtenOver (deliveryWords ds) lent) ≡ length lent
-length-over ds lent h = length-writtenOver (deliveryWords ds) lent (omega (arith, length-deliveryWords ds))
+pub length-over : (ds : List Delivery) (lent : List ℕ) → length ds ≤ recordsIn lent → length (putAt lent 0 (deliveryWords ds)) ≡ length lent
+length-over ds lent h = length-putAt lent 0 (deliveryWords ds) (omega (arith, length-deliveryWords ds))
 
 -- ---- reading the record after those in front
 
@@ -31,31 +33,31 @@ module _ (done : List Delivery) (d : Delivery) (rest : List Delivery) (lent : Li
   from : List ℕ
   from = deliveryWords (d ∷ rest) ++ drop (length (deliveryWords (done ++ (d ∷ rest)))) lent
 
-  in-front : writtenOver (deliveryWords (done ++ (d ∷ rest))) lent ≡ deliveryWords done ++ from
-  unfolding from
+  in-front : putAt lent 0 (deliveryWords (done ++ (d ∷ rest))) ≡ deliveryWords done ++ from
+  unfolding from putAt
   in-front =
       ap (λ (l : List ℕ). l ++ drop (length (deliveryWords (done ++ (d ∷ rest)))) lent) (deliveryWords-append done (d ∷ rest))
       ∙ append-assoc (deliveryWords done) (deliveryWords (d ∷ rest)) (drop (length (deliveryWords (done ++ (d ∷ rest)))) lent)
 
-  words-at : (n : ℕ) → drop (length done * recordWidth + n) (writtenOver (deliveryWords (done ++ (d ∷ rest))) lent) ≡ drop n from
+  words-at : (n : ℕ) → drop (length done * recordWidth + n) (putAt lent 0 (deliveryWords (done ++ (d ∷ rest)))) ≡ drop n from
   words-at n =
       ap (drop (length done * recordWidth + n)) in-front
       ∙ (ap (λ (k : ℕ). drop (k + n) (deliveryWords done ++ from)) (sym (words-of done)) ∙ drop-append-add (deliveryWords done) from n)
 
-  pub sender-at : senderIn (writtenOver (deliveryWords (done ++ (d ∷ rest))) lent) (length done) ≡ d .sender
+  pub sender-at : senderIn (putAt lent 0 (deliveryWords (done ++ (d ∷ rest)))) (length done) ≡ d .sender
   unfolding from
   sender-at =
-      let w : List ℕ = writtenOver (deliveryWords (done ++ (d ∷ rest))) lent in
+      let w : List ℕ = putAt lent 0 (deliveryWords (done ++ (d ∷ rest))) in
       let e : length done * recordWidth ≡ length done * recordWidth + 0 = omega arith in
       ap (λ (k : ℕ). getD w k 0) e
       ∙ (sym (getD-drop (length done * recordWidth) w 0 0)
       ∙ (ap (λ (k : ℕ). getD (drop k w) 0 0) e ∙ ap (λ (l : List ℕ). getD l 0 0) (words-at 0)))
 
   pub claim-at : length (done ++ (d ∷ rest)) ≤ recordsIn lent → d .claim .cnt ≤ limit
-      → claimIn (writtenOver (deliveryWords (done ++ (d ∷ rest))) lent) (length done) ≡ d .claim
+      → claimIn (putAt lent 0 (deliveryWords (done ++ (d ∷ rest)))) (length done) ≡ d .claim
   unfolding from
   claim-at h g =
-      let w : List ℕ = writtenOver (deliveryWords (done ++ (d ∷ rest))) lent in
+      let w : List ℕ = putAt lent 0 (deliveryWords (done ++ (d ∷ rest))) in
       let same : length w ≡ length lent = length-over (done ++ (d ∷ rest)) lent h in
       let e : fromWords (drop (length done * recordWidth + 1) w) ≡ d .claim = ap fromWords (words-at 1) in
       let small : fromWords (drop (length done * recordWidth + 1) w) .cnt < 65536 = omega (arith, ap (λ (c : Claim). c .cnt) e) in
@@ -65,25 +67,21 @@ module _ (done : List Delivery) (d : Delivery) (rest : List Delivery) (lent : Li
 
 -- the records ds, over the words `lent`
 abbrev pub logOf : List Delivery → List ℕ → Log
-logOf ds lent = logWith (writtenOver (deliveryWords ds) lent) (length ds)
+logOf ds lent = logWith (putAt lent 0 (deliveryWords ds)) (length ds)
 
 putRecord-append : (ds : List Delivery) (lent : List ℕ) (sender : ℕ) (c : Claim) → length ds < recordsIn lent
     → putRecord (logOf ds lent) sender c ≡ logOf (ds ++ (delivery sender c ∷ [])) lent
 unfolding putRecord
 putRecord-append ds lent sender c h =
     let x : List ℕ = deliveryWords ds in
-    let w : List ℕ = writtenOver x lent in
+    let w : List ℕ = putAt lent 0 x in
     let v : List ℕ = recordWords (delivery sender c) in
     let len : length x ≡ length ds * recordWidth = words-of ds in
     let same : length w ≡ length lent = length-over ds lent (omega arith) in
     let some : length ds < recordsIn w = omega arith in
-    let front : take (length x) w ≡ x = take-append-seam x (drop (length x) lent) in
-    let back : drop (length x + recordWidth) w ≡ drop (length x + recordWidth) lent =
-    drop-append-add x (drop (length x) lent) recordWidth ∙ drop-drop recordWidth (length x) lent in
     let all : deliveryWords (ds ++ (delivery sender c ∷ [])) ≡ x ++ v = deliveryWords-append ds (delivery sender c ∷ []) in
-    let long : length (x ++ v) ≡ length x + recordWidth = length-append x v in
-    let put : sets w (length ds * recordWidth) v ≡ writtenOver (deliveryWords (ds ++ (delivery sender c ∷ []))) lent =
-    rw (all, long, ← len) (sets-eq v w (length x) (omega arith) ∙ rw (front, back)) in
+    let put : sets w (length ds * recordWidth) v ≡ putAt lent 0 (deliveryWords (ds ++ (delivery sender c ∷ []))) =
+    rw all (sets-putAt w (length ds * recordWidth) v (omega arith) ∙ putAt-front lent x v (length ds * recordWidth) len (omega arith)) in
     rw (lt-ltb (length ds) (recordsIn w) some) (ap₂ logWith put (sym (length-append ds (delivery sender c ∷ []))))
 
 pub putRecords-append : (ds : List Delivery) (lent : List ℕ) (sender : ℕ) (cs : List Claim) → length ds + length cs ≤ recordsIn lent

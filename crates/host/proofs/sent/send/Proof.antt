@@ -6,10 +6,10 @@ use mathlib.Core.List.{List}
 use mathlib.Core.Path.{_≡_, ap, sym, _∙_}
 use borrow.Author.Needs.{needs}
 use lib.ListN.{length, replicate, length-replicate}
+use Rattle.keys.specs.Place.{putAt}
 use Rattle.claims.specs.Words.{claimWidth}
 use Rattle.rule.specs.Table.{beatLimit}
 use Rattle.rule.specs.Node.{nodeInOrder}
-use Rattle.rule.specs.Call.{writtenOver}
 use Rattle.rule.specs.declared.node.Node.{Node}
 use Rattle.rule.proofs.NodeLaws.{length-mapped}
 use Rattle.nodes.specs.Lent.{nodeWith}
@@ -90,8 +90,8 @@ returns c =
     record {
       size = size;
       most = rw size (length-framesSent (node b) (s .pre .ordered));
-      left = w .write-image-in .ensures .1 ∙ (sym written ∙ ap (λ (m : Node). writtenOver (nodeBytes m) (s .args .out .now)) (ran b .node));
-      sent = f .write-frames .ensures .frames ∙ ap (λ (bs : List ℕ). writtenOver bs (s .args .frames .now)) sent;
+      left = w .write-image-in .ensures .1 ∙ (sym written ∙ ap (λ (m : Node). putAt (s .args .out .now) 0 (nodeBytes m)) (ran b .node));
+      sent = f .write-frames .ensures .frames ∙ ap (λ (bs : List ℕ). putAt (s .args .frames .now) 0 bs) sent;
     }
 
 pub send-spec : {M : Type 1} → statement M
