@@ -3,17 +3,17 @@
 use mathlib.Core.Path.{_≡_, refl, sym, _∙_, ap}
 use mathlib.Core.Bool.{Bool, true, false, cond, not}
 use mathlib.Core.List.{List, [], _∷_, _++_}
-use Prim.Native.Nat.{ℕ, zero, suc, _+_, _*_, _-_, _/_, _≤_, _<_}
+use Prim.Native.Nat.{ℕ, _+_, _*_, _-_, _/_, _≤_, _<_}
 use native.Mathlib.Nat.{add-zero}
 use native.Mathlib.Numerals.{add-one}
 use native.Mathlib.Omega.{arith}
 use borrow.Author.Tests.{le-leb, lt-leb, eq-eqb, ne-eqb, not-true, not-false}
-use lib.ListN.{length, take, drop, getD, set, length-append, length-take, drop-of-length-le}
-use lib.Seq.{sets, length-sets, drop-cons, length-take-le, getD-take}
+use lib.ListN.{length, take, drop, getD, set, length-append, drop-of-length-le}
+use lib.Seq.{sets, drop-cons, length-take-le, getD-take}
 use Rattle.keys.specs.declared.store.Store.{Store}
 use Rattle.keys.specs.Store.{limit}
 use Rattle.keys.specs.Lent.{storeWith}
-use Rattle.keys.proofs.PlaceLaws.{putAt-zero, sets-putAt}
+use Rattle.keys.proofs.PlaceLaws.{putAt-nil, putAt-zero, sets-putAt}
 use Rattle.claims.specs.declared.claim.Claim.{Claim}
 use Rattle.claims.specs.declared.answer.Answer.{Answer}
 use Rattle.claims.specs.declared.answer.Made.{Made}
@@ -25,15 +25,14 @@ use Rattle.rule.specs.declared.node.Node.{Node}
 use Rattle.rule.specs.declared.answer.Beaten.{Beaten}
 use Rattle.rule.specs.Table.{tableLimit, beatLimit, remains, Served}
 use Rattle.rule.specs.Node.{blanks, nodeInOrder}
-use Rattle.rule.specs.Call.{claimWords, beaten, beatenLent}
+use Rattle.rule.specs.Call.{beaten, beatenLent}
 use Rattle.rule.proofs.TableLaws.{length-claimsOf}
 use Rattle.rule.proofs.NodeLaws.{length-blanks, drop-blanks, nodeInOrder-ordered}
-use Rattle.rule.proofs.Words.{length-claimWords}
 use Rattle.nodes.specs.Lent.{nodeWith}
 use Rattle.beats.specs.declared.beats.Kept.{Kept}
 use Rattle.beats.specs.Lent.{serveIn, wholeIn, sendingIn, wroteAt, Wrote, keptWith, ServedAt}
 use Rattle.beats.specs.Lent.{beatenWith, unbeaten, beatIn, beatInLent, BeatsIn}
-use Rattle.beats.proofs.LentLaws.{putClaim-wroteAt, wroteAt-append, length-wholeIn, length-sendingIn, length-keptIn}
+use Rattle.beats.proofs.LentLaws.{putClaim-wroteAt, wroteAt-append, length-wroteAt, length-wholeIn, length-keptIn}
 use Rattle.beats.proofs.LentLaws.{beatIn-beaten, beatInLent-beatenLent}
 
 -- ---- `write_answer`
@@ -41,7 +40,7 @@ use Rattle.beats.proofs.LentLaws.{beatIn-beaten, beatInLent-beatenLent}
 -- by what the answer is found to be
 module _ (a b : Answer) (is : a ≡ b) (at : ℕ) (lent : List ℕ) where
   pub wrote-none : claimsOf b ≡ [] → Wrote at (claimsOf a) lent at lent
-  wrote-none e = rw (is, e) (record { place = sym (add-zero at); words = refl })
+  wrote-none e = rw (is, e) (record { place = sym (add-zero at); words = sym (putAt-nil lent (claimWidth * at)) })
 
   module _ (room : claimWidth * (at + 2) ≤ length lent) where
     pub wrote-one : (c : Claim) → claimsOf b ≡ c ∷ [] → (after : List ℕ) → after ≡ putClaim lent (claimWidth * at) c → Wrote at (claimsOf a) lent (at + 1) after
@@ -51,11 +50,11 @@ module _ (a b : Answer) (is : a ≡ b) (at : ℕ) (lent : List ℕ) where
         → half ≡ putClaim lent (claimWidth * at) c → after ≡ putClaim half (claimWidth * (at + 1)) d → Wrote at (claimsOf a) lent (at + 2) after
     wrote-two c d e half after f g =
         let first : half ≡ wroteAt at (c ∷ []) lent = f ∙ putClaim-wroteAt at c lent (omega arith) in
-        let same : length half ≡ length lent = ap length first ∙ length-sets lent (claimWidth * at) (claimWords (c ∷ [])) in
+        let same : length half ≡ length lent = ap length first ∙ length-wroteAt at (c ∷ []) lent (omega arith) in
         let second : after ≡ wroteAt (at + 1) (d ∷ []) half = g ∙ putClaim-wroteAt (at + 1) d half (omega arith) in
         rw (is, e) (record {
           place = refl;
-          words = second ∙ (ap (λ (l : List ℕ). wroteAt (at + 1) (d ∷ []) l) first ∙ sym (wroteAt-append at (c ∷ []) (d ∷ []) lent));
+          words = second ∙ (ap (λ (l : List ℕ). wroteAt (at + 1) (d ∷ []) l) first ∙ sym (wroteAt-append at (c ∷ []) (d ∷ []) lent (omega arith)));
         })
 
 -- ---- `serve_table`
@@ -123,8 +122,9 @@ module _ (s : Store) (table : List Claim) (pending at : ℕ) (lent₀ : List ℕ
       on : {n′ : ℕ} {kept′ : List Claim} → n′ ≤ i + 1 → sets kept′ n′ (rest (i + 1) .kept) ≡ sets kept n (rest i .kept)
           → n′ + length (rest (i + 1) .kept) ≡ n + length (rest i .kept) → Left (i + 1) next′ lent′ n′ kept′
       on m t k =
-          let same : length lent′ ≡ length lent = ap length (wrote .words) ∙ length-sets lent (claimWidth * next) (claimWords (claimsOf a)) in
           let two : length (claimsOf a) ≤ 2 = length-claimsOf a in
+          let fits : claimWidth * (next + length (claimsOf a)) ≤ length lent = omega (arith, left .room) in
+          let same : length lent′ ≡ length lent = ap length (wrote .words) ∙ length-wroteAt next (claimsOf a) lent fits in
           let place = wrote .place in
           record {
             passed = omega arith;
@@ -132,7 +132,7 @@ module _ (s : Store) (table : List Claim) (pending at : ℕ) (lent₀ : List ℕ
             long = same ∙ left .long;
             room = omega (arith, left .room);
             words = rw (wrote .place, wrote .words)
-                (sym (wroteAt-append next (claimsOf a) (rest (i + 1) .sent) lent)
+                (sym (wroteAt-append next (claimsOf a) (rest (i + 1) .sent) lent fits)
                 ∙ (ap (λ (cs : List Claim). wroteAt next cs lent) (sym sent-is)
                 ∙ left .words));
             written = omega (arith, left .written, ap length sent-is, length-append (claimsOf a) (rest (i + 1) .sent));
@@ -164,14 +164,14 @@ module _ (s : Store) (table : List Claim) (pending at : ℕ) (lent₀ : List ℕ
         = (rw none at (left .places)) ∙ sets-blanks (rest 0 .kept) (omega (arith, length-keptIn s (take pending table), all)) in
         let count-is : n ≡ length (rest 0 .kept) = omega (arith, rw none at (left .stayed)) in
         let written-is : next ≡ at + length (rest 0 .sent) = omega (arith, rw none at (left .written)) in
-        record { result = λ j. record { number = 0; table = places j; count = count-is j; written = written-is j }; words = rw none at (left .words) }
+        record { result = λ j. record { number = 0; table = places j; count = count-is j; written = written-is j }; words = sym (putAt-nil lent (claimWidth * next)) ∙ (rw none at (left .words)) }
 
 -- ---- `write_whole`
 
 module _ (keys : List ℕ) (count : ℕ) (lent : List ℕ) where
   pub whole-none : count ≡ 0 → Wrote 0 (wholeIn (storeWith keys count)) lent 0 lent
   unfolding wholeIn
-  whole-none e = rw (eq-eqb count 0 e) (record { place = refl; words = refl })
+  whole-none e = rw (eq-eqb count 0 e) (record { place = refl; words = sym (putAt-nil lent 0) })
 
   pub whole-one : (count ≡ 0 → ⊥) → (made : Made) → made ≡ makeIn (storeWith keys count) 0 (count - 1)
       → claimWidth ≤ length lent → (after : List ℕ) → after ≡ putClaim lent 0 (made .claim) → Wrote 0 (wholeIn (storeWith keys count)) lent 1 after
@@ -205,26 +205,26 @@ module _ (keys : List ℕ) (held : ℕ) (table : List Claim) (count : ℕ) (lent
     abbrev served : Served
     served = serveIn s (take count table)
 
+    whole-fits : claimWidth * (0 + length (wholeIn s)) ≤ length lent
+    whole-fits = omega (arith, length-wholeIn s)
+
     -- there are words for the table, after the whole claim
     pub beat-room : claimWidth * (at + 2 * count) ≤ length half
     beat-room =
-        let same : length half ≡ length lent = ap length (whole .words) ∙ length-sets lent (claimWidth * 0) (claimWords (wholeIn s)) in
+        let same : length half ≡ length lent = ap length (whole .words) ∙ length-wroteAt 0 (wholeIn s) lent whole-fits in
         omega (arith, whole .place, length-wholeIn s)
-
-    fits : length (claimWords (sendingIn s (take count table))) ≤ length lent
-    fits = omega (arith, length-claimWords (sendingIn s (take count table)), length-sendingIn s (take count table), length-take count table)
 
     pub beat-done : {kept : Kept} {after : List ℕ} → ServedAt at served half kept after → BeatsIn node lent (beatenWith keys held kept) after
     unfolding beatIn beatInLent
     beat-done {kept} {after} done =
         let place : at ≡ length (wholeIn s) = omega (arith, whole .place) in
         let joined : wroteAt at (served .sent) half ≡ wroteAt 0 (sendingIn s (take count table)) lent
-        = rw (whole .place, whole .words) (sym (wroteAt-append 0 (wholeIn s) (served .sent) lent)) in
+        = rw (whole .place, whole .words) (sym (wroteAt-append 0 (wholeIn s) (served .sent) lent whole-fits)) in
         let kept-is : kept ≡ keptWith (length (wholeIn s)) served = done .result ∙ ap (λ (m : ℕ). keptWith m served) place in
         record {
           result = rw (le-leb count tableLimit h, le-leb beatLimit (length lent / claimWidth) g) (ap (beatenWith keys held) kept-is);
           words = rw (le-leb count tableLimit h, le-leb beatLimit (length lent / claimWidth) g)
-              (done .words ∙ (joined ∙ sets-putAt lent 0 (claimWords (sendingIn s (take count table))) (omega (arith, fits))));
+              (done .words ∙ joined);
         }
 
 -- ---- `beat`

@@ -1,18 +1,17 @@
 -- What the beat of a node whose keys are lent means (specs/Lent): of any content, what a refusal leaves; of a node in order, the rule (Table and Call of
--- `rule`). In order: claims in lent words; how many claims are sent and kept; the table served by a store in order; the beat. Assumes nothing.
+-- `rule`). In order: claims in lent words; how many claims are made and kept; the table served by a store in order; the beat. Assumes nothing.
 use mathlib.Core.Path.{_≡_, refl, sym, _∙_, ap, ap₂}
 use mathlib.Core.Bool.{Bool, true, false, cond}
 use mathlib.Core.List.{List, [], _∷_, _++_, List·Memᴰ, List·Memᴰ·head, List·Memᴰ·tail}
 use Prim.Native.Nat.{ℕ, suc, _+_, _*_, _-_, _/_, _≤_}
-use native.Mathlib.Nat.{add-zero}
 use native.Mathlib.Omega.{arith}
 use borrow.Author.Tests.{le-leb, lt-ltb, ne-eqb}
 use lib.Dec.{leb, eqb}
-use lib.ListN.{length, set, length-append}
-use lib.Seq.{sets}
+use lib.ListN.{length, length-append}
 use Rattle.keys.specs.declared.store.Store.{Store}
 use Rattle.keys.specs.Store.{limit, storeOf}
 use Rattle.keys.specs.Place.{putAt}
+use Rattle.keys.proofs.PlaceLaws.{length-putAt, putAt-append, sets-putAt}
 use Rattle.keys.proofs.Rising.{Rising}
 use Rattle.keys.proofs.StoreLaws.{inOrder-count, inOrder-rising, length-keysOf, storeOf-keysOf, count-storeOf}
 use Rattle.claims.specs.declared.claim.Claim.{Claim}
@@ -20,7 +19,7 @@ use Rattle.claims.specs.Claim.{claimOf, wholeClaim}
 use Rattle.claims.specs.Question.{firstNo, settle}
 use Rattle.claims.specs.Reply.{answer, reply, claimsOf}
 use Rattle.claims.specs.Lent.{makeIn, answerIn}
-use Rattle.claims.specs.Words.{claimWidth, putClaim}
+use Rattle.claims.specs.Words.{claimWidth, wordsOf, putClaim}
 use Rattle.claims.proofs.QuestionLaws.{passes, judged-firstNo, settle-kept}
 use Rattle.claims.proofs.ReplyLaws.{hear-held}
 use Rattle.claims.proofs.LentLaws.{makeIn-store, answerIn-store}
@@ -30,33 +29,29 @@ use Rattle.rule.specs.declared.answer.Beaten.{Beaten}
 use Rattle.rule.specs.Table.{tableLimit, beatLimit, remains, Served, serve, sending}
 use Rattle.rule.specs.Node.{blanks, pendingOf, nodeKeys, nodeOf}
 use Rattle.rule.specs.Call.{claimWords, beaten, beatenLent}
-use Rattle.rule.proofs.TableLaws.{length-claimsOf}
 use Rattle.rule.proofs.NodeLaws.{Fits, Ordered, ordered-nodeInOrder}
 use Rattle.rule.proofs.Words.{length-claimWords, claimWords-append}
 use Rattle.beats.specs.Lent.{serveIn, wholeIn, sendingIn, wroteAt, keptWith, unbeaten, beatInQuestions, beatIn, beatInLent}
 
 -- ---- claims in lent words
 
-module _ {A : Type 0} where
-  sets-append : (l : List A) (i : ℕ) (xs ys : List A) → sets l i (xs ++ ys) ≡ sets (sets l i xs) (i + length xs) ys
-  sets-append l i [] ys = ap (λ (n : ℕ). sets l n ys) (sym (add-zero i))
-  sets-append l i (x ∷ xs) ys =
-      let e : suc i + length xs ≡ i + length (x ∷ xs) = omega arith in
-      sets-append (set l i x) (suc i) xs ys ∙ ap (λ (n : ℕ). sets (sets (set l i x) (suc i) xs) n ys) e
-
 -- one claim, where there are words for it
 pub putClaim-wroteAt : (at : ℕ) (c : Claim) (lent : List ℕ) → claimWidth * (at + 1) ≤ length lent → putClaim lent (claimWidth * at) c ≡ wroteAt at (c ∷ []) lent
-putClaim-wroteAt at c lent h = putClaim-fits lent (claimWidth * at) c (omega arith)
+putClaim-wroteAt at c lent h = putClaim-fits lent (claimWidth * at) c (omega arith) ∙ sets-putAt lent (claimWidth * at) (wordsOf c) (omega arith)
 
 -- claims right after claims
-pub wroteAt-append : (at : ℕ) (cs ds : List Claim) (lent : List ℕ) → wroteAt at (cs ++ ds) lent ≡ wroteAt (at + length cs) ds (wroteAt at cs lent)
-wroteAt-append at cs ds lent =
-    let e : claimWidth * at + length (claimWords cs) ≡ claimWidth * (at + length cs) = omega (arith, length-claimWords cs) in
-    ap (λ (ws : List ℕ). sets lent (claimWidth * at) ws) (claimWords-append cs ds)
-    ∙ (sets-append lent (claimWidth * at) (claimWords cs) (claimWords ds)
-    ∙ ap (λ (n : ℕ). sets (wroteAt at cs lent) n (claimWords ds)) e)
+pub wroteAt-append : (at : ℕ) (cs ds : List Claim) (lent : List ℕ) → claimWidth * (at + length cs) ≤ length lent
+    → wroteAt at (cs ++ ds) lent ≡ wroteAt (at + length cs) ds (wroteAt at cs lent)
+wroteAt-append at cs ds lent h =
+    let e : claimWidth * (at + length cs) ≡ claimWidth * at + claimWidth * length cs = omega arith in
+    rw (claimWords-append, e)
+    (sym (putAt-append lent (claimWidth * at) (claimWords cs) (claimWords ds) (claimWidth * length cs) (length-claimWords cs) (omega arith)))
 
--- ---- how many claims are sent and kept
+-- there are as many words as before
+pub length-wroteAt : (at : ℕ) (cs : List Claim) (lent : List ℕ) → claimWidth * (at + length cs) ≤ length lent → length (wroteAt at cs lent) ≡ length lent
+length-wroteAt at cs lent h = length-putAt lent (claimWidth * at) (claimWords cs) (omega (arith, length-claimWords cs))
+
+-- ---- how many claims are made and kept
 
 -- at most one whole claim
 pub length-wholeIn : (s : Store) → length (wholeIn s) ≤ 1
@@ -66,14 +61,6 @@ length-wholeIn s = go (eqb (s .count) 0)
     go : (t : Bool) → length (cond t [] (makeIn s 0 (s .count - 1) .claim ∷ [])) ≤ 1
     go true = omega arith
     go false = omega arith
-
-length-sentIn : (s : Store) (t : List Claim) → length (serveIn s t .sent) ≤ 2 * length t
-length-sentIn s [] = omega arith
-length-sentIn s (c ∷ cs) =
-    rw (length-append (claimsOf (answerIn s c)) (serveIn s cs .sent)) (omega (arith, length-claimsOf (answerIn s c), length-sentIn s cs))
-
-pub length-sendingIn : (s : Store) (t : List Claim) → length (sendingIn s t) ≤ 1 + 2 * length t
-length-sendingIn s t = omega (arith, length-append (wholeIn s) (serveIn s t .sent), length-wholeIn s, length-sentIn s t)
 
 pub length-keptIn : (s : Store) (t : List Claim) → length (serveIn s t .kept) ≤ length t
 length-keptIn s [] = omega arith

@@ -9,7 +9,6 @@ use mathlib.Core.Bool.{cond}
 use mathlib.Core.List.{List, [], _∷_, _++_}
 use lib.Dec.{leb, eqb}
 use lib.ListN.{length}
-use lib.Seq.{sets}
 use Rattle.keys.specs.declared.store.Store.{Store}
 use Rattle.keys.specs.Place.{putAt}
 use Rattle.claims.specs.declared.claim.Claim.{Claim}
@@ -48,7 +47,7 @@ sendingIn s t = wholeIn s ++ serveIn s t .sent
 
 -- lent words once some claims are written from the place `at` on
 abbrev pub wroteAt : ℕ → List Claim → List ℕ → List ℕ
-wroteAt at cs lent = sets lent (claimWidth * at) (claimWords cs)
+wroteAt at cs lent = putAt lent (claimWidth * at) (claimWords cs)
 
 -- some claims are written from the place `at` on: `next` is the place after them, `after` the words then
 pub record Wrote (at : ℕ) (cs : List Claim) (lent : List ℕ) (next : ℕ) (after : List ℕ) : Type 0 where
