@@ -11,7 +11,7 @@ use lib.ListN.{length, length-append}
 use Rattle.keys.specs.declared.store.Store.{Store}
 use Rattle.keys.specs.Store.{limit, storeOf}
 use Rattle.keys.specs.Place.{putAt}
-use Rattle.keys.proofs.PlaceLaws.{length-putAt, putAt-append, sets-putAt}
+use Rattle.keys.proofs.PlaceLaws.{length-putAt, putAt-append}
 use Rattle.keys.proofs.Rising.{Rising}
 use Rattle.keys.proofs.StoreLaws.{inOrder-count, inOrder-rising, length-keysOf, storeOf-keysOf, count-storeOf}
 use Rattle.claims.specs.declared.claim.Claim.{Claim}
@@ -19,7 +19,7 @@ use Rattle.claims.specs.Claim.{claimOf, wholeClaim}
 use Rattle.claims.specs.Question.{firstNo, settle}
 use Rattle.claims.specs.Reply.{answer, reply, claimsOf}
 use Rattle.claims.specs.Lent.{makeIn, answerIn}
-use Rattle.claims.specs.Words.{claimWidth, wordsOf, putClaim}
+use Rattle.claims.specs.Words.{claimWidth, putClaim}
 use Rattle.claims.proofs.QuestionLaws.{passes, judged-firstNo, settle-kept}
 use Rattle.claims.proofs.ReplyLaws.{hear-held}
 use Rattle.claims.proofs.LentLaws.{makeIn-store, answerIn-store}
@@ -37,7 +37,7 @@ use Rattle.beats.specs.Lent.{serveIn, wholeIn, sendingIn, wroteAt, keptW
 
 -- one claim, where there are words for it
 pub putClaim-wroteAt : (at : ℕ) (c : Claim) (lent : List ℕ) → claimWidth * (at + 1) ≤ length lent → putClaim lent (claimWidth * at) c ≡ wroteAt at (c ∷ []) lent
-putClaim-wroteAt at c lent h = putClaim-fits lent (claimWidth * at) c (omega arith) ∙ sets-putAt lent (claimWidth * at) (wordsOf c) (omega arith)
+putClaim-wroteAt at c lent h = putClaim-fits lent (claimWidth * at) c (omega arith)
 
 -- claims right after claims
 pub wroteAt-append : (at : ℕ) (cs ds : List Claim) (lent : List ℕ) → claimWidth * (at + length cs) ≤ length lent

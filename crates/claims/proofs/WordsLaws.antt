@@ -1,6 +1,6 @@
 -- What it means to read and to write a claim in a lent run of words (specs/Words): past the words; word by word; a claim whose count has 16 bits is read
 -- from its own words. Assumes nothing.
-use mathlib.Core.Path.{_≡_, refl, _∙_, ap}
+use mathlib.Core.Path.{_≡_, refl, sym, _∙_, ap}
 use mathlib.Core.List.{List, [], _∷_}
 use Prim.Native.Nat.{ℕ, _+_, _%_, _≤_, _<_}
 use native.Mathlib.Nat.{add-zero}
@@ -8,7 +8,9 @@ use native.Mathlib.Numerals.{add-one, add-two, add-three}
 use native.Mathlib.Omega.{arith}
 use borrow.Author.Tests.{le-leb, lt-leb}
 use lib.ListN.{length, take, drop, getD, set}
-use lib.Seq.{sets, getD-drop}
+use lib.Seq.{getD-drop}
+use Rattle.keys.specs.Place.{putAt}
+use Rattle.keys.proofs.PlaceLaws.{sets-putAt}
 use Rattle.claims.specs.declared.claim.Claim.{Claim}
 use Rattle.claims.specs.Claim.{noClaim}
 use Rattle.claims.specs.Words.{claimWidth, wordsOf, fromWords, lowCount, claimAt, putClaim}
@@ -62,11 +64,11 @@ module _ (words : List ℕ) (at : ℕ) (c : Claim) where
   unfolding putClaim
   putClaim-past h = rw (lt-leb (at + claimWidth) (length words) h)
 
-  pub putClaim-fits : at + claimWidth ≤ length words → putClaim words at c ≡ sets words at (wordsOf c)
+  pub putClaim-fits : at + claimWidth ≤ length words → putClaim words at c ≡ putAt words at (wordsOf c)
   unfolding putClaim
   putClaim-fits h = rw (le-leb (at + claimWidth) (length words) h)
 
   -- word by word
   pub putClaim-set : at + claimWidth ≤ length words
       → putClaim words at c ≡ set (set (set (set words at (c .lo)) (at + 1) (c .hi)) (at + 2) (c .sum)) (at + 3) (c .cnt)
-  putClaim-set h = putClaim-fits h ∙ rw (add-one, add-two, add-three)
+  putClaim-set h = putClaim-fits h ∙ (sym (sets-putAt words at (wordsOf c) h) ∙ rw (add-one, add-two, add-three))

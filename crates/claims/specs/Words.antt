@@ -5,7 +5,7 @@ use mathlib.Core.Bool.{cond}
 use mathlib.Core.List.{List, [], _∷_}
 use lib.Dec.{leb}
 use lib.ListN.{length, drop, getD}
-use lib.Seq.{sets}
+use Rattle.keys.specs.Place.{putAt}
 use Rattle.claims.specs.declared.claim.Claim.{Claim}
 use Rattle.claims.specs.Claim.{noClaim}
 
@@ -30,4 +30,4 @@ claimAt words at = cond (leb (at + claimWidth) (length words)) (lowCount (fromWo
 
 -- `put_claim`: a claim written from the place `at` on, and nothing where there are too few words
 unfoldable pub putClaim : List ℕ → ℕ → Claim → List ℕ
-putClaim words at c = cond (leb (at + claimWidth) (length words)) (sets words at (wordsOf c)) words
+putClaim words at c = cond (leb (at + claimWidth) (length words)) (putAt words at (wordsOf c)) words

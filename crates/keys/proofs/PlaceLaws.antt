@@ -1,10 +1,9 @@
 -- Laws of specs/Place, what a lent run holds once something is written at a place of it: nothing written, one element more, a block right after a block,
--- one store after the other.
--- Assumes nothing.
+-- one element, stores one after the other; written to the beginning; over a run of one value. Assumes nothing.
 use Prim.Native.Nat.{ℕ, zero, suc, _+_, _-_, _≤_, _<_}
-use native.Mathlib.Nat.{zero-add, add-assoc, sub-zero, zero-sub, suc-sub-suc}
+use native.Mathlib.Nat.{zero-add, add-zero, add-assoc, sub-zero, zero-sub, suc-sub-suc}
 use native.Mathlib.Omega.{arith}
-use mathlib.Core.Path.{_≡_, refl, _∙_}
+use mathlib.Core.Path.{_≡_, refl, sym, _∙_}
 use mathlib.Core.List.{List, [], _∷_, _++_, append-assoc}
 use lib.ListN.{length, take, drop, getD, set, replicate, length-append, length-take, length-drop, length-set, take-append-drop}
 use lib.Seq.{sets, sets-eq, take-set-le, drop-set-lt, getD-set-same, drop-drop, drop-cons, set-at, take-at, drop-append-add}
@@ -50,6 +49,16 @@ module _ {A : Type 0} where
       let rest : drop (at + n + length ys) (take at s ++ (xs ++ drop (at + length xs) s)) ≡ drop (at + length (xs ++ ys)) s =
       rw (whole, ← long, drop-append-add, long, drop-drop, length-append, e, add-assoc) in
       rw (putAt-past s at xs, putAt-past, putAt-past, front, rest, append-assoc (take at s), append-assoc xs)
+
+  -- one element, and what stands right after it
+  pub putAt-one : (s : List A) (at : ℕ) (b : A) → at < length s → set s at b ≡ putAt s at (b ∷ [])
+  putAt-one s at b h =
+      let z : at + 0 ≡ at = add-zero at in
+      let e : putAt (set s (at + 0) b) at [] ≡ putAt s at (b ∷ []) = putAt-snoc s at [] b 0 refl (rw z h) in
+      sym (putAt-nil (set s at b) at) ∙ (rw z at e)
+
+  pub putAt-cons : (s : List A) (at : ℕ) (b : A) (bs : List A) → at < length s → putAt (set s at b) (at + 1) bs ≡ putAt s at (b ∷ bs)
+  putAt-cons s at b bs h = rw putAt-one (putAt-append s at (b ∷ []) bs 1 refl (omega arith))
 
   -- stores one after the other
   pub sets-putAt : (s : List A) (at : ℕ) (bs : List A) → at + length bs ≤ length s → sets s at bs ≡ putAt s at bs

@@ -5,9 +5,8 @@ use mathlib.Core.List.{List}
 use mathlib.Core.Path.{_≡_, ap, sym, _∙_}
 use lib.ListN.{length, set}
 use Rattle.keys.specs.Place.{putAt}
-use Rattle.keys.proofs.PlaceLaws.{putAt-snoc}
+use Rattle.keys.proofs.PlaceLaws.{putAt-snoc, putAt-one}
 use Rattle.rehearsal.specs.Decimal.{digit, decimal, digitLimit}
-use Rattle.rehearsal.proofs.PutLaws.{putAt-one}
 use Rattle.rehearsal.proofs.DecimalLaws.{decimal-digit, decimal-step, length-decimal-step, length-decimal-some}
 
 -- The rest of the number has i digits. t is the buffer, and once they stand in it, it is `whole`; s is the buffer as it was lent.

@@ -10,7 +10,7 @@ use Rattle.claims.proofs.QuestionLaws.{settle-done, settle-refused}
 use Rattle.rule.specs.Round.{Line}
 use Rattle.rule.specs.Call.{roundBy, deliveryWords, recordWidth, recordsIn}
 use Rattle.keys.specs.Place.{putAt}
-use Rattle.keys.proofs.PlaceLaws.{length-putAt, putAt-nil, putAt-zero, putAt-append}
+use Rattle.keys.proofs.PlaceLaws.{length-putAt, putAt-nil, putAt-zero, putAt-append, putAt-one}
 use Rattle.rehearsal.specs.declared.answer.Rehearsed.{Rehearsed}
 use Rattle.rehearsal.specs.Rehearsal.{firstBytes, secondBytes, storeIn, rehearseNumber, rehearsed, Rehearsal, roundWords}
 use Rattle.rehearsal.specs.Put.{Put}
@@ -18,7 +18,7 @@ use Rattle.rehearsal.specs.Decimal.{decimal, digitLimit}
 use Rattle.rehearsal.specs.Text.{field, labelled, lineFeed, leftWord, rightWord, claimsWord, refusedWord, letter, lines, lastLine, refusedLine}
 use Rattle.rehearsal.specs.Text.{report, lentRecords, deliveriesOf, printed, fourAt, rowAt, rows, fieldLimit, lineLimit, lastLimit, textLimit}
 use Rattle.rehearsal.proofs.RehearsalLaws.{rehearsed-number, rehearsed-told, deliveries-fit, rehearsedWords-told}
-use Rattle.rehearsal.proofs.PutLaws.{putAt-one, put-one, put-then}
+use Rattle.rehearsal.proofs.PutLaws.{put-one, put-then}
 use Rattle.rehearsal.proofs.TextLaws.{rows-lines}
 
 -- ---- bytes one after another

@@ -1,21 +1,13 @@
 -- Laws of text at a place of a buffer: one character, one piece after another, and that it ends within the buffer. Assumes nothing.
 use Prim.Native.Nat.{ℕ, _+_, _≤_, _<_}
-use native.Mathlib.Nat.{add-zero}
 use native.Mathlib.Omega.{arith}
 use mathlib.Core.List.{List, [], _∷_, _++_}
-use mathlib.Core.Path.{_≡_, refl, sym, _∙_}
+use mathlib.Core.Path.{refl, _∙_}
 use lib.ListN.{length, set, length-append}
-use Rattle.keys.specs.Place.{putAt}
-use Rattle.keys.proofs.PlaceLaws.{length-putAt, putAt-nil, putAt-snoc, putAt-append}
+use Rattle.keys.proofs.PlaceLaws.{length-putAt, putAt-append, putAt-one}
 use Rattle.rehearsal.specs.Put.{Put}
 
 -- ---- one character
-
-pub putAt-one : (s : List ℕ) (at b : ℕ) → at < length s → set s at b ≡ putAt s at (b ∷ [])
-putAt-one s at b h =
-    let z : at + 0 ≡ at = add-zero at in
-    let e : putAt (set s (at + 0) b) at [] ≡ putAt s at (b ∷ []) = putAt-snoc s at [] b 0 refl (rw z h) in
-    sym (putAt-nil (set s at b) at) ∙ (rw z at e)
 
 pub put-one : (s : List ℕ) (at b : ℕ) → at < length s → Put s at (b ∷ []) 1 (at + 1) (set s at b)
 put-one s at b h = record { end-is = refl; end-by = omega arith; after-is = putAt-one s at b h }

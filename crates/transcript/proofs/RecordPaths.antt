@@ -2,16 +2,16 @@
 use Prim.Native.Nat.{ℕ, _+_, _*_, _≤_, _<_}
 use mathlib.Core.List.{List}
 use mathlib.Core.Path.{_≡_, sym, ap, _∙_}
-use native.Mathlib.Numerals.{add-one}
 use native.Mathlib.Omega.{arith}
 use borrow.Author.Tests.{lt-ltb, le-ltb}
 use lib.ListN.{length, set, length-set}
+use Rattle.keys.proofs.PlaceLaws.{putAt-cons}
 use Rattle.claims.specs.declared.answer.Answer.{Answer}
 use Rattle.claims.specs.declared.answer.Answer.the-variants.{Refused, Match, Ask, One, Two}
 use Rattle.claims.specs.declared.claim.Claim.{Claim}
 use Rattle.claims.specs.Claim.{noClaim}
 use Rattle.claims.specs.Reply.{claimsOf}
-use Rattle.claims.specs.Words.{claimWidth, putClaim}
+use Rattle.claims.specs.Words.{claimWidth, wordsOf, putClaim}
 use Rattle.claims.proofs.WordsLaws.{claimAt-past, putClaim-fits}
 use Rattle.rule.specs.Call.{recordWidth, recordsIn}
 use Rattle.transcript.specs.Core.{claimIn, Log, logWith, putRecord, putRecords}
@@ -32,7 +32,7 @@ module _ (words : List ℕ) (at : ℕ) where
         let base : ℕ = at * recordWidth in
         let room : base + 1 + claimWidth ≤ length (set words base sender) = omega (arith, length-set words base sender) in
         rw (lt-ltb at (recordsIn words) h)
-        (ap (λ (ws : List ℕ). logWith ws (at + 1)) (e ∙ (putClaim-fits (set words base sender) (base + 1) c room ∙ rw add-one)))
+        (ap (λ (ws : List ℕ). logWith ws (at + 1)) (e ∙ (putClaim-fits (set words base sender) (base + 1) c room ∙ putAt-cons words base sender (wordsOf c) (omega arith))))
 
     pub put-past : recordsIn words ≤ at → logWith words at ≡ putRecord (logWith words at) sender c
     unfolding putRecord

@@ -8,8 +8,9 @@ use native.Mathlib.Omega.{arith}
 use borrow.Author.Tests.{lt-ltb, le-ltb, ltb-true}
 use lib.Dec.{ltb, eqb}
 use lib.ListN.{length}
-use lib.Seq.{sets, length-sets}
 use Rattle.keys.specs.declared.store.Store.{Store}
+use Rattle.keys.specs.Place.{putAt}
+use Rattle.keys.proofs.PlaceLaws.{length-putAt}
 use Rattle.claims.specs.declared.claim.Claim.{Claim}
 use Rattle.claims.specs.Reply.{claimsOf}
 use Rattle.claims.specs.Lent.{makeIn, replyIn}
@@ -23,15 +24,17 @@ module _ (log : Log) (sender : ℕ) where
   module _ (c : Claim) where
     -- the log with the record
     more : Log
-    more = logWith (sets (log .words) (log .tail * recordWidth) (recordWords (delivery sender c))) (log .tail + 1)
+    more = logWith (putAt (log .words) (log .tail * recordWidth) (recordWords (delivery sender c))) (log .tail + 1)
 
     length-putRecord : length (putRecord log sender c .words) ≡ length (log .words)
     unfolding putRecord more
-    length-putRecord = go (ltb (log .tail) (recordsIn (log .words)))
+    length-putRecord = go (ltb (log .tail) (recordsIn (log .words))) refl
       where
-        go : (t : Bool) → length (cond t more log .words) ≡ length (log .words)
-        go true = length-sets (log .words) (log .tail * recordWidth) (recordWords (delivery sender c))
-        go false = refl
+        go : (t : Bool) → ltb (log .tail) (recordsIn (log .words)) ≡ t → length (cond t more log .words) ≡ length (log .words)
+        go true e =
+            let g : log .tail < recordsIn (log .words) = ltb-true (log .tail) (recordsIn (log .words)) e in
+            length-putAt (log .words) (log .tail * recordWidth) (recordWords (delivery sender c)) (omega arith)
+        go false e = refl
 
     tail-putRecord : log .tail ≤ recordsIn (log .words) → putRecord log sender c .tail ≤ recordsIn (log .words)
     unfolding putRecord more

@@ -6,10 +6,10 @@ use mathlib.Core.Path.{_≡_, sym, ap, ap₂, _∙_}
 use native.Mathlib.Omega.{arith}
 use borrow.Author.Tests.{lt-ltb}
 use lib.ListN.{length, drop, getD, length-append}
-use lib.Seq.{sets, getD-drop, drop-append-add}
+use lib.Seq.{getD-drop, drop-append-add}
 use Rattle.keys.specs.Store.{limit}
 use Rattle.keys.specs.Place.{putAt}
-use Rattle.keys.proofs.PlaceLaws.{length-putAt, putAt-front, sets-putAt}
+use Rattle.keys.proofs.PlaceLaws.{length-putAt, putAt-front}
 use Rattle.claims.specs.declared.claim.Claim.{Claim}
 use Rattle.claims.specs.Words.{fromWords}
 use Rattle.claims.proofs.WordsLaws.{claimAt-small}
@@ -80,8 +80,8 @@ putRecord-append ds lent sender c h =
     let same : length w ≡ length lent = length-over ds lent (omega arith) in
     let some : length ds < recordsIn w = omega arith in
     let all : deliveryWords (ds ++ (delivery sender c ∷ [])) ≡ x ++ v = deliveryWords-append ds (delivery sender c ∷ []) in
-    let put : sets w (length ds * recordWidth) v ≡ putAt lent 0 (deliveryWords (ds ++ (delivery sender c ∷ []))) =
-    rw all (sets-putAt w (length ds * recordWidth) v (omega arith) ∙ putAt-front lent x v (length ds * recordWidth) len (omega arith)) in
+    let put : putAt w (length ds * recordWidth) v ≡ putAt lent 0 (deliveryWords (ds ++ (delivery sender c ∷ []))) =
+    rw all (putAt-front lent x v (length ds * recordWidth) len (omega arith)) in
     rw (lt-ltb (length ds) (recordsIn w) some) (ap₂ logWith put (sym (length-append ds (delivery sender c ∷ []))))
 
 pub putRecords-append : (ds : List Delivery) (lent : List ℕ) (sender : ℕ) (cs : List Claim) → length ds + length cs ≤ recordsIn lent

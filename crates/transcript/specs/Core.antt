@@ -9,9 +9,9 @@ use mathlib.Core.Bool.{cond}
 use mathlib.Core.List.{List, [], _∷_}
 use lib.Dec.{ltb, eqb}
 use lib.ListN.{getD}
-use lib.Seq.{sets}
 use Rattle.keys.specs.declared.store.Store.{Store}
 use Rattle.keys.specs.Store.{keysOf}
+use Rattle.keys.specs.Place.{putAt}
 use Rattle.keys.specs.Lent.{orderedIn, storeWith}
 use Rattle.claims.specs.declared.answer.Replied.{Replied}
 use Rattle.claims.specs.declared.claim.Claim.{Claim}
@@ -52,7 +52,7 @@ delivery sender c = record { sender = sender; claim = c }
 unfoldable pub putRecord : Log → ℕ → Claim → Log
 putRecord log sender c =
     cond (ltb (log .tail) (recordsIn (log .words)))
-    (logWith (sets (log .words) (log .tail * recordWidth) (recordWords (delivery sender c))) (log .tail + 1))
+    (logWith (putAt (log .words) (log .tail * recordWidth) (recordWords (delivery sender c))) (log .tail + 1))
     log
 
 -- several claims of one sender
