@@ -5,7 +5,7 @@ use Prim.Native.Nat.{ℕ, _+_, _-_, _≤_, _<_}
 use mathlib.Core.Bool.{Bool, true, false, cond, _&&_}
 use mathlib.Core.List.{List, [], _∷_, _++_}
 use mathlib.Core.Logic.{_⊎_, inl, inr, ⊎-elim}
-use mathlib.Core.Path.{_≡_, refl, sym, _∙_}
+use mathlib.Core.Path.{_≡_, refl, sym, ap, _∙_}
 use native.Mathlib.Omega.{arith}
 use borrow.Author.Tests.{leb-true, le-leb, eqb-true, eq-eqb, ne-eqb}
 use lib.Bits.{bitXor}
@@ -68,6 +68,15 @@ settle-done n done refused e = rw (eq-eqb n 0 e)
 
 pub settle-refused : {A : Type 0} (n : ℕ) (done : A) (refused : ℕ → A) → (n ≡ 0 → ⊥) → settle n done refused ≡ refused n
 settle-refused n done refused f = rw (ne-eqb n 0 f)
+
+-- the number that a call returns is that of the first question answered no
+pub settle-number : {A : Type 0} (number : A → ℕ) (n : ℕ) (done : A) (refused : ℕ → A) → number done ≡ 0 → ((k : ℕ) → number (refused k) ≡ k)
+    → number (settle n done refused) ≡ n
+settle-number number n done refused d r = go (eq-or-ne n 0)
+  where
+    go : (n ≡ 0) ⊎ (n ≡ 0 → ⊥) → number (settle n done refused) ≡ n
+    go (inl e) = ap number (settle-done n done refused e) ∙ (d ∙ sym e)
+    go (inr f) = ap number (settle-refused n done refused f) ∙ r n
 
 -- The law of all calls on a lent run that refuse by number: where `done` has the number 0, and a refusal keeps what was given, a number other than 0
 -- means that what was given is kept.

@@ -30,8 +30,8 @@ use Rattle.wire.specs.declared.answer.Imaged.{Imaged}
 use Rattle.wire.specs.Run.{claim}
 use Rattle.wire.specs.Frame.{frameLimit, headSize, frameCount, frameClaims, allPass, readFrameQuestions, readFrame}
 use Rattle.wire.specs.Image.{imageLimit, nodeBytes, readImageQuestions, readImage}
-use Rattle.wire.proofs.FrameLaws.{head-yes, sized-yes, take-fourOf, readFrame-number, readFrame-yes, readFrame-0}
-use Rattle.wire.proofs.ImageLaws.{readImage-number, readImage-yes, readImage-0}
+use Rattle.wire.proofs.FrameLaws.{frame-numbered, head-yes, sized-yes, take-fourOf, readFrame-number, readFrame-yes, readFrame-0}
+use Rattle.wire.proofs.ImageLaws.{image-numbered, readImage-number, readImage-yes, readImage-0}
 use Rattle.wire.proofs.RunLaws.{length-readRun}
 use Rattle.host.specs.Taking.{questions6, takenUntil}
 use Rattle.host.specs.Frames.{framesLimit}
@@ -69,12 +69,6 @@ readFrame-accepted frame e h =
     })
 
 -- ---- every question has a number
-
-pub image-numbered : (image : List ℕ) → Numbered (readImageQuestions image)
-image-numbered image = (lit< tt, (lit< tt, tt))
-
-pub frame-numbered : (frame : List ℕ) → Numbered (readFrameQuestions frame)
-frame-numbered frame = (lit< tt, (lit< tt, (lit< tt, (lit< tt, tt))))
 
 -- 6 for each claim of the frame
 abbrev pub sixes : List ℕ → List ℕ → List Question

@@ -14,7 +14,7 @@ use Rattle.keys.proofs.PlaceLaws.{putAt-zero, take-front}
 use Rattle.keys.proofs.StoreLaws.{inOrder-rising}
 use Rattle.claims.specs.declared.claim.Claim.{Claim}
 use Rattle.claims.specs.Question.{Question, firstNo, settle, question6}
-use Rattle.claims.proofs.QuestionLaws.{firstNo-append-zero, firstNo-append-no, settle-done, settle-refused}
+use Rattle.claims.proofs.QuestionLaws.{firstNo-front, firstNo-rest, settle-done, settle-refused}
 use Rattle.rule.specs.declared.node.Node.{Node}
 use Rattle.rule.specs.Table.{sending}
 use Rattle.rule.specs.Node.{nodeKeys, pendingOf}
@@ -28,9 +28,9 @@ use Rattle.wire.specs.Frame.{headSize, frameCount, frameClaims, frameBytes, fou
 use Rattle.wire.specs.Image.{imageLimit, nodeBytes, readImageQuestions, readImage, imageLength}
 use Rattle.wire.proofs.NumberLaws.{below-drop}
 use Rattle.wire.proofs.RunLaws.{each-mem, mem-each, claim-faithful, readRun-fits}
-use Rattle.wire.proofs.FrameLaws.{readFrame-yes}
+use Rattle.wire.proofs.FrameLaws.{frame-numbered, readFrame-yes}
 use Rattle.wire.proofs.FrameTrips.{frame-accepted}
-use Rattle.wire.proofs.ImageLaws.{readImage-number}
+use Rattle.wire.proofs.ImageLaws.{image-numbered, readImage-number}
 use Rattle.wire.proofs.ImageTrips.{image-accepted, image-length-is-told}
 use Rattle.host.specs.Frames.{fours, inFrames, framesBytes, framesLimit}
 use Rattle.host.specs.Call.{minus, nodeIn, savingQuestions, saved, savedOut, takingQuestions, nodeAfter, frameTaken, frameTakenOut}
@@ -40,7 +40,7 @@ use Rattle.host.proofs.Turns.{ordered-takenInTurn}
 use Rattle.host.proofs.Grouping.{flatten-fours, fours-mem}
 use Rattle.host.proofs.Passing.{allPass-mem, sending-spanned, spanned-passes}
 use Rattle.host.proofs.Entering.{fits-six, ordered-entered}
-use Rattle.host.proofs.Answers.{sixes, image-numbered, frame-numbered, readImage-ordered}
+use Rattle.host.proofs.Answers.{sixes, readImage-ordered}
 use Rattle.host.proofs.Fitting.{Narrow, narrow-fits, narrow-read, narrow-takenInTurn, narrow-served, narrow-entered, sending-fits}
 
 -- ---- a call that returned a length was not refused
@@ -56,11 +56,6 @@ module _ (k m n : ℕ) (e : settle k (pos m) minus ≡ pos n) where
 
   is-length : m ≡ n
   is-length = let p : pos m ≡ pos n = sym (settle-done k (pos m) minus was-done) ∙ e in cc
-
--- none of the first questions was answered no
-firstNo-front : (a b : List Question) → firstNo (a ++ b) ≡ 0 → firstNo a ≡ 0
-firstNo-front a b z =
-    ⊎-elim {C = firstNo a ≡ 0} (λ (y : firstNo a ≡ 0). y) (λ (f : firstNo a ≡ 0 → ⊥). absurd (f (sym (firstNo-append-no a b f) ∙ z))) (eq-or-ne (firstNo a) 0)
 
 -- ---- the image of a node in order whose numbers fit is read as that node
 
@@ -85,7 +80,7 @@ module _ (image : List ℕ) (b : List Question) (z : firstNo (readImageQuestions
   read = readImage-number image ∙ firstNo-front (readImageQuestions image) b z
 
   behind : firstNo b ≡ 0
-  behind = sym (firstNo-append-zero (readImageQuestions image) b (image-numbered image) (firstNo-front (readImageQuestions image) b z)) ∙ z
+  behind = firstNo-rest (readImageQuestions image) b (image-numbered image) z
 
   ordered : Ordered (nodeIn image)
   ordered = nodeInOrder-ordered (nodeIn image) (readImage-ordered image read)
@@ -110,8 +105,7 @@ taken-image-is-read image frame out n below under = saved-is-read (takingQuestio
         let b = readFrameQuestions frame ++ sixes image frame in
         let y : firstNo b ≡ 0 = behind image b z in
         let framed : firstNo (readFrameQuestions frame) ≡ 0 = firstNo-front (readFrameQuestions frame) (sixes image frame) y in
-        let room : firstNo (sixes image frame) ≡ 0 =
-        sym (firstNo-append-zero (readFrameQuestions frame) (sixes image frame) (frame-numbered frame) framed) ∙ y in (
+        let room : firstNo (sixes image frame) ≡ 0 = firstNo-rest (readFrameQuestions frame) (sixes image frame) (frame-numbered frame) y in (
           ordered-takenInTurn (nodeIn image) (frameClaims frame) (ordered image b z) (readFrame-yes frame framed .1) room,
           narrow-takenInTurn (nodeIn image) (frameClaims frame) (narrow image b z below)
               (readRun-fits claim-faithful (frameCount frame) (drop headSize frame) (below-drop headSize frame under)),

@@ -1,6 +1,6 @@
 -- The claims of a frame taken in turn, by a node in order: one turn of the code, after which it is in order and its run of keys has all its places; then its
 -- number is that of the first question 6 answered no, and its node the one that took all; that one is in order. Assumes nothing.
-use Prim.Native.Nat.{ℕ, zero, suc, _+_, _≤_, _<_}
+use Prim.Native.Nat.{ℕ, _+_, _≤_, _<_}
 use native.Mathlib.Omega.{arith}
 use native.Mathlib.Numerals.{add-one}
 use mathlib.Core.Bool.{Bool, true, false, cond}

@@ -2,16 +2,16 @@
 use Prim.Native.Nat.{ℕ, _≤_}
 use native.Mathlib.Omega.{arith}
 use mathlib.Core.List.{List, _++_}
-use mathlib.Core.Path.{_≡_, refl, sym, _∙_}
+use mathlib.Core.Path.{_≡_, refl}
 use lib.Dec.{lit<}
 use lib.ListN.{length}
 use Rattle.keys.specs.declared.store.Store.{Store}
-use Rattle.claims.specs.Question.{Question, firstNo}
-use Rattle.claims.proofs.QuestionLaws.{Numbered, firstNo-zero, firstNo-append-zero, settle-done, settle-refused}
+use Rattle.claims.specs.Question.{firstNo}
+use Rattle.claims.proofs.QuestionLaws.{firstNo-zero, firstNo-rest, settle-done, settle-refused, settle-number}
 use Rattle.rule.specs.Call.{roundQuestions, roundBy, recordsIn}
 use Rattle.rule.proofs.CallLaws.{roundQuestions-yes, roundYes-rounded}
 use Rattle.wire.specs.Image.{frontQuestion14, readImageQuestions}
-use Rattle.wire.proofs.QuestionLaws.{settle-number, firstNo-front}
+use Rattle.wire.proofs.ImageLaws.{image-numbered}
 use Rattle.rehearsal.specs.declared.answer.Rehearsed.{Rehearsed}
 use Rattle.rehearsal.specs.Rehearsal.{firstBytes, secondBytes, storeIn, questionsAfter, noRehearsal, roundTold, roundWords}
 use Rattle.rehearsal.specs.Rehearsal.{toldBy, wordsBy, rehearseNumber, rehearsed, rehearsedWords}
@@ -38,16 +38,6 @@ module _ (left right : Store) where
   pub wordsBy-refused : (lent : List ℕ) {n : ℕ} → (n ≡ 0 → ⊥) → wordsBy n left right lent ≡ lent
   unfolding wordsBy
   wordsBy-refused lent {n} f = settle-refused n (roundWords left right lent) (λ k. lent) f
-
--- ---- questions behind others
-
--- the questions of an image have numbers
-pub image-numbered : (bs : List ℕ) → Numbered (readImageQuestions bs)
-image-numbered bs = (lit< tt, (lit< tt, tt))
-
--- where all are answered yes, so are the later ones
-firstNo-rest : (a b : List Question) → Numbered a → firstNo (a ++ b) ≡ 0 → firstNo b ≡ 0
-firstNo-rest a b n h = sym (firstNo-append-zero a b n (firstNo-front a b h)) ∙ h
 
 -- ---- where no question is answered no
 

@@ -13,7 +13,7 @@ use Rattle.keys.specs.declared.store.Store.{Store}
 use Rattle.keys.proofs.StoreLaws.{count-storeOf}
 use Rattle.keys.proofs.Tests.{and-right}
 use Rattle.claims.specs.Question.{Question, firstNo}
-use Rattle.claims.proofs.QuestionLaws.{Numbered, firstNo-zero, firstNo-append-zero, firstNo-append-no, settle-done}
+use Rattle.claims.proofs.QuestionLaws.{Numbered, firstNo-zero, firstNo-append-zero, firstNo-append-no, settle-done, settle-number}
 use Rattle.rule.specs.declared.answer.Met.{Met}
 use Rattle.rule.specs.Call.{roundQuestions, roundBy, met, metWords, recordsIn}
 use Rattle.rule.proofs.CallLaws.{met-done, metWords-done, metWords-refused}
@@ -21,12 +21,11 @@ use Rattle.wire.specs.declared.answer.Imaged.{Imaged}
 use Rattle.wire.specs.declared.answer.Length.{Length}
 use Rattle.wire.specs.Length.{noLength}
 use Rattle.wire.specs.Image.{sections, countsFit, toldLength, frontQuestion14, readImageQuestions, readImage, imageLength}
-use Rattle.wire.proofs.ImageLaws.{readImage-number}
-use Rattle.wire.proofs.QuestionLaws.{settle-number}
+use Rattle.wire.proofs.ImageLaws.{image-numbered, readImage-number}
 use Rattle.rehearsal.specs.declared.answer.Rehearsed.{Rehearsed}
 use Rattle.rehearsal.specs.Rehearsal.{firstBytes, secondBytes, storeIn, questionsAfter, noRehearsal, roundTold}
 use Rattle.rehearsal.specs.Rehearsal.{rehearseNumber, rehearsed, rehearsedWords, Rehearsal, numberAfter, AfterFirst}
-use Rattle.rehearsal.proofs.RehearsalLaws.{image-numbered, toldBy-done, toldBy-refused, wordsBy-done, wordsBy-refused}
+use Rattle.rehearsal.proofs.RehearsalLaws.{toldBy-done, toldBy-refused, wordsBy-done, wordsBy-refused}
 
 -- ---- the number n of some questions, where others stand behind them
 

@@ -1,10 +1,9 @@
 -- Laws of specs/Frame: what each question's yes tells, what the calls return once 10 to 13, or 12, 13 and 15, are answered, and the claims with zeros
 -- past them. Not here: the ways of the code (FramePaths) and the round trips (FrameTrips). Assumes nothing.
 use Prim.Native.Nat.{ℕ, _-_, _≤_}
-use native.Mathlib.Omega.{arith}
 use mathlib.Core.Bool.{true}
-use mathlib.Core.List.{List, [], _∷_, _++_}
-use mathlib.Core.Path.{_≡_, refl, ap, sym, _∙_}
+use mathlib.Core.List.{List, [], _∷_}
+use mathlib.Core.Path.{_≡_, refl, sym}
 use borrow.Author.Tests.{le-leb, leb-true, eqb-true, eq-eqb}
 use lib.Dec.{leb, eqb, lit<}
 use lib.ListN.{length, take, getD}
@@ -13,7 +12,7 @@ use Rattle.keys.proofs.Tests.{and-left, and-right}
 use Rattle.claims.specs.declared.claim.Claim.{Claim}
 use Rattle.claims.specs.Claim.{noClaim}
 use Rattle.claims.specs.Question.{firstNo}
-use Rattle.claims.proofs.QuestionLaws.{firstNo-zero, settle-done}
+use Rattle.claims.proofs.QuestionLaws.{Numbered, firstNo-zero, firstNo-front, settle-done, settle-number}
 use Rattle.rule.specs.Node.{blanks}
 use Rattle.rule.specs.Question.{question15}
 use Rattle.keys.specs.Place.{putAt}
@@ -26,13 +25,16 @@ use Rattle.wire.specs.Frame.{mark, version, frameLimit, versionPlace, he
 use Rattle.wire.specs.Frame.{begins, marked, question10, question11, countable, sized, question12n, question12, allPass, question13, fourOf}
 use Rattle.wire.specs.Frame.{headQuestions}
 use Rattle.wire.specs.Frame.{readFrameQuestions, noFrame, readFrame, writeFrameQuestions, writeFrame, frameLent}
-use Rattle.wire.proofs.QuestionLaws.{settle-number, firstNo-front}
 
 -- the sizes that document 01 names
 pub frame-sizes : (claimSize ≡ 26) × (frameMost ≡ 108)
 frame-sizes = (refl, refl)
 
 -- ---- the questions of a frame
+
+-- they have numbers
+pub frame-numbered : (bs : List ℕ) → Numbered (readFrameQuestions bs)
+frame-numbered bs = (lit< tt, (lit< tt, (lit< tt, (lit< tt, tt))))
 
 pub marked-long : (bs : List ℕ) → marked bs ≡ true → headSize ≤ length bs
 unfolding marked

@@ -1,7 +1,7 @@
 -- Laws of specs/Image: what a count tells, what the calls return once 14 and 1, or 1 and 15, are answered, and the length of a node's image.
 -- Not here: the ways of the code (ImagePaths) and the round trips (ImageTrips). Assumes nothing.
 use Prim.Native.Nat.{ℕ, _+_, _≤_, _<_}
-use mathlib.Core.Bool.{Bool, true, false}
+use mathlib.Core.Bool.{true, false}
 use mathlib.Core.List.{List, [], _∷_}
 use mathlib.Core.Path.{_≡_, refl, sym, _∙_}
 use borrow.Author.Tests.{le-leb, lt-leb, leb-true, eqb-true, eq-eqb}
@@ -12,7 +12,7 @@ use Rattle.keys.specs.Store.{limit}
 use Rattle.keys.proofs.StoreLaws.{inOrder-count}
 use Rattle.keys.proofs.Tests.{and-left, and-right}
 use Rattle.claims.specs.Question.{firstNo}
-use Rattle.claims.proofs.QuestionLaws.{firstNo-zero}
+use Rattle.claims.proofs.QuestionLaws.{Numbered, firstNo-zero, settle-number}
 use Rattle.rule.specs.declared.node.Node.{Node}
 use Rattle.rule.specs.Table.{tableLimit}
 use Rattle.rule.specs.Node.{nodeInOrder, nodeKeys, pendingOf}
@@ -31,11 +31,14 @@ use Rattle.wire.specs.Image.{writeImageQuestions, writeImage, imageLent}
 use Rattle.wire.specs.Sizes.{AsTold}
 use Rattle.wire.proofs.NumberLaws.{length-bytes}
 use Rattle.wire.proofs.RunLaws.{length-writeRun, key-faithful, claim-faithful}
-use Rattle.wire.proofs.QuestionLaws.{settle-number}
 
 -- the size that document 01 names
 pub image-size : imageLimit ≡ 9860
 image-size = refl
+
+-- its questions have numbers
+pub image-numbered : (bs : List ℕ) → Numbered (readImageQuestions bs)
+image-numbered bs = (lit< tt, (lit< tt, tt))
 
 -- ---- a count
 

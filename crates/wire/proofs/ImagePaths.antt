@@ -26,13 +26,13 @@ use Rattle.wire.specs.Number.{bytes, numberAt}
 use Rattle.wire.specs.Claim.{keyWidth, countWidth, claimSize}
 use Rattle.wire.specs.Run.{key, claim, readRun, writeRun}
 use Rattle.wire.specs.Length.{noLength}
-use Rattle.wire.specs.Image.{keySection, claimSection, sections, sectionLength, imageBytes, nodeBytes, Shaped, countOf, behind, countFits}
+use Rattle.wire.specs.Image.{keySection, sections, sectionLength, imageBytes, nodeBytes, Shaped, countOf, behind, countFits}
 use Rattle.wire.specs.Image.{countsFit, toldLength}
-use Rattle.wire.specs.Image.{parse, nodeFrom, imageLength, writeImage, imageLent}
+use Rattle.wire.specs.Image.{parse, imageLength, writeImage, imageLent}
 use Rattle.wire.specs.Sizes.{partOf, sizesOf, AsTold, Readable, HasRoom}
 use Rattle.wire.specs.Lent.{noRest, readIn, readInLent, withinLimits, writeImageIn, imageInLent}
 use Rattle.wire.proofs.NumberLaws.{length-bytes, numberAt-drop}
-use Rattle.wire.proofs.RunLaws.{length-readRun, length-writeRun, key-faithful, claim-faithful}
+use Rattle.wire.proofs.RunLaws.{length-readRun, length-writeRun, key-faithful}
 use Rattle.wire.proofs.ImageLaws.{countFits-missing, countFits-high, countFits-of, whole-told, length-nodeKeys, length-pending, length-nodeBytes}
 use Rattle.wire.proofs.SizesLaws.{partOf-no, partOf-yes, partOf-fits, partOf-count, sizesOf-no, sizesOf-yes, sizesOf-fits, told-room}
 use Rattle.wire.proofs.LentLaws.{withinLimits-yes, writeImageIn-0, writeImageIn-writeImage, imageInLent-imageLent}

@@ -11,7 +11,7 @@ use Rattle.keys.specs.declared.store.Store.{Store}
 use Rattle.keys.specs.Store.{limit, zeros, storeOf, emptyStore}
 use Rattle.keys.proofs.Tests.{and-left, and-right}
 use Rattle.claims.specs.Question.{firstNo}
-use Rattle.claims.proofs.QuestionLaws.{firstNo-zero, settle-refused}
+use Rattle.claims.proofs.QuestionLaws.{firstNo-zero, settle-refused, settle-number}
 use Rattle.rule.specs.declared.node.Node.{Node}
 use Rattle.rule.specs.declared.answer.Rest.{Rest}
 use Rattle.rule.specs.Table.{tableLimit}
@@ -25,7 +25,6 @@ use Rattle.wire.specs.Run.{key, claim}
 use Rattle.wire.specs.Sizes.{AsTold}
 use Rattle.wire.specs.Image.{nodeBytes, keySection, sections, countOf, behind, countsFit, toldLength, parse, nodeFrom, question14, noImage, readImage, writeImage, imageLent}
 use Rattle.wire.specs.Lent.{restOf, noRest, readIn, readInLent, withinLimits, writeImageIn, imageInLent}
-use Rattle.wire.proofs.QuestionLaws.{settle-number}
 use Rattle.wire.proofs.RunLaws.{length-readRun}
 use Rattle.wire.proofs.ImageLaws.{ordered-counts}
 use Rattle.wire.proofs.SizesLaws.{told-room}

@@ -3,7 +3,6 @@
 --   NumberLaws    numbers in bytes, over the width
 --   ClaimLaws     a claim in bytes
 --   RunLaws       keys or claims, one after the other
---   QuestionLaws  what a call returns by its questions, beyond those of `claims`
 --   FrameLaws     questions 10 to 13, and what the two calls return
 --   FramePaths    the ways of src/frame.rt
 --   FrameTrips    the round trips of frames
@@ -17,7 +16,6 @@
 pub mod NumberLaws
 pub mod ClaimLaws
 pub mod RunLaws
-pub mod QuestionLaws
 pub mod FrameLaws
 pub mod FramePaths
 pub mod FrameTrips

@@ -2,7 +2,7 @@
 use Prim.Native.Nat.{_≤_, _-_}
 use mathlib.Core.Path.{_≡_, sym}
 use borrow.Author.Needs.{needs}
-use lib.ListN.{length, drop, length-set}
+use lib.ListN.{length, drop}
 use Rattle.keys.specs.Place.{putAt}
 use Rattle.keys.proofs.PlaceLaws.{putAt-nil}
 use Rattle.wire.specs.Run.{key, readRun}

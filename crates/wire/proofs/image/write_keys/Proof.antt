@@ -1,6 +1,6 @@
 -- `image::write_keys` meets its contract. The invariant: the keys passed stand at the place. Assumes nothing.
 use Prim.Native.Nat.{_≤_, _-_}
-use mathlib.Core.Path.{_≡_, sym, _∙_}
+use mathlib.Core.Path.{_≡_, sym}
 use borrow.Author.Needs.{needs}
 use lib.ListN.{length, take}
 use Rattle.keys.specs.Place.{putAt}
