@@ -11,9 +11,9 @@ use lib.ListN.{length, length-append}
 use Rattle.keys.specs.declared.store.Store.{Store}
 use Rattle.keys.specs.Store.{limit, storeOf}
 use Rattle.keys.specs.Place.{putAt}
-use Rattle.keys.proofs.PlaceLaws.{length-putAt, putAt-append}
 use Rattle.keys.proofs.Rising.{Rising}
 use Rattle.keys.proofs.StoreLaws.{inOrder-count, inOrder-rising, length-keysOf, storeOf-keysOf, count-storeOf}
+use Rattle.keys.proofs.PlaceLaws.{length-putAt, putAt-append}
 use Rattle.claims.specs.declared.claim.Claim.{Claim}
 use Rattle.claims.specs.Claim.{claimOf, wholeClaim}
 use Rattle.claims.specs.Question.{firstNo, settle}

@@ -9,8 +9,8 @@ use borrow.Author.Tests.{le-leb}
 use lib.ListN.{length, drop}
 use Rattle.keys.specs.Store.{limit}
 use Rattle.keys.specs.Place.{putAt}
-use Rattle.keys.proofs.PlaceLaws.{length-putAt, putAt-zero}
 use Rattle.keys.proofs.StoreLaws.{inOrder-rising, inOrder-count, length-keysOf}
+use Rattle.keys.proofs.PlaceLaws.{length-putAt, putAt-zero}
 use Rattle.claims.specs.declared.claim.Claim.{Claim}
 use Rattle.claims.specs.Question.{firstNo}
 use Rattle.claims.specs.Words.{claimWidth}

@@ -11,7 +11,9 @@ use lib.Dec.{eqb}
 use lib.ListN.{length, take, drop, getD, set, length-append, length-drop, length-take, drop-of-length-le}
 use lib.Seq.{drop-drop, take-all}
 use Rattle.keys.specs.Store.{limit}
+use Rattle.keys.specs.Place.{putAt}
 use Rattle.keys.proofs.Tests.{and-left, and-right}
+use Rattle.keys.proofs.PlaceLaws.{length-putAt, putAt-nil, putAt-zero, putAt-append}
 use Rattle.claims.specs.declared.claim.Claim.{Claim}
 use Rattle.claims.specs.Claim.{noClaim}
 use Rattle.claims.specs.Call.{judged}
@@ -20,9 +22,7 @@ use Rattle.claims.specs.Words.{claimWidth, fromWords, claimAt}
 use Rattle.claims.proofs.QuestionLaws.{passes, judged-firstNo}
 use Rattle.claims.proofs.WordsLaws.{claimAt-small}
 use Rattle.rule.specs.Node.{blanks}
-use Rattle.keys.specs.Place.{putAt}
 use Rattle.rule.proofs.NodeLaws.{length-blanks}
-use Rattle.keys.proofs.PlaceLaws.{length-putAt, putAt-nil, putAt-zero, putAt-append}
 use Rattle.wire.specs.declared.answer.Length.{Length}
 use Rattle.wire.specs.Frame.{frameLimit, frameLength, frameBytes, countable, allPass, writeFrameQuestions, writeFrame, frameLent}
 use Rattle.wire.specs.Run.{readRun}

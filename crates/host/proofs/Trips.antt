@@ -10,8 +10,8 @@ use lib.IntN.{pos}
 use lib.ListN.{length, take, drop}
 use lib.Seq.{take-append-seam}
 use Rattle.keys.proofs.Tests.{eq-or-ne}
-use Rattle.keys.proofs.PlaceLaws.{putAt-zero, take-front}
 use Rattle.keys.proofs.StoreLaws.{inOrder-rising}
+use Rattle.keys.proofs.PlaceLaws.{putAt-zero, take-front}
 use Rattle.claims.specs.declared.claim.Claim.{Claim}
 use Rattle.claims.specs.Question.{Question, firstNo, settle, question6}
 use Rattle.claims.proofs.QuestionLaws.{firstNo-front, firstNo-rest, settle-done, settle-refused}

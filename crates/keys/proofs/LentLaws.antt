@@ -216,10 +216,6 @@ module _ (l : List ℕ) (rise : Rising l) (k : ℕ) where
 -- ---- two keys added, the lesser one first
 
 module _ (l : List ℕ) (rise : Rising l) (lo hi : ℕ) (h : lo < hi) where
-  -- the keys with the lesser one
-  lower : List ℕ
-  lower = insert lo l
-
   pub lower-rise : Rising (insert lo l)
   lower-rise = insert-rising lo l rise
 

@@ -13,9 +13,9 @@ use lib.Seq.{length-take-le, take-suc, drop-cons, split-at, append-snoc, set-at,
 use Rattle.keys.specs.declared.store.Store.{Store}
 use Rattle.keys.specs.Store.{limit, inOrder, keysOf, storeOf}
 use Rattle.keys.specs.Place.{putAt}
-use Rattle.keys.proofs.PlaceLaws.{putAt-zero}
 use Rattle.keys.proofs.StoreLaws.{inOrder-rising}
 use Rattle.keys.proofs.Tests.{eq-or-ne}
+use Rattle.keys.proofs.PlaceLaws.{putAt-zero}
 use Rattle.claims.specs.declared.claim.Claim.{Claim}
 use Rattle.claims.specs.Question.{firstNo, settle}
 use Rattle.rule.specs.declared.delivery.Delivery.{Delivery}

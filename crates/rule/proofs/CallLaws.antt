@@ -2,7 +2,7 @@
 -- taking, a beat and a round: carried out; refused; of taking and a round before that, what it says that every question was answered yes. Then: a taken
 -- node and a beaten one are in order; what a round returns is in order, its count is at most twice the keys of the union, and nothing waits at its end.
 -- Assumes nothing.
-use Prim.Native.Nat.{ℕ, _+_, _*_, _/_, _≤_, _<_}
+use Prim.Native.Nat.{ℕ, _+_, _*_, _≤_, _<_}
 use mathlib.Core.Bool.{true}
 use mathlib.Core.List.{List, [], _∷_, _++_, List·Memᴰ}
 use mathlib.Core.Logic.{⊎-elim}

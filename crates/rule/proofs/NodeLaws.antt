@@ -15,6 +15,7 @@ use Rattle.keys.specs.Store.{limit, storeOf, inOrder, holds}
 use Rattle.keys.proofs.Tests.{and-left, and-right, and-both}
 use Rattle.keys.proofs.Rising.{Rising, Sub, sub-trans, holds-mem, mem-holds}
 use Rattle.keys.proofs.StoreLaws.{keysOf-storeOf, storeOf-keysOf, inOrder-storeOf, emptyStore-storeOf}
+use Rattle.keys.proofs.PlaceLaws.{drop-replicate}
 use Rattle.claims.specs.declared.claim.Claim.{Claim}
 use Rattle.claims.specs.Reply.{ends, same}
 use Rattle.claims.specs.Call.{judged}
@@ -23,7 +24,6 @@ use Rattle.claims.proofs.ClaimLaws.{same-claim}
 use Rattle.rule.specs.declared.node.Node.{Node}
 use Rattle.rule.specs.Table.{tableLimit, climbs}
 use Rattle.rule.specs.Node.{blanks, pendingOf, nodeKeys, nodeOf, emptyNode, holdsAll, allFit, allUnused, nodeInOrder}
-use Rattle.keys.proofs.PlaceLaws.{drop-replicate}
 
 -- ---- keys held, and claims that fit
 

@@ -1,6 +1,6 @@
 -- Claims and records as words: `claimWords` and `deliveryWords` of Call. In order: how many words; joins; parts; records written to
 -- the beginning of a lent run; a round's records and its words are one and the same. Assumes nothing.
-use Prim.Native.Nat.{ℕ, _*_, _≤_}
+use Prim.Native.Nat.{ℕ, _*_}
 use mathlib.Core.List.{List, [], _∷_, _++_}
 use mathlib.Core.Logic.{⊎-elim}
 use mathlib.Core.Path.{_≡_, refl, sym, ap, _∙_}

@@ -11,8 +11,8 @@ use lib.Dec.{ltb, eqb}
 use lib.ListN.{getD}
 use Rattle.keys.specs.declared.store.Store.{Store}
 use Rattle.keys.specs.Store.{keysOf}
-use Rattle.keys.specs.Place.{putAt}
 use Rattle.keys.specs.Lent.{orderedIn, storeWith}
+use Rattle.keys.specs.Place.{putAt}
 use Rattle.claims.specs.declared.answer.Replied.{Replied}
 use Rattle.claims.specs.declared.claim.Claim.{Claim}
 use Rattle.claims.specs.Reply.{claimsOf}

@@ -2,9 +2,9 @@
 use mathlib.Core.List.{map}
 use mathlib.Core.Path.{_≡_, refl}
 use Rattle.keys.specs.Store.{zeros, storeOf, emptyStore, inOrder}
+use Rattle.keys.specs.Place.{putAt}
 use Rattle.claims.specs.Call.{judged}
 use Rattle.rule.specs.Node.{blanks, nodeOf, emptyNode, nodeInOrder}
-use Rattle.keys.specs.Place.{putAt}
 use Rattle.wire.specs.Number.{number, bytes}
 use Rattle.wire.specs.Claim.{claimBytes, claimFrom}
 use Rattle.wire.specs.Frame.{headBytes, frameBytes, marked, countable, sized, readFrame, writeFrame, frameLent}

@@ -6,9 +6,9 @@ use mathlib.Core.List.{List, _++_, append-assoc}
 use lib.Dec.{lit≤}
 use lib.ListN.{length, take, drop, length-append}
 use lib.Seq.{drop-drop, take-add}
-use Rattle.claims.specs.declared.claim.Claim.{Claim}
 use Rattle.keys.specs.Place.{putAt}
 use Rattle.keys.proofs.PlaceLaws.{putAt-append}
+use Rattle.claims.specs.declared.claim.Claim.{Claim}
 use Rattle.wire.specs.Number.{byte, bytes, numberAt, Below}
 use Rattle.wire.specs.Claim.{keyWidth, countWidth, claimSize, claimBytes, claimFrom, ClaimFits}
 use Rattle.wire.proofs.NumberLaws.{length-bytes, numberAt-drop, numberAt-skip, numberAt-bytes, bytes-numberAt, numberAt-below}

@@ -8,15 +8,15 @@ use borrow.Author.Tests.{le-leb, leb-true, eqb-true, eq-eqb}
 use lib.Dec.{leb, eqb, lit<}
 use lib.ListN.{length, take, getD}
 use lib.Seq.{take-at}
+use Rattle.keys.specs.Place.{putAt}
 use Rattle.keys.proofs.Tests.{and-left, and-right}
+use Rattle.keys.proofs.PlaceLaws.{putAt-replicate}
 use Rattle.claims.specs.declared.claim.Claim.{Claim}
 use Rattle.claims.specs.Claim.{noClaim}
 use Rattle.claims.specs.Question.{firstNo}
 use Rattle.claims.proofs.QuestionLaws.{Numbered, firstNo-zero, firstNo-front, settle-done, settle-number}
 use Rattle.rule.specs.Node.{blanks}
 use Rattle.rule.specs.Question.{question15}
-use Rattle.keys.specs.Place.{putAt}
-use Rattle.keys.proofs.PlaceLaws.{putAt-replicate}
 use Rattle.wire.specs.declared.answer.Framed.{Framed}
 use Rattle.wire.specs.declared.answer.Length.{Length}
 use Rattle.wire.specs.Claim.{claimSize}

@@ -10,11 +10,11 @@ use borrow.Author.Tests.{le-leb, eqb-true, eq-eqb}
 use lib.Dec.{leb, eqb}
 use lib.ListN.{length, take, drop, getD}
 use lib.Seq.{take-all, length-take-le}
+use Rattle.keys.specs.Place.{putAt}
 use Rattle.keys.proofs.Tests.{and-left, and-right}
+use Rattle.keys.proofs.PlaceLaws.{take-front}
 use Rattle.claims.specs.declared.claim.Claim.{Claim}
 use Rattle.claims.specs.Question.{firstNo}
-use Rattle.keys.specs.Place.{putAt}
-use Rattle.keys.proofs.PlaceLaws.{take-front}
 use Rattle.wire.specs.Number.{byte, Below}
 use Rattle.wire.specs.Claim.{claimSize, ClaimFits}
 use Rattle.wire.specs.Run.{claim, readRun, writeRun, Each}

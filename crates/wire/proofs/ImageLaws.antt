@@ -9,6 +9,7 @@ use lib.Dec.{leb, eqb, lit<}
 use lib.ListN.{length, length-append}
 use lib.Seq.{length-take-le}
 use Rattle.keys.specs.Store.{limit}
+use Rattle.keys.specs.Place.{putAt}
 use Rattle.keys.proofs.StoreLaws.{inOrder-count}
 use Rattle.keys.proofs.Tests.{and-left, and-right}
 use Rattle.claims.specs.Question.{firstNo}
@@ -17,7 +18,6 @@ use Rattle.rule.specs.declared.node.Node.{Node}
 use Rattle.rule.specs.Table.{tableLimit}
 use Rattle.rule.specs.Node.{nodeInOrder, nodeKeys, pendingOf}
 use Rattle.rule.specs.Question.{nodeQuestion1, question15}
-use Rattle.keys.specs.Place.{putAt}
 use Rattle.rule.proofs.NodeLaws.{nodeInOrder-ordered}
 use Rattle.wire.specs.declared.answer.Length.{Length}
 use Rattle.wire.specs.declared.answer.Imaged.{Imaged}

@@ -10,14 +10,14 @@ use borrow.Author.Tests.{not-true, not-false, le-leb, lt-leb, ne-eqb}
 use lib.ListN.{length, take, drop, replicate, length-append, length-drop}
 use lib.Seq.{drop-drop}
 use Rattle.keys.specs.Store.{limit, storeOf}
+use Rattle.keys.specs.Place.{putAt}
+use Rattle.keys.proofs.PlaceLaws.{putAt-front, putAt-replicate}
 use Rattle.claims.specs.declared.claim.Claim.{Claim}
 use Rattle.claims.specs.Claim.{noClaim}
 use Rattle.rule.specs.declared.node.Node.{Node}
 use Rattle.rule.specs.declared.answer.Rest.{Rest}
 use Rattle.rule.specs.Table.{tableLimit}
 use Rattle.rule.specs.Node.{blanks, nodeOf, nodeInOrder}
-use Rattle.keys.specs.Place.{putAt}
-use Rattle.keys.proofs.PlaceLaws.{putAt-front, putAt-replicate}
 use Rattle.nodes.specs.Lent.{nodeWith}
 use Rattle.wire.specs.declared.answer.Length.{Length}
 use Rattle.wire.specs.declared.image.Part.{Part}

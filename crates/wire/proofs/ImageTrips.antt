@@ -9,14 +9,14 @@ use mathlib.Core.Path.{_≡_, refl, ap, sym, _∙_, subst}
 use borrow.Author.Tests.{le-leb}
 use lib.ListN.{length, take, length-append, length-drop, drop-of-length-le}
 use Rattle.keys.specs.Store.{limit}
+use Rattle.keys.specs.Place.{putAt}
+use Rattle.keys.proofs.PlaceLaws.{take-front}
 use Rattle.claims.specs.declared.claim.Claim.{Claim}
 use Rattle.claims.specs.Reply.{same}
 use Rattle.rule.specs.declared.node.Node.{Node}
 use Rattle.rule.specs.Table.{tableLimit}
 use Rattle.rule.specs.Node.{nodeKeys, pendingOf, nodeInOrder}
-use Rattle.keys.specs.Place.{putAt}
 use Rattle.rule.proofs.NodeLaws.{nodeInOrder-ordered, nodeOf-same, nodeKeys-nodeOf, pendingOf-nodeOf}
-use Rattle.keys.proofs.PlaceLaws.{take-front}
 use Rattle.wire.specs.Number.{byte, Below}
 use Rattle.wire.specs.Claim.{keyWidth, countWidth, ClaimFits}
 use Rattle.wire.specs.Run.{key, claim, Each}

@@ -9,15 +9,15 @@ use lib.Dec.{leb, eqb, lit<}
 use lib.ListN.{length, take, drop, replicate}
 use Rattle.keys.specs.declared.store.Store.{Store}
 use Rattle.keys.specs.Store.{limit, zeros, storeOf, emptyStore}
+use Rattle.keys.specs.Place.{putAt}
 use Rattle.keys.proofs.Tests.{and-left, and-right}
+use Rattle.keys.proofs.PlaceLaws.{putAt-replicate}
 use Rattle.claims.specs.Question.{firstNo}
 use Rattle.claims.proofs.QuestionLaws.{firstNo-zero, settle-refused, settle-number}
 use Rattle.rule.specs.declared.node.Node.{Node}
 use Rattle.rule.specs.declared.answer.Rest.{Rest}
 use Rattle.rule.specs.Table.{tableLimit}
 use Rattle.rule.specs.Node.{nodeKeys, pendingOf, nodeOf, nodeInOrder}
-use Rattle.keys.specs.Place.{putAt}
-use Rattle.keys.proofs.PlaceLaws.{putAt-replicate}
 use Rattle.rule.proofs.NodeLaws.{nodeKeys-nodeOf, pendingOf-nodeOf}
 use Rattle.nodes.specs.Lent.{nodeWith, frontIn}
 use Rattle.wire.specs.Claim.{countWidth}

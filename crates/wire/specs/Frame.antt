@@ -5,12 +5,12 @@ use mathlib.Core.Bool.{Bool, true, false, _&&_}
 use mathlib.Core.List.{List, [], _∷_, _++_}
 use lib.Dec.{leb, eqb}
 use lib.ListN.{length, take, drop, getD}
+use Rattle.keys.specs.Place.{putAt}
 use Rattle.claims.specs.declared.claim.Claim.{Claim}
 use Rattle.claims.specs.Question.{Question, question, firstNo, settle}
 use Rattle.claims.specs.Call.{judged}
 use Rattle.rule.specs.Node.{blanks}
 use Rattle.rule.specs.Question.{question15}
-use Rattle.keys.specs.Place.{putAt}
 use Rattle.wire.specs.declared.answer.Framed.{Framed}
 use Rattle.wire.specs.declared.answer.Length.{Length}
 use Rattle.wire.specs.Length.{noLength}

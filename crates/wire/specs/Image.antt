@@ -7,13 +7,13 @@ use mathlib.Core.Path.{_≡_}
 use lib.Dec.{leb, eqb}
 use lib.ListN.{length, drop}
 use Rattle.keys.specs.Store.{limit}
+use Rattle.keys.specs.Place.{putAt}
 use Rattle.claims.specs.declared.claim.Claim.{Claim}
 use Rattle.claims.specs.Question.{Question, question, firstNo, settle}
 use Rattle.rule.specs.declared.node.Node.{Node}
 use Rattle.rule.specs.Table.{tableLimit}
 use Rattle.rule.specs.Node.{nodeKeys, pendingOf, nodeOf, emptyNode}
 use Rattle.rule.specs.Question.{nodeQuestion1, question15}
-use Rattle.keys.specs.Place.{putAt}
 use Rattle.wire.specs.declared.answer.Imaged.{Imaged}
 use Rattle.wire.specs.declared.answer.Length.{Length}
 use Rattle.wire.specs.Number.{byte, bytes, numberAt}

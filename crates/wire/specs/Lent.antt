@@ -7,13 +7,13 @@ use mathlib.Core.List.{List, [], _∷_}
 use lib.Dec.{leb, eqb}
 use lib.ListN.{length}
 use Rattle.keys.specs.Store.{limit}
+use Rattle.keys.specs.Place.{putAt}
 use Rattle.claims.specs.Question.{Question, question, firstNo, settle}
 use Rattle.rule.specs.declared.node.Node.{Node}
 use Rattle.rule.specs.declared.answer.Rest.{Rest}
 use Rattle.rule.specs.Table.{tableLimit}
 use Rattle.rule.specs.Node.{blanks}
 use Rattle.rule.specs.Question.{question15}
-use Rattle.keys.specs.Place.{putAt}
 use Rattle.wire.specs.declared.answer.Length.{Length}
 use Rattle.wire.specs.Length.{noLength}
 use Rattle.wire.specs.Image.{parse, nodeFrom, question14, nodeBytes}

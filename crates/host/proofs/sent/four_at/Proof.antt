@@ -4,10 +4,10 @@ use native.Mathlib.Omega.{arith}
 use mathlib.Core.Path.{_≡_, sym, _∙_}
 use borrow.Author.Needs.{needs}
 use lib.ListN.{drop}
-use Rattle.claims.specs.Words.{claimWidth}
-use Rattle.rule.specs.Node.{blanks}
 use Rattle.keys.specs.Place.{putAt}
 use Rattle.keys.proofs.PlaceLaws.{putAt-nil}
+use Rattle.claims.specs.Words.{claimWidth}
+use Rattle.rule.specs.Node.{blanks}
 use Rattle.wire.specs.Frame.{frameLimit}
 use Rattle.wire.specs.Run.{readRun}
 use Rattle.wire.proofs.FrameLaws.{blanks-four, putAt-four}

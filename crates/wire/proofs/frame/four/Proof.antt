@@ -3,10 +3,10 @@ use Prim.Native.Nat.{_≤_, _-_}
 use mathlib.Core.Path.{_≡_, sym, _∙_}
 use borrow.Author.Needs.{needs}
 use lib.ListN.{drop}
-use Rattle.rule.specs.Node.{blanks}
 use Rattle.keys.specs.Place.{putAt}
-use Rattle.rule.proofs.NodeLaws.{length-blanks}
 use Rattle.keys.proofs.PlaceLaws.{putAt-nil}
+use Rattle.rule.specs.Node.{blanks}
+use Rattle.rule.proofs.NodeLaws.{length-blanks}
 use Rattle.wire.specs.Frame.{headSize, frameLimit}
 use Rattle.wire.specs.Run.{claim, readRun}
 use Rattle.wire.proofs.RunLaws.{set-readRun}

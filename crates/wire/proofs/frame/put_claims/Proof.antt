@@ -4,10 +4,10 @@ use native.Mathlib.Omega.{arith}
 use mathlib.Core.Path.{_≡_, sym}
 use borrow.Author.Needs.{needs}
 use lib.ListN.{length, take}
-use Rattle.claims.specs.Claim.{noClaim}
 use Rattle.keys.specs.Place.{putAt}
-use Rattle.rule.proofs.NodeLaws.{length-mapped}
 use Rattle.keys.proofs.PlaceLaws.{putAt-nil}
+use Rattle.claims.specs.Claim.{noClaim}
+use Rattle.rule.proofs.NodeLaws.{length-mapped}
 use Rattle.wire.specs.Frame.{headSize, frameLimit}
 use Rattle.wire.specs.Run.{claim, writeRun}
 use Rattle.wire.proofs.RunLaws.{putAt-writeRun, end-writeRun, claim-faithful}
