@@ -43,7 +43,7 @@ fn write_answer(lent: &mut [u64], at: usize, answer: Answer) -> usize
 }
 
 // Whether a claim stays pending: only one that was asked about does.
-fn stays(answer: Answer) -> bool
+fn remains(answer: Answer) -> bool
     ensures { λ r. ⌜ r ≡ remains answer ⌝ }
 {
     match answer {
@@ -85,7 +85,7 @@ fn serve_table(
         i += 1;
         let answer = answer_in(keys, count, claim);
         written = write_answer(lent, written, answer);
-        if stays(answer) {
+        if remains(answer) {
             kept[n] = claim;
             n += 1;
         }

@@ -11,7 +11,7 @@ use crate::load::load;
 use crate::save::save;
 use crate::sent::FRAMES;
 use crate::sent::send;
-use crate::sign::refusal;
+use crate::sign::minus;
 use crate::sign::size;
 use crate::turn::taken_from;
 use keys::Store;
@@ -52,7 +52,7 @@ pub extern "C" fn minutefrost_count(image: &[u8]) -> i64
     let mut keys = [0; Store::LIMIT];
     let read = load(image, &mut keys);
     if read.number != 0 {
-        return refusal(read.number);
+        return minus(read.number);
     }
     size(read.held)
 }
@@ -68,13 +68,13 @@ pub extern "C" fn minutefrost_beat(image: &[u8], out: &mut [u8], frames: &mut [u
     let mut keys = [0; Store::LIMIT];
     let read = load(image, &mut keys);
     if read.number != 0 {
-        return refusal(read.number);
+        return minus(read.number);
     }
     if out.len() < Imaged::LENGTH {
-        return refusal(15);
+        return minus(15);
     }
     if frames.len() < FRAMES {
-        return refusal(15);
+        return minus(15);
     }
     let table = read.table;
     size(send(&keys, read.held, table, read.count, out, frames))

@@ -1,5 +1,5 @@
 // The end of a call that writes one image.
-use crate::sign::refusal;
+use crate::sign::minus;
 use crate::sign::size;
 use rule::Rest;
 use wire::Imaged;
@@ -12,10 +12,10 @@ pub(crate) fn save(keys: &[u64], node: Rest, out: &mut [u8]) -> i64
     ensures { λ r. ⌜ Saved (now (keys .entry)) node (now (out .entry)) (now (out .exit)) r ⌝ }
 {
     if node.number != 0 {
-        return refusal(node.number);
+        return minus(node.number);
     }
     if out.len() < Imaged::LENGTH {
-        return refusal(15);
+        return minus(15);
     }
     let table = node.table;
     let written = write_image_in(keys, node.held, table, node.count, out);

@@ -6,7 +6,7 @@ ghost use Rattle.wire.specs.Image.{imageLimit};
 ghost use Rattle.host.specs.Call.{minus};
 
 // Minus the number of a question answered no.
-pub(crate) fn refusal(number: u8) -> i64
+pub(crate) fn minus(number: u8) -> i64
     ensures { λ r. ⌜ r ≡ minus number ⌝ }
 {
     -(number as i64)

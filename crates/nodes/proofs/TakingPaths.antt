@@ -30,7 +30,7 @@ use Rattle.rule.proofs.NodeLaws.{nodeInOrder-ordered}
 use Rattle.nodes.specs.Lent.{halvedTo, placeAmong, isAt, placedAt, tableIn, nodeWith, placedIn, Enlisted, takenWith, takeIn}
 use Rattle.nodes.proofs.LentLaws.{takeIn-taken}
 
--- ---- `find`: halving
+-- ---- `place_among`: halving
 
 module _ (t : List Claim) (c : Claim) where
   pub halvedTo-none : (n base size : ℕ) → size ≡ 0 → halvedTo n t c base size ≡ base
@@ -70,7 +70,7 @@ pub placeAmong-take : (table : List Claim) (count : ℕ) (c : Claim) → count �
 unfolding placeAmong
 placeAmong-take table count c h = rw (length-take-le count table h)
 
--- ---- `stands`
+-- ---- `is_at`
 
 module _ (table : List Claim) (count at : ℕ) (c : Claim) (fits : count ≤ length table) where
   pub isAt-past : count ≤ at → false ≡ isAt at c (take count table)

@@ -50,7 +50,7 @@ fn fits(keys: &[u64], held: usize, claim: Claim) -> bool
 }
 
 // Whether the first `count` claims of a table rise strictly and each fits. None that fits is all zeros, so the first one comes after that.
-fn pends(keys: &[u64], held: usize, table: [Claim; Node::TABLE], count: usize) -> bool
+fn pending(keys: &[u64], held: usize, table: [Claim; Node::TABLE], count: usize) -> bool
     requires { ⌜ (orderedIn (now keys) held ≡ true) × (count ≤ tableLimit) ⌝ }
     ensures { λ r. ⌜ r ≡ pending (take count table) (take held (now (keys .entry))) ⌝ }
 {
@@ -71,7 +71,7 @@ fn pends(keys: &[u64], held: usize, table: [Claim; Node::TABLE], count: usize) -
 }
 
 // Whether the places of a table from the count on are zeros.
-fn unused(table: [Claim; Node::TABLE], count: usize) -> bool
+fn all_unused(table: [Claim; Node::TABLE], count: usize) -> bool
     ensures { λ r. ⌜ r ≡ allUnused (drop count table) ⌝ }
 {
     let mut i = count;
@@ -85,7 +85,7 @@ fn unused(table: [Claim; Node::TABLE], count: usize) -> bool
 }
 
 // Whether the node of these parts is in order: a whole run of keys and how many are held, a table and how many are pending.
-fn ordered_parts(keys: &[u64], held: usize, table: [Claim; Node::TABLE], count: usize) -> bool
+fn node_in_order(keys: &[u64], held: usize, table: [Claim; Node::TABLE], count: usize) -> bool
     requires { ⌜ length (now keys) ≡ limit ⌝ }
     ensures { λ r. ⌜ r ≡ nodeInOrder (nodeWith (now (keys .entry)) held table count) ⌝ }
 {
@@ -95,10 +95,10 @@ fn ordered_parts(keys: &[u64], held: usize, table: [Claim; Node::TABLE], count: 
     if Node::TABLE < count {
         return false;
     }
-    if !pends(keys, held, table, count) {
+    if !pending(keys, held, table, count) {
         return false;
     }
-    unused(table, count)
+    all_unused(table, count)
 }
 
 // Whether the node of these keys and of the first `count` claims of a table is in order. What stands past them is not looked at.
@@ -111,12 +111,12 @@ pub fn front_in(keys: &[u64], table: [Claim; Node::TABLE], count: usize) -> bool
     if !ordered_in(keys, keys.len()) {
         return false;
     }
-    pends(keys, keys.len(), table, count)
+    pending(keys, keys.len(), table, count)
 }
 
 // Whether a node is in order.
 pub fn ordered(node: Node) -> bool
     ensures { λ r. ⌜ r ≡ nodeInOrder node ⌝ }
 {
-    ordered_parts(&node.store.keys, node.store.count, node.pending, node.count)
+    node_in_order(&node.store.keys, node.store.count, node.pending, node.count)
 }

@@ -23,7 +23,7 @@ struct Listed {
 }
 
 // The place of a claim among the first `count` claims of a table, if these rise: after all that come before it.
-fn find(table: [Claim; Node::TABLE], count: usize, claim: Claim) -> usize
+fn place_among(table: [Claim; Node::TABLE], count: usize, claim: Claim) -> usize
     requires { ⌜ count ≤ tableLimit ⌝ }
     ensures { λ r. ⌜ (r ≡ placeAmong claim (take count table)) × (r ≤ count) ⌝ }
 {
@@ -43,7 +43,7 @@ fn find(table: [Claim; Node::TABLE], count: usize, claim: Claim) -> usize
 }
 
 // Whether a claim is the one at a place.
-fn stands(table: [Claim; Node::TABLE], count: usize, at: usize, claim: Claim) -> bool
+fn is_at(table: [Claim; Node::TABLE], count: usize, at: usize, claim: Claim) -> bool
     requires { ⌜ count ≤ tableLimit ⌝ }
     ensures { λ r. ⌜ r ≡ isAt at claim (take count table) ⌝ }
 {
@@ -73,7 +73,7 @@ fn enlist_at(table: [Claim; Node::TABLE], count: usize, at: usize, claim: Claim)
     requires { ⌜ (at ≤ count) × (count ≤ tableLimit) ⌝ }
     ensures { λ r. ⌜ Enlisted table (placedIn at claim (take count table)) (r .table) (r .count) ⌝ }
 {
-    if stands(table, count, at, claim) {
+    if is_at(table, count, at, claim) {
         return Listed { table, count };
     }
     if at == Node::TABLE {
@@ -93,7 +93,7 @@ fn enlist(table: [Claim; Node::TABLE], count: usize, claim: Claim) -> Listed
     ensures { λ r. ⌜ Enlisted table (tableIn claim (take count table)) (r .table) (r .count) ⌝ }
 {
     let known = capped(count, Node::TABLE);
-    let at = find(table, known, claim);
+    let at = place_among(table, known, claim);
     enlist_at(table, known, at, claim)
 }
 

@@ -43,7 +43,7 @@ fn put_labelled(out: &mut [u8], at: usize, word: &[u8], n: u64) -> usize
 }
 
 // "L or R for the sender"
-fn letter_of(sender: u64) -> u8
+fn letter(sender: u64) -> u8
     ensures { λ r. ⌜ r ≡ letter sender ⌝ }
 {
     if sender == 0 {
@@ -68,7 +68,7 @@ fn put_line(out: &mut [u8], at: usize, words: &[u64], from: usize) -> usize
     requires { ⌜ (at + lineLimit ≤ length (now out)) × (from + recordWidth ≤ length (now words)) ⌝ }
     ensures { λ r. ⌜ Put (now (out .entry)) at (rowAt (now (words .entry)) from) lineLimit r (now (out .exit)) ⌝ }
 {
-    out[at] = letter_of(words[from]);
+    out[at] = letter(words[from]);
     let end = put_four(out, at + 1, words, from + 1);
     out[end] = b'\n';
     end + 1

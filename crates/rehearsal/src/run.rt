@@ -7,7 +7,7 @@ use wire::read_image;
 ghost use mathlib.Core.Path.{_≡_};
 ghost use Rattle.rehearsal.specs.Rehearsal.{noRehearsal, Rehearsal, AfterFirst};
 
-fn refused(number: u8) -> Rehearsed
+fn no_rehearsal(number: u8) -> Rehearsed
     ensures { λ r. ⌜ r ≡ noRehearsal number ⌝ }
 {
     Rehearsed {
@@ -24,13 +24,13 @@ fn with_second(left: Store, rest: &[u8], words: &mut [u64]) -> Rehearsed
 {
     let second = read_image(rest);
     if second.number != 0 {
-        return refused(second.number);
+        return no_rehearsal(second.number);
     }
     let node = second.node;
     let right = node.store;
     let met = round_words(left, right, words);
     if met.number != 0 {
-        return refused(met.number);
+        return no_rehearsal(met.number);
     }
     Rehearsed {
         number: 0,
@@ -47,12 +47,12 @@ pub fn rehearse(input: &[u8], words: &mut [u64]) -> Rehearsed
 {
     let told = image_length(input);
     if told.number != 0 {
-        return refused(told.number);
+        return no_rehearsal(told.number);
     }
     let n = told.length;
     let first = read_image(&input[0..n]);
     if first.number != 0 {
-        return refused(first.number);
+        return no_rehearsal(first.number);
     }
     let node = first.node;
     let left = node.store;

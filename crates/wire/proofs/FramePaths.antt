@@ -28,7 +28,7 @@ use Rattle.wire.proofs.RunLaws.{length-readRun, end-readRun}
 use Rattle.wire.proofs.FrameLaws.{marked-long, countable-yes, sized-yes, head-yes, putAt-four, take-fourOf, readFrame-0, length-headBytes}
 use Rattle.wire.proofs.FrameLaws.{writable-0, writable-yes, writeFrame-0, frameLent-yes}
 
--- ---- has_mark
+-- ---- marked
 
 pub marked-short : (bs : List ℕ) → length bs < headSize → false ≡ marked bs
 unfolding marked
@@ -45,7 +45,7 @@ marked-second [] h e = absurd (let z : ⊥ = omega arith in z)
 marked-second (b ∷ []) h e = absurd (let z : ⊥ = omega arith in z)
 marked-second (b ∷ (d ∷ bs)) h e = rw (le-leb headSize (suc (suc (length bs))) h, eq-eqb b 0x4C e) (sym (and-true (eqb d 0x43)))
 
--- ---- is_countable, has_size
+-- ---- countable, sized
 
 pub countable-none : (n : ℕ) → n < 1 → false ≡ countable n
 unfolding countable
@@ -87,7 +87,7 @@ module _ (bs : List ℕ) {a : Bool} (found : a ≡ marked bs) where
       pub head-0 : not b ≡ false → 0 ≡ firstNo (headQuestions bs)
       head-0 fits = rw (← found, not-false a yes, eq-eqb (getD bs versionPlace 0) version right, ← told, not-false b fits)
 
--- ---- passing: what is left to judge decides
+-- ---- all_pass: what is left to judge decides
 
 module _ (cs : List Claim) (n i : ℕ) (left : allPass (take n cs) ≡ allPass (drop i (take n cs))) where
   -- k is what `judge` says of the next claim

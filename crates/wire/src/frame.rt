@@ -27,7 +27,7 @@ const VERSION_PLACE: usize = COUNT_PLACE - 1;
 const COUNT_PLACE: usize = HEAD - 1;
 
 // Question 10: are there at least 4 bytes, the first two the mark?
-fn has_mark(bytes: &[u8]) -> bool
+fn marked(bytes: &[u8]) -> bool
     ensures { λ r. ⌜ r ≡ marked (now (bytes .entry)) ⌝ }
 {
     if bytes.len() < HEAD {
@@ -40,7 +40,7 @@ fn has_mark(bytes: &[u8]) -> bool
 }
 
 // Question 12 of n: is it from 1 to 4?
-fn is_countable(n: usize) -> bool
+fn countable(n: usize) -> bool
     ensures { λ r. ⌜ r ≡ countable n ⌝ }
 {
     if n < 1 {
@@ -50,12 +50,12 @@ fn is_countable(n: usize) -> bool
 }
 
 // Question 12: is n from 1 to 4, and the length 4 + 26n?
-fn has_size(bytes: &[u8]) -> bool
+fn sized(bytes: &[u8]) -> bool
     requires { ⌜ headSize ≤ length (now bytes) ⌝ }
     ensures { λ r. ⌜ r ≡ sized (now (bytes .entry)) ⌝ }
 {
     let n = bytes[COUNT_PLACE] as usize;
-    if !is_countable(n) {
+    if !countable(n) {
         return false;
     }
     bytes.len() == HEAD + claim::SIZE * n
@@ -65,20 +65,20 @@ fn has_size(bytes: &[u8]) -> bool
 fn heading(bytes: &[u8]) -> u8
     ensures { λ r. ⌜ r ≡ firstNo (headQuestions (now (bytes .entry))) ⌝ }
 {
-    if !has_mark(bytes) {
+    if !marked(bytes) {
         return 10;
     }
     if bytes[VERSION_PLACE] != VERSION {
         return 11;
     }
-    if !has_size(bytes) {
+    if !sized(bytes) {
         return 12;
     }
     0
 }
 
 // Question 13, of the first n of four claims.
-fn passing(claims: [Claim; Framed::CLAIMS], n: usize) -> bool
+fn all_pass(claims: [Claim; Framed::CLAIMS], n: usize) -> bool
     requires { ⌜ n ≤ frameLimit ⌝ }
     ensures { λ r. ⌜ r ≡ allPass (take n claims) ⌝ }
 {
@@ -106,7 +106,7 @@ fn four(bytes: &[u8], n: usize) -> [Claim; Framed::CLAIMS]
     claims
 }
 
-fn refused(number: u8) -> Framed
+fn no_frame(number: u8) -> Framed
     ensures { λ r. ⌜ r ≡ noFrame number ⌝ }
 {
     Framed {
@@ -123,8 +123,8 @@ fn contents(bytes: &[u8]) -> Framed
 {
     let n = bytes[COUNT_PLACE] as usize;
     let claims = four(bytes, n);
-    if !passing(claims, n) {
-        return refused(13);
+    if !all_pass(claims, n) {
+        return no_frame(13);
     }
     Framed {
         number: 0,
@@ -139,7 +139,7 @@ pub fn read_frame(bytes: &[u8]) -> Framed
 {
     let number = heading(bytes);
     if number != 0 {
-        return refused(number);
+        return no_frame(number);
     }
     contents(bytes)
 }
@@ -148,10 +148,10 @@ pub fn read_frame(bytes: &[u8]) -> Framed
 fn writable(claims: [Claim; Framed::CLAIMS], n: usize, room: usize) -> u8
     ensures { λ r. ⌜ r ≡ firstNo (writeFrameQuestions claims n room) ⌝ }
 {
-    if !is_countable(n) {
+    if !countable(n) {
         return 12;
     }
-    if !passing(claims, n) {
+    if !all_pass(claims, n) {
         return 13;
     }
     if room < HEAD + claim::SIZE * n {

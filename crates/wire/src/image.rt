@@ -169,7 +169,7 @@ fn write_claims(out: &mut [u8], at: usize, claims: [Claim; Node::TABLE], n: usiz
 }
 
 // What is read of an image that was refused, beside the keys: nothing.
-fn unread(number: u8) -> Rest
+fn no_rest(number: u8) -> Rest
     ensures { λ r. ⌜ r ≡ noRest number ⌝ }
 {
     let table = no_claims();
@@ -204,10 +204,10 @@ pub fn read_image_in(bytes: &[u8], keys: &mut [u64; Store::LIMIT]) -> Rest
 {
     let sizes = sizes_of(bytes);
     if !sizes.fits {
-        return unread(14);
+        return no_rest(14);
     }
     if bytes.len() != sizes.length {
-        return unread(14);
+        return no_rest(14);
     }
     contents(bytes, sizes.keys, sizes.pending, keys)
 }
@@ -225,7 +225,7 @@ fn empty_node() -> Node
     }
 }
 
-fn refused(number: u8) -> Imaged
+fn no_image(number: u8) -> Imaged
     ensures { λ r. ⌜ r ≡ noImage number ⌝ }
 {
     Imaged {
@@ -241,13 +241,13 @@ pub fn read_image(bytes: &[u8]) -> Imaged
     let mut store = Store::empty();
     let read = read_image_in(bytes, &mut store.keys);
     if read.number != 0 {
-        return refused(read.number);
+        return no_image(read.number);
     }
     let pending = read.table;
     let held = read.held;
     let places = &store.keys[..];
     if !front_in(&places[..held], pending, read.count) {
-        return refused(1);
+        return no_image(1);
     }
     store.count = held;
     Imaged {

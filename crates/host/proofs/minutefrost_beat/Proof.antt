@@ -18,27 +18,27 @@ load-requires : tie.Need-load-requires
 unfolding zeros
 load-requires c κs = refl
 
-refusal-requires : tie.Need-refusal-requires
-refusal-requires c κs = search needs
+minus-requires : tie.Need-minus-requires
+minus-requires c κs = search needs
 
 returns : tie.Need-returns
-returns c = let l = c .before .before .before in beaten-image _ _ _ (l .load .ensures) (search needs) (c .before .if1 .taken) (c .refusal .ensures)
+returns c = let l = c .before .before .before in beaten-image _ _ _ (l .load .ensures) (search needs) (c .before .if1 .taken) (c .minus .ensures)
 
-refusal-requires-2 : tie.Need-refusal-requires-2
-refusal-requires-2 c κs = search needs
+minus-requires-2 : tie.Need-minus-requires-2
+minus-requires-2 c κs = search needs
 
 returns-2 : tie.Need-returns-2
 returns-2 c =
     let e = c .before .before in
-    beaten-out _ _ _ (e .before .before .load .ensures) (e .if1 .left) (c .before .if2 .taken) (c .refusal2 .ensures)
+    beaten-out _ _ _ (e .before .before .load .ensures) (e .if1 .left) (c .before .if2 .taken) (c .minus2 .ensures)
 
-refusal-requires-3 : tie.Need-refusal-requires-3
-refusal-requires-3 c κs = search needs
+minus-requires-3 : tie.Need-minus-requires-3
+minus-requires-3 c κs = search needs
 
 returns-3 : tie.Need-returns-3
 returns-3 c =
     let e = c .before .before .before in
-    beaten-frames _ _ _ (e .before .before .load .ensures) (e .if1 .left) (search needs) (c .before .if3 .taken) (c .refusal3 .ensures)
+    beaten-frames _ _ _ (e .before .before .load .ensures) (e .if1 .left) (search needs) (c .before .if3 .taken) (c .minus3 .ensures)
 
 slice-aggregate-send : tie.Need-slice-aggregate-send
 slice-aggregate-send c = search needs
@@ -71,11 +71,11 @@ minutefrost-beat-spec =
     tie.close
     (tie.spec
     load-requires
-    refusal-requires
+    minus-requires
     returns
-    refusal-requires-2
+    minus-requires-2
     returns-2
-    refusal-requires-3
+    minus-requires-3
     returns-3
     slice-aggregate-send
     send-requires

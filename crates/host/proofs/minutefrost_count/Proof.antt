@@ -10,8 +10,8 @@ load-requires : tie.Need-load-requires
 unfolding zeros
 load-requires c κs = refl
 
-refusal-requires : tie.Need-refusal-requires
-refusal-requires c κs = search needs
+minus-requires : tie.Need-minus-requires
+minus-requires c κs = search needs
 
 returns : tie.Need-returns
 returns c = search (needs, counted-no)
@@ -23,4 +23,4 @@ returns-2 : tie.Need-returns-2
 returns-2 c = search (needs, counted-yes)
 
 pub minutefrost-count-spec : {M : Type 1} → statement M
-minutefrost-count-spec = tie.close (tie.spec load-requires refusal-requires returns size-requires returns-2)
+minutefrost-count-spec = tie.close (tie.spec load-requires minus-requires returns size-requires returns-2)

@@ -32,8 +32,8 @@ answer-in-requires c κs = search needs
 write-answer-requires : tie.Need-write-answer-requires Inv-loop μ-loop
 write-answer-requires c κs = search needs
 
-stays-requires : tie.Need-stays-requires Inv-loop μ-loop
-stays-requires c κs = search needs
+remains-requires : tie.Need-remains-requires Inv-loop μ-loop
+remains-requires c κs = search needs
 
 mul-kept : tie.Need-mul-kept Inv-loop μ-loop
 mul-kept c = search needs
@@ -74,7 +74,7 @@ serve-table-spec =
     add-i
     answer-in-requires
     write-answer-requires
-    stays-requires
+    remains-requires
     mul-kept
     array-set-from-kept
     add-n

@@ -17,14 +17,14 @@ asked w = w .before .before .before .before
 shaped : (e : tie.Else1) → Shaped (nodeHeld (given e .args .keys .now) (given e .args .node))
 shaped e = record { keys = given e .pre .long; pending = search (needs, length-mapped) }
 
-refusal-requires : tie.Need-refusal-requires
-refusal-requires c κs = search needs
+minus-requires : tie.Need-minus-requires
+minus-requires c κs = search needs
 
 returns : tie.Need-returns
 returns c = search (needs, saved-refused)
 
-refusal-requires-2 : tie.Need-refusal-requires-2
-refusal-requires-2 c κs = search needs
+minus-requires-2 : tie.Need-minus-requires-2
+minus-requires-2 c κs = search needs
 
 returns-2 : tie.Need-returns-2
 returns-2 c = search (needs, saved-15)
@@ -52,9 +52,9 @@ pub save-spec : {M : Type 1} → statement M
 save-spec =
     tie.close
     (tie.spec
-    refusal-requires
+    minus-requires
     returns
-    refusal-requires-2
+    minus-requires-2
     returns-2
     write-image-in-requires
     size-requires

@@ -13,11 +13,11 @@ ordered-in-requires c κs = search needs
 returns-2 : tie.Need-returns-2
 returns-2 c = search (needs, front-store)
 
-pends-requires : tie.Need-pends-requires
-pends-requires c κs = search (needs, tested-yes)
+pending-requires : tie.Need-pending-requires
+pending-requires c κs = search (needs, tested-yes)
 
 returns-3 : tie.Need-returns-3
 returns-3 c = search (needs, front-pending)
 
 pub front-in-spec : {M : Type 1} → statement M
-front-in-spec = tie.close (tie.spec returns ordered-in-requires returns-2 pends-requires returns-3)
+front-in-spec = tie.close (tie.spec returns ordered-in-requires returns-2 pending-requires returns-3)

@@ -7,8 +7,8 @@ use Rattle.nodes.proofs.taking.enlist.Tie as tie
 capped-requires : tie.Need-capped-requires
 capped-requires c κs = search needs
 
-find-requires : tie.Need-find-requires
-find-requires c κs = search needs
+place-among-requires : tie.Need-place-among-requires
+place-among-requires c κs = search needs
 
 enlist-at-requires : tie.Need-enlist-at-requires
 enlist-at-requires c κs = search needs
@@ -17,4 +17,4 @@ returns : tie.Need-returns
 returns c = search (needs, enlisted-found)
 
 pub enlist-spec : {M : Type 1} → statement M
-enlist-spec = tie.close (tie.spec capped-requires find-requires enlist-at-requires returns)
+enlist-spec = tie.close (tie.spec capped-requires place-among-requires enlist-at-requires returns)

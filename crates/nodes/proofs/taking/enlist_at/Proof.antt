@@ -4,8 +4,8 @@ use Rattle.nodes.proofs.TakingPaths.{enlisted-held, enlisted-last, enli
 use Rattle.nodes.proofs.taking.enlist_at.Statement.{statement}
 use Rattle.nodes.proofs.taking.enlist_at.Tie as tie
 
-stands-requires : tie.Need-stands-requires
-stands-requires c κs = search needs
+is-at-requires : tie.Need-is-at-requires
+is-at-requires c κs = search needs
 
 returns : tie.Need-returns
 returns c = search (needs, enlisted-held)
@@ -32,7 +32,7 @@ pub enlist-at-spec : {M : Type 1} → statement M
 enlist-at-spec =
     tie.close
     (tie.spec
-    stands-requires
+    is-at-requires
     returns
     returns-2
     sub-capped

@@ -7,14 +7,14 @@ use Rattle.rehearsal.proofs.PagePaths.{row-put}
 use Rattle.rehearsal.proofs.page.put_line.Statement.{statement}
 use Rattle.rehearsal.proofs.page.put_line.Tie as tie
 
-mul-letter-of : tie.Need-mul-letter-of
-mul-letter-of c = search needs
+mul-letter : tie.Need-mul-letter
+mul-letter c = search needs
 
-shared-slice-read-letter-of : tie.Need-shared-slice-read-letter-of
-shared-slice-read-letter-of c = search needs
+shared-slice-read-letter : tie.Need-shared-slice-read-letter
+shared-slice-read-letter c = search needs
 
-letter-of-requires : tie.Need-letter-of-requires
-letter-of-requires c κs = search needs
+letter-requires : tie.Need-letter-requires
+letter-requires c κs = search needs
 
 slice-write-out : tie.Need-slice-write-out
 slice-write-out c = search needs
@@ -44,9 +44,9 @@ pub put-line-spec : {M : Type 1} → statement M
 put-line-spec =
     tie.close
     (tie.spec
-    mul-letter-of
-    shared-slice-read-letter-of
-    letter-of-requires
+    mul-letter
+    shared-slice-read-letter
+    letter-requires
     slice-write-out
     add-put-four
     add-put-four-2

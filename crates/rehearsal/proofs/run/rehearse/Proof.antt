@@ -8,8 +8,8 @@ use Rattle.rehearsal.proofs.run.rehearse.Tie as tie
 image-length-requires : tie.Need-image-length-requires
 image-length-requires c κs = search needs
 
-refused-requires : tie.Need-refused-requires
-refused-requires c κs = search needs
+no-rehearsal-requires : tie.Need-no-rehearsal-requires
+no-rehearsal-requires c κs = search needs
 
 returns : tie.Need-returns
 returns c = search (needs, front-refused)
@@ -26,8 +26,8 @@ part-read-image-end c = search (needs, front-fits)
 read-image-requires : tie.Need-read-image-requires
 read-image-requires c κs = search needs
 
-refused-requires-2 : tie.Need-refused-requires-2
-refused-requires-2 c κs = search needs
+no-rehearsal-requires-2 : tie.Need-no-rehearsal-requires-2
+no-rehearsal-requires-2 c κs = search needs
 
 returns-2 : tie.Need-returns-2
 returns-2 c = search (needs, first-refused)
@@ -55,13 +55,13 @@ rehearse-spec =
     tie.close
     (tie.spec
     image-length-requires
-    refused-requires
+    no-rehearsal-requires
     returns
     sub-read-image
     part-read-image-start
     part-read-image-end
     read-image-requires
-    refused-requires-2
+    no-rehearsal-requires-2
     returns-2
     sub-with-second
     part-with-second-start

@@ -7,8 +7,8 @@ use Rattle.rehearsal.proofs.run.with_second.Tie as tie
 read-image-requires : tie.Need-read-image-requires
 read-image-requires c κs = search needs
 
-refused-requires : tie.Need-refused-requires
-refused-requires c κs = search needs
+no-rehearsal-requires : tie.Need-no-rehearsal-requires
+no-rehearsal-requires c κs = search needs
 
 returns : tie.Need-returns
 returns c = search (needs, second-refused)
@@ -16,8 +16,8 @@ returns c = search (needs, second-refused)
 round-words-requires : tie.Need-round-words-requires
 round-words-requires c κs = search needs
 
-refused-requires-2 : tie.Need-refused-requires-2
-refused-requires-2 c κs = search needs
+no-rehearsal-requires-2 : tie.Need-no-rehearsal-requires-2
+no-rehearsal-requires-2 c κs = search needs
 
 same-length : tie.Need-same-length
 same-length c = search needs
@@ -36,10 +36,10 @@ with-second-spec =
     tie.close
     (tie.spec
     read-image-requires
-    refused-requires
+    no-rehearsal-requires
     returns
     round-words-requires
-    refused-requires-2
+    no-rehearsal-requires-2
     same-length
     returns-2
     same-length-2

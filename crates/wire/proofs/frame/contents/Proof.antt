@@ -14,11 +14,11 @@ cast-n c = omega (arith, c .shared-slice-known2 .given 3)
 four-requires : tie.Need-four-requires
 four-requires c κs = search (needs, head-few, head-room)
 
-passing-requires : tie.Need-passing-requires
-passing-requires c κs = search (needs, head-few)
+all-pass-requires : tie.Need-all-pass-requires
+all-pass-requires c κs = search (needs, head-few)
 
-refused-requires : tie.Need-refused-requires
-refused-requires c κs = search needs
+no-frame-requires : tie.Need-no-frame-requires
+no-frame-requires c κs = search needs
 
 returns : tie.Need-returns
 returns c = search (needs, contents-13)
@@ -33,7 +33,7 @@ contents-spec =
     shared-slice-read-n
     cast-n
     four-requires
-    passing-requires
-    refused-requires
+    all-pass-requires
+    no-frame-requires
     returns
     returns-2)

@@ -4,20 +4,20 @@ use Rattle.wire.proofs.FramePaths.{head-long, head-10, head-11, head-12
 use Rattle.wire.proofs.frame.heading.Statement.{statement}
 use Rattle.wire.proofs.frame.heading.Tie as tie
 
-has-mark-requires : tie.Need-has-mark-requires
-has-mark-requires c κs = search needs
+marked-requires : tie.Need-marked-requires
+marked-requires c κs = search needs
 
 returns : tie.Need-returns
 returns c = search (needs, head-10)
 
 shared-slice-read-if2 : tie.Need-shared-slice-read-if2
-shared-slice-read-if2 c = let long = head-long _ (c .before .before .has-mark .ensures) (c .before .if1 .left) in search needs
+shared-slice-read-if2 c = let long = head-long _ (c .before .before .marked .ensures) (c .before .if1 .left) in search needs
 
 returns-2 : tie.Need-returns-2
 returns-2 c = search (needs, head-11)
 
-has-size-requires : tie.Need-has-size-requires
-has-size-requires c κs = search (needs, head-long)
+sized-requires : tie.Need-sized-requires
+sized-requires c κs = search (needs, head-long)
 
 returns-3 : tie.Need-returns-3
 returns-3 c = search (needs, head-12)
@@ -29,10 +29,10 @@ pub heading-spec : {M : Type 1} → statement M
 heading-spec =
     tie.close
     (tie.spec
-    has-mark-requires
+    marked-requires
     returns
     shared-slice-read-if2
     returns-2
-    has-size-requires
+    sized-requires
     returns-3
     returns-4)

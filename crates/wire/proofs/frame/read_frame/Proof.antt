@@ -7,8 +7,8 @@ use Rattle.wire.proofs.frame.read_frame.Tie as tie
 heading-requires : tie.Need-heading-requires
 heading-requires c κs = search needs
 
-refused-requires : tie.Need-refused-requires
-refused-requires c κs = search needs
+no-frame-requires : tie.Need-no-frame-requires
+no-frame-requires c κs = search needs
 
 returns : tie.Need-returns
 returns c = search (needs, readFrame-head)
@@ -21,4 +21,4 @@ returns-2 c = search needs
 
 pub read-frame-spec : {M : Type 1} → statement M
 read-frame-spec =
-    tie.close (tie.spec heading-requires refused-requires returns contents-requires returns-2)
+    tie.close (tie.spec heading-requires no-frame-requires returns contents-requires returns-2)

@@ -4,23 +4,23 @@ use Rattle.wire.proofs.FramePaths.{countable-few, writable-12, writable
 use Rattle.wire.proofs.frame.writable.Statement.{statement}
 use Rattle.wire.proofs.frame.writable.Tie as tie
 
-is-countable-requires : tie.Need-is-countable-requires
-is-countable-requires c κs = search needs
+countable-requires : tie.Need-countable-requires
+countable-requires c κs = search needs
 
 returns : tie.Need-returns
 returns c = search (needs, writable-12)
 
-passing-requires : tie.Need-passing-requires
-passing-requires c κs = search (needs, countable-few)
+all-pass-requires : tie.Need-all-pass-requires
+all-pass-requires c κs = search (needs, countable-few)
 
 returns-2 : tie.Need-returns-2
 returns-2 c = search (needs, writable-13)
 
 mul-if3 : tie.Need-mul-if3
-mul-if3 c = let few = countable-few _ (c .before .before .before .is-countable .ensures) (c .before .before .if1 .left) in search needs
+mul-if3 c = let few = countable-few _ (c .before .before .before .countable .ensures) (c .before .before .if1 .left) in search needs
 
 add-if3 : tie.Need-add-if3
-add-if3 c = let few = countable-few _ (c .before .before .before .is-countable .ensures) (c .before .before .if1 .left) in search needs
+add-if3 c = let few = countable-few _ (c .before .before .before .countable .ensures) (c .before .before .if1 .left) in search needs
 
 returns-3 : tie.Need-returns-3
 returns-3 c = search (needs, writable-15)
@@ -32,9 +32,9 @@ pub writable-spec : {M : Type 1} → statement M
 writable-spec =
     tie.close
     (tie.spec
-    is-countable-requires
+    countable-requires
     returns
-    passing-requires
+    all-pass-requires
     returns-2
     mul-if3
     add-if3

@@ -25,13 +25,13 @@ empty-requires c κs = search needs
 read-image-in-requires : tie.Need-read-image-in-requires
 read-image-in-requires c κs = search needs
 
-refused-requires : tie.Need-refused-requires
-refused-requires c κs = search needs
+no-image-requires : tie.Need-no-image-requires
+no-image-requires c κs = search needs
 
 returns : tie.Need-returns
 returns c =
     let read = c .before .before .before in
-    c .refused .ensures ∙ readIn-refused _ (read .read-image-in .ensures .0) (c .before .if1 .taken)
+    c .no-image .ensures ∙ readIn-refused _ (read .read-image-in .ensures .0) (c .before .if1 .taken)
 
 slice-aggregate-front-in : tie.Need-slice-aggregate-front-in
 slice-aggregate-front-in c =
@@ -46,15 +46,15 @@ slice-aggregate-front-in c =
 front-in-requires : tie.Need-front-in-requires
 front-in-requires c κs = search needs
 
-refused-requires-2 : tie.Need-refused-requires-2
-refused-requires-2 c κs = search needs
+no-image-requires-2 : tie.Need-no-image-requires-2
+no-image-requires-2 c κs = search needs
 
 returns-2 : tie.Need-returns-2
 returns-2 c =
     let tested = c .before .before in
     let r = read (taken tested) in
     let k = readIn-fresh _ (fresh r .empty .ensures .0) (r .read-image-in .ensures .1) in
-    c .refused2 .ensures ∙ readImage-1 _ (r .read-image-in .ensures .0) (taken tested .if1 .left) k _ (tested .front-in .ensures) (c .before .if2 .taken)
+    c .no-image2 .ensures ∙ readImage-1 _ (r .read-image-in .ensures .0) (taken tested .if1 .left) k _ (tested .front-in .ensures) (c .before .if2 .taken)
 
 returns-3 : tie.Need-returns-3
 returns-3 c =
@@ -69,10 +69,10 @@ read-image-spec =
     (tie.spec
     empty-requires
     read-image-in-requires
-    refused-requires
+    no-image-requires
     returns
     slice-aggregate-front-in
     front-in-requires
-    refused-requires-2
+    no-image-requires-2
     returns-2
     returns-3)

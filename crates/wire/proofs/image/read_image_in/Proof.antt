@@ -7,14 +7,14 @@ use Rattle.wire.proofs.image.read_image_in.Tie as tie
 sizes-of-requires : tie.Need-sizes-of-requires
 sizes-of-requires c κs = search needs
 
-unread-requires : tie.Need-unread-requires
-unread-requires c κs = search needs
+no-rest-requires : tie.Need-no-rest-requires
+no-rest-requires c κs = search needs
 
 returns : tie.Need-returns
 returns c = search (needs, readIn-counts, readInLent-counts)
 
-unread-requires-2 : tie.Need-unread-requires-2
-unread-requires-2 c κs = search needs
+no-rest-requires-2 : tie.Need-no-rest-requires-2
+no-rest-requires-2 c κs = search needs
 
 returns-2 : tie.Need-returns-2
 returns-2 c = search (needs, readIn-length, readInLent-length)
@@ -30,9 +30,9 @@ read-image-in-spec =
     tie.close
     (tie.spec
     sizes-of-requires
-    unread-requires
+    no-rest-requires
     returns
-    unread-requires-2
+    no-rest-requires-2
     returns-2
     contents-requires
     returns-3)

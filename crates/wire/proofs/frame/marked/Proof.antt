@@ -1,8 +1,8 @@
--- `frame::has_mark` meets its contract: one law for each way. Assumes nothing.
+-- `frame::marked` meets its contract: one law for each way. Assumes nothing.
 use borrow.Author.Needs.{needs}
 use Rattle.wire.proofs.FramePaths.{marked-short, marked-first, marked-second}
-use Rattle.wire.proofs.frame.has_mark.Statement.{statement}
-use Rattle.wire.proofs.frame.has_mark.Tie as tie
+use Rattle.wire.proofs.frame.marked.Statement.{statement}
+use Rattle.wire.proofs.frame.marked.Tie as tie
 
 returns : tie.Need-returns
 returns c = search (needs, marked-short)
@@ -25,8 +25,8 @@ array-read-result c = search needs
 returns-3 : tie.Need-returns-3
 returns-3 c = search (needs, marked-second)
 
-pub has-mark-spec : {M : Type 1} → statement M
-has-mark-spec =
+pub marked-spec : {M : Type 1} → statement M
+marked-spec =
     tie.close
     (tie.spec
     returns

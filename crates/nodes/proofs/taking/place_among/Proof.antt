@@ -1,4 +1,4 @@
--- `nodes::taking::find` meets its contract. The invariant: halving what is left gives what halving all of it gives. Assumes nothing.
+-- `nodes::taking::place_among` meets its contract. The invariant: halving what is left gives what halving all of it gives. Assumes nothing.
 use mathlib.Core.Path.{_≡_, sym, _∙_, ap}
 use mathlib.Core.List.{List}
 use Prim.Native.Nat.{_+_, _/_, _≤_}
@@ -11,8 +11,8 @@ use Rattle.claims.specs.Claim.{noClaim}
 use Rattle.rule.specs.Table.{before}
 use Rattle.nodes.specs.Lent.{halvedTo, placeAmong}
 use Rattle.nodes.proofs.TakingPaths.{halvedTo-none, halvedTo-up, halvedTo-down, placeAmong-take}
-use Rattle.nodes.proofs.taking.find.Statement.{statement}
-use Rattle.nodes.proofs.taking.find.Tie as tie
+use Rattle.nodes.proofs.taking.place_among.Statement.{statement}
+use Rattle.nodes.proofs.taking.place_among.Tie as tie
 
 abbrev Inv-loop : tie.InvT-loop
 Inv-loop count claim table base₀ size₀ base size =
@@ -86,8 +86,8 @@ returns c =
     let s = c .before in
     (sym (s .loop .inv .1 ∙ halvedTo-none (claims s) (s .before .args .claim) (s .loop .size) (s .loop .base) (s .loop .size) (omega arith)), omega arith)
 
-pub find-spec : {M : Type 1} → statement M
-find-spec =
+pub place-among-spec : {M : Type 1} → statement M
+place-among-spec =
     tie.close
     (tie.spec
     Inv-loop

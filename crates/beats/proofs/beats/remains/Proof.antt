@@ -1,7 +1,7 @@
--- `beats::beats::stays` meets its contract. Assumes nothing.
+-- `beats::beats::remains` meets its contract. Assumes nothing.
 use borrow.Author.Needs.{needs}
-use Rattle.beats.proofs.beats.stays.Statement.{statement}
-use Rattle.beats.proofs.beats.stays.Tie as tie
+use Rattle.beats.proofs.beats.remains.Statement.{statement}
+use Rattle.beats.proofs.beats.remains.Tie as tie
 
 enum-told : tie.Need-enum-told
 enum-told c = search needs
@@ -33,8 +33,8 @@ returns-4 c = search needs
 returns-5 : tie.Need-returns-5
 returns-5 c = search needs
 
-pub stays-spec : {M : Type 1} → statement M
-stays-spec =
+pub remains-spec : {M : Type 1} → statement M
+remains-spec =
     tie.close
     (tie.spec
     enum-told

@@ -1,9 +1,9 @@
--- `frame::has_size` meets its contract: one law for each way. Assumes nothing.
+-- `frame::sized` meets its contract: one law for each way. Assumes nothing.
 use native.Mathlib.Omega.{arith}
 use borrow.Author.Needs.{needs}
 use Rattle.wire.proofs.FramePaths.{sized-count, sized-length}
-use Rattle.wire.proofs.frame.has_size.Statement.{statement}
-use Rattle.wire.proofs.frame.has_size.Tie as tie
+use Rattle.wire.proofs.frame.sized.Statement.{statement}
+use Rattle.wire.proofs.frame.sized.Tie as tie
 
 shared-slice-read-n : tie.Need-shared-slice-read-n
 shared-slice-read-n c = search needs
@@ -11,8 +11,8 @@ shared-slice-read-n c = search needs
 cast-n : tie.Need-cast-n
 cast-n c = omega (arith, c .shared-slice-known2 .given 3)
 
-is-countable-requires : tie.Need-is-countable-requires
-is-countable-requires c κs = search needs
+countable-requires : tie.Need-countable-requires
+countable-requires c κs = search needs
 
 returns : tie.Need-returns
 returns c = search (needs, sized-count)
@@ -26,13 +26,13 @@ add-result c = omega (arith, c .before .before .shared-slice-known2 .given 3)
 returns-2 : tie.Need-returns-2
 returns-2 c = search (needs, sized-length)
 
-pub has-size-spec : {M : Type 1} → statement M
-has-size-spec =
+pub sized-spec : {M : Type 1} → statement M
+sized-spec =
     tie.close
     (tie.spec
     shared-slice-read-n
     cast-n
-    is-countable-requires
+    countable-requires
     returns
     mul-result
     add-result

@@ -1,8 +1,8 @@
--- `nodes::taking::stands` meets its contract. Assumes nothing.
+-- `nodes::taking::is_at` meets its contract. Assumes nothing.
 use borrow.Author.Needs.{needs}
 use Rattle.nodes.proofs.TakingPaths.{isAt-past, isAt-before}
-use Rattle.nodes.proofs.taking.stands.Statement.{statement}
-use Rattle.nodes.proofs.taking.stands.Tie as tie
+use Rattle.nodes.proofs.taking.is_at.Statement.{statement}
+use Rattle.nodes.proofs.taking.is_at.Tie as tie
 
 returns : tie.Need-returns
 returns c = let a = c .before .args in isAt-past (a .t1) (a .count) (a .at) (a .claim) (search needs) (c .if1 .taken)
@@ -22,6 +22,6 @@ returns-2 c =
     let a = below .before .args in
     isAt-before (a .t1) (a .count) (a .at) (a .claim) (search needs) (below .if1 .left) _ (c .precedes .ensures)
 
-pub stands-spec : {M : Type 1} → statement M
-stands-spec =
+pub is-at-spec : {M : Type 1} → statement M
+is-at-spec =
     tie.close (tie.spec returns mul-precedes array-copy-out-precedes precedes-requires returns-2)

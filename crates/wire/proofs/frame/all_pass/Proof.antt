@@ -1,4 +1,4 @@
--- `frame::passing` meets its contract. The invariant: what is left to judge decides. Assumes nothing.
+-- `frame::all_pass` meets its contract. The invariant: what is left to judge decides. Assumes nothing.
 use Prim.Native.Nat.{_≤_, _-_}
 use native.Mathlib.Omega.{arith}
 use mathlib.Core.Path.{_≡_}
@@ -7,8 +7,8 @@ use lib.ListN.{length, take, drop}
 use Rattle.rule.proofs.NodeLaws.{length-mapped}
 use Rattle.wire.specs.Frame.{frameLimit, allPass}
 use Rattle.wire.proofs.FramePaths.{allPass-no, allPass-turn, allPass-end}
-use Rattle.wire.proofs.frame.passing.Statement.{statement}
-use Rattle.wire.proofs.frame.passing.Tie as tie
+use Rattle.wire.proofs.frame.all_pass.Statement.{statement}
+use Rattle.wire.proofs.frame.all_pass.Tie as tie
 
 abbrev Inv-loop : tie.InvT-loop
 Inv-loop n claims i₀ i = (i ≤ n) × (allPass (take n claims) ≡ allPass (drop i (take n claims)))
@@ -47,8 +47,8 @@ loop-again c = search (needs, fits, allPass-turn)
 returns-2 : tie.Need-returns-2 Inv-loop μ-loop
 returns-2 c = search (needs, allPass-end)
 
-pub passing-spec : {M : Type 1} → statement M
-passing-spec =
+pub all-pass-spec : {M : Type 1} → statement M
+all-pass-spec =
     tie.close
     (tie.spec
     Inv-loop

@@ -1,4 +1,4 @@
--- `nodes::order::pends` meets its contract. The invariant: all the claims rise and fit exactly if those from i on rise from above `last` and fit.
+-- `nodes::order::pending` meets its contract. The invariant: all the claims rise and fit exactly if those from i on rise from above `last` and fit.
 -- Assumes nothing.
 use mathlib.Core.Path.{_≡_}
 use mathlib.Core.List.{List, _∷_}
@@ -12,8 +12,8 @@ use Rattle.claims.specs.declared.claim.Claim.{Claim}
 use Rattle.claims.specs.Claim.{noClaim}
 use Rattle.nodes.specs.Lent.{pending}
 use Rattle.nodes.proofs.OrderPaths.{pendingFrom, pending-first, drop-take-cons, pending-fall, pending-unfit, pending-on, pending-all}
-use Rattle.nodes.proofs.order.pends.Statement.{statement}
-use Rattle.nodes.proofs.order.pends.Tie as tie
+use Rattle.nodes.proofs.order.pending.Statement.{statement}
+use Rattle.nodes.proofs.order.pending.Tie as tie
 
 abbrev Inv-loop : tie.InvT-loop
 Inv-loop keys held count table last₀ i₀ last i =
@@ -94,8 +94,8 @@ returns-3 c =
     let n : length (claims s) ≡ given s .args .count = length-take-le (given s .args .count) (given s .args .t3) (search needs) in
     pending-all (claims s) (keys s) (s .loop .last) (s .loop .i) (s .loop .inv .1) (omega arith)
 
-pub pends-spec : {M : Type 1} → statement M
-pends-spec =
+pub pending-spec : {M : Type 1} → statement M
+pending-spec =
     tie.close
     (tie.spec
     Inv-loop

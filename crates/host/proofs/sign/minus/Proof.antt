@@ -1,9 +1,9 @@
--- `sign::refusal` meets its contract: a byte taken from zero. Assumes nothing.
+-- `sign::minus` meets its contract: a byte taken from zero. Assumes nothing.
 use Prim.Native.Nat.{_<_}
 use borrow.Author.Needs.{needs}
 use Rattle.host.proofs.Signs.{minus-fits, minus-value}
-use Rattle.host.proofs.sign.refusal.Statement.{statement}
-use Rattle.host.proofs.sign.refusal.Tie as tie
+use Rattle.host.proofs.sign.minus.Statement.{statement}
+use Rattle.host.proofs.sign.minus.Tie as tie
 
 few : (c : tie.Start) → c .args .number < 256
 few c = search needs
@@ -17,5 +17,5 @@ sub-result c = minus-fits (c .args .number) (few c)
 returns : tie.Need-returns
 returns c = minus-value (c .args .number) (few c)
 
-pub refusal-spec : {M : Type 1} → statement M
-refusal-spec = tie.close (tie.spec cast-result sub-result returns)
+pub minus-spec : {M : Type 1} → statement M
+minus-spec = tie.close (tie.spec cast-result sub-result returns)

@@ -1,4 +1,4 @@
--- `nodes::order::unused` meets its contract. The invariant: every place from the count on is unused exactly if those from i on are. Assumes nothing.
+-- `nodes::order::all_unused` meets its contract. The invariant: every place from the count on is unused exactly if those from i on are. Assumes nothing.
 use mathlib.Core.Path.{_≡_, refl}
 use mathlib.Core.List.{List}
 use Prim.Native.Nat.{_-_}
@@ -9,8 +9,8 @@ use Rattle.claims.specs.Claim.{noClaim}
 use Rattle.rule.specs.Table.{tableLimit}
 use Rattle.rule.specs.Node.{allUnused}
 use Rattle.nodes.proofs.OrderPaths.{drop-next, unused-not, unused-on, unused-all}
-use Rattle.nodes.proofs.order.unused.Statement.{statement}
-use Rattle.nodes.proofs.order.unused.Tie as tie
+use Rattle.nodes.proofs.order.all_unused.Statement.{statement}
+use Rattle.nodes.proofs.order.all_unused.Tie as tie
 
 abbrev Inv-loop : tie.InvT-loop
 Inv-loop count table i₀ i = allUnused (drop count table) ≡ allUnused (drop i table)
@@ -62,8 +62,8 @@ returns-2 c =
     let s = c .before in
     unused-all (table s) (s .before .args .count) (s .loop .i) (s .loop .inv) (search needs)
 
-pub unused-spec : {M : Type 1} → statement M
-unused-spec =
+pub all-unused-spec : {M : Type 1} → statement M
+all-unused-spec =
     tie.close
     (tie.spec
     Inv-loop
