@@ -1,7 +1,7 @@
 -- Laws of specs/Place, what a lent run holds once something is written at a place of it: nothing written, one element more, a block right after a block,
 -- one element, stores one after the other; written to the beginning; over a run of one value. Assumes nothing.
 use Prim.Native.Nat.{ℕ, zero, suc, _+_, _-_, _≤_, _<_}
-use native.Mathlib.Nat.{zero-add, add-zero, add-assoc, sub-zero, zero-sub, suc-sub-suc}
+use native.Mathlib.Nat.{add-zero, add-assoc, sub-zero, zero-sub, suc-sub-suc}
 use native.Mathlib.Omega.{arith}
 use mathlib.Core.Path.{_≡_, refl, sym, _∙_}
 use mathlib.Core.List.{List, [], _∷_, _++_, append-assoc}
@@ -50,6 +50,20 @@ module _ {A : Type 0} where
       rw (whole, ← long, drop-append-add, long, drop-drop, length-append, e, add-assoc) in
       rw (putAt-past s at xs, putAt-past, putAt-past, front, rest, append-assoc (take at s), append-assoc xs)
 
+  -- .. as code leaves it: i is the place after the first one
+  pub putAt-then : (s : List A) (at i : ℕ) (a b : List A) {o₁ o₂ : List A} → i ≡ at + length a → i ≤ length s
+      → o₁ ≡ putAt s at a → o₂ ≡ putAt o₁ i b → o₂ ≡ putAt s at (a ++ b)
+  putAt-then s at i a b e h f g = g ∙ rw (f, e) (putAt-append s at a b (length a) refl (omega arith))
+
+  -- four of them
+  pub putAt-four-blocks : (s : List A) (at i j k : ℕ) (a b c d : List A) {o₁ o₂ o₃ o₄ : List A} → i ≡ at + length a → j ≡ i + length b → k ≡ j + length c
+      → k ≤ length s → o₁ ≡ putAt s at a → o₂ ≡ putAt o₁ i b → o₃ ≡ putAt o₂ j c → o₄ ≡ putAt o₃ k d → o₄ ≡ putAt s at (a ++ (b ++ (c ++ d)))
+  putAt-four-blocks s at i j k a b c d e₁ e₂ e₃ h f₁ f₂ f₃ f₄ =
+      let two = putAt-then s at i a b e₁ (omega arith) f₁ f₂ in
+      let three = putAt-then s at j (a ++ b) c (omega (arith, length-append a b)) (omega arith) two f₃ in
+      let four = putAt-then s at k ((a ++ b) ++ c) d (omega (arith, length-append a b, length-append (a ++ b) c)) h three f₄ in
+      four ∙ rw (append-assoc (a ++ b), append-assoc a)
+
   -- one element, and what stands right after it
   pub putAt-one : (s : List A) (at : ℕ) (b : A) → at < length s → set s at b ≡ putAt s at (b ∷ [])
   putAt-one s at b h =
@@ -71,10 +85,6 @@ module _ {A : Type 0} where
   set-front new lent x n e h =
       let long : length (new ++ (x ∷ [])) ≡ suc n = rw (length-append, e) (omega arith) in
       rw (putAt-zero, putAt-zero, e, drop-cons lent n x h, set-at new (getD lent n x) (drop (suc n) lent) x n e, long, append-assoc)
-
-  -- a block right after the first one
-  pub putAt-front : (lent xs ys : List A) (n : ℕ) → length xs ≡ n → n ≤ length lent → putAt (putAt lent 0 xs) n ys ≡ putAt lent 0 (xs ++ ys)
-  putAt-front lent xs ys n e h = let z : 0 + n ≡ n = zero-add n in rw z at (putAt-append lent 0 xs ys n e (rw z h))
 
   -- what was written stands in front
   pub take-front : (lent xs : List A) (n : ℕ) → length xs ≡ n → take n (putAt lent 0 xs) ≡ xs

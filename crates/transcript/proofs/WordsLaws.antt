@@ -2,14 +2,14 @@
 -- is read at a record, and that a record put after those that are written is one record more. Assumes nothing.
 use Prim.Native.Nat.{ℕ, _+_, _*_, _≤_, _<_}
 use mathlib.Core.List.{List, [], _∷_, _++_, map, append-assoc, append-nil}
-use mathlib.Core.Path.{_≡_, sym, ap, ap₂, _∙_}
+use mathlib.Core.Path.{_≡_, refl, sym, ap, ap₂, _∙_}
 use native.Mathlib.Omega.{arith}
 use borrow.Author.Tests.{lt-ltb}
 use lib.ListN.{length, drop, getD, length-append}
 use lib.Seq.{getD-drop, drop-append-add}
 use Rattle.keys.specs.Store.{limit}
 use Rattle.keys.specs.Place.{putAt}
-use Rattle.keys.proofs.PlaceLaws.{length-putAt, putAt-front}
+use Rattle.keys.proofs.PlaceLaws.{length-putAt, putAt-then}
 use Rattle.claims.specs.declared.claim.Claim.{Claim}
 use Rattle.claims.specs.Words.{fromWords}
 use Rattle.claims.proofs.WordsLaws.{claimAt-small}
@@ -81,7 +81,7 @@ putRecord-append ds lent sender c h =
     let some : length ds < recordsIn w = omega arith in
     let all : deliveryWords (ds ++ (delivery sender c ∷ [])) ≡ x ++ v = deliveryWords-append ds (delivery sender c ∷ []) in
     let put : putAt w (length ds * recordWidth) v ≡ putAt lent 0 (deliveryWords (ds ++ (delivery sender c ∷ []))) =
-    rw all (putAt-front lent x v (length ds * recordWidth) len (omega arith)) in
+    rw all (putAt-then lent 0 (length ds * recordWidth) x v (omega arith) (omega arith) refl refl) in
     rw (lt-ltb (length ds) (recordsIn w) some) (ap₂ logWith put (sym (length-append ds (delivery sender c ∷ []))))
 
 pub putRecords-append : (ds : List Delivery) (lent : List ℕ) (sender : ℕ) (cs : List Claim) → length ds + length cs ≤ recordsIn lent

@@ -7,7 +7,7 @@ use lib.Dec.{lit≤}
 use lib.ListN.{length, take, drop, length-append}
 use lib.Seq.{drop-drop, take-add}
 use Rattle.keys.specs.Place.{putAt}
-use Rattle.keys.proofs.PlaceLaws.{putAt-append}
+use Rattle.keys.proofs.PlaceLaws.{putAt-four-blocks}
 use Rattle.claims.specs.declared.claim.Claim.{Claim}
 use Rattle.wire.specs.Number.{byte, bytes, numberAt, Below}
 use Rattle.wire.specs.Claim.{keyWidth, countWidth, claimSize, claimBytes, claimFrom, ClaimFits}
@@ -39,23 +39,9 @@ pub putAt-claimBytes : (s : List ℕ) (at : ℕ) (c : Claim) {o₁ o₂ o₃ o�
     → o₄ ≡ putAt s at (claimBytes c)
 unfolding claimBytes
 putAt-claimBytes s at c h e₁ e₂ e₃ e₄ =
-    let lo = bytes keyWidth (c .lo) in
-    let hi = bytes keyWidth (c .hi) in
-    let sum = bytes keyWidth (c .sum) in
-    let cnt = bytes countWidth (c .cnt) in
-    let two : length (lo ++ hi) ≡ 2 * keyWidth = simp (length-append, length-bytes) in
-    let three : length ((lo ++ hi) ++ sum) ≡ 3 * keyWidth = simp (length-append, length-bytes) in
-    rw (
-      e₄,
-      e₃,
-      e₂,
-      e₁,
-      putAt-append s at lo hi keyWidth (length-bytes keyWidth (c .lo)) (omega arith),
-      putAt-append s at (lo ++ hi) sum (2 * keyWidth) two (omega arith),
-      putAt-append s at ((lo ++ hi) ++ sum) cnt (3 * keyWidth) three (omega arith),
-      append-assoc (lo ++ hi),
-      append-assoc lo,
-    )
+    let l = length-bytes in
+    putAt-four-blocks s at (at + keyWidth) (at + 2 * keyWidth) (at + 3 * keyWidth) _ _ _ _
+    (omega (arith, l keyWidth (c .lo))) (omega (arith, l keyWidth (c .hi))) (omega (arith, l keyWidth (c .sum))) (omega arith) e₁ e₂ e₃ e₄
 
 -- ---- there and back
 

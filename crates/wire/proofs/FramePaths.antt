@@ -11,7 +11,7 @@ use lib.Dec.{leb, eqb}
 use lib.ListN.{length, take, drop, getD, set, length-take, drop-of-length-le}
 use lib.Seq.{drop-cons, getD-take, length-take-le}
 use Rattle.keys.specs.Place.{putAt}
-use Rattle.keys.proofs.PlaceLaws.{putAt-front}
+use Rattle.keys.proofs.PlaceLaws.{putAt-then}
 use Rattle.claims.specs.declared.claim.Claim.{Claim}
 use Rattle.claims.specs.Claim.{noClaim}
 use Rattle.claims.specs.Call.{judged}
@@ -204,6 +204,6 @@ module _ (cs : List Claim) (n : ℕ) (out : List ℕ) {k : ℕ} (asked : k ≡ f
         let none = sym asked ∙ passed in
         let h = write-room cs n (length out) asked passed in
         let put : o₂ ≡ putAt out 0 (headBytes n ++ writeRun claim (take n cs)) =
-        rw (f, e) (putAt-front out (headBytes n) (writeRun claim (take n cs)) headSize (length-headBytes n) (omega arith)) in
+        putAt-then out 0 headSize (headBytes n) (writeRun claim (take n cs)) (omega (arith, length-headBytes n)) (omega arith) e f in
         let counted = ap (λ (m : ℕ). putAt out 0 (headBytes m ++ writeRun claim (take n cs))) (sym long) in
         (writeFrame-0 cs n (length out) none, put ∙ (counted ∙ sym (frameLent-yes cs n out none)))

@@ -7,11 +7,11 @@ use mathlib.Core.Bool.{Bool, true, false, not}
 use mathlib.Core.List.{List, _++_, append-assoc}
 use mathlib.Core.Path.{_≡_, ap, sym, _∙_}
 use borrow.Author.Tests.{not-true, not-false, le-leb, lt-leb, ne-eqb}
-use lib.ListN.{length, take, drop, replicate, length-append, length-drop}
+use lib.ListN.{length, take, drop, replicate, length-drop}
 use lib.Seq.{drop-drop}
 use Rattle.keys.specs.Store.{limit, storeOf}
 use Rattle.keys.specs.Place.{putAt}
-use Rattle.keys.proofs.PlaceLaws.{putAt-front, putAt-replicate}
+use Rattle.keys.proofs.PlaceLaws.{putAt-four-blocks, putAt-replicate}
 use Rattle.claims.specs.declared.claim.Claim.{Claim}
 use Rattle.claims.specs.Claim.{noClaim}
 use Rattle.rule.specs.declared.node.Node.{Node}
@@ -190,19 +190,13 @@ module _ (keys : List ℕ) (held : ℕ) (table : List Claim) (count : ℕ) (out 
       let b = writeRun key (take held keys) in
       let d = bytes countWidth count in
       let e = writeRun claim (take count table) in
-      let two : length (a ++ b) ≡ sectionLength keySection held = rw (length-append, length-bytes, length-writeRun key-faithful, ks) in
-      let three : length ((a ++ b) ++ d) ≡ sectionLength keySection held + countWidth = rw (length-append (a ++ b), two, length-bytes) in
-      let whole : ((a ++ b) ++ d) ++ e ≡ nodeBytes n = rw (append-assoc (a ++ b), ks, cs) in
-      rw (
-        e₄,
-        e₃,
-        e₂,
-        e₁,
-        putAt-front out a b countWidth (length-bytes countWidth held) (omega arith),
-        putAt-front out (a ++ b) d (sectionLength keySection held) two (omega arith),
-        putAt-front out ((a ++ b) ++ d) e (sectionLength keySection held + countWidth) three (omega arith),
-        whole,
-      )
+      let one : length a ≡ countWidth = length-bytes countWidth held in
+      let run : length b ≡ keyWidth * held = rw (length-writeRun key-faithful, ks) in
+      let other : length d ≡ countWidth = length-bytes countWidth count in
+      let whole : a ++ (b ++ (d ++ e)) ≡ nodeBytes n = rw (ks, cs, append-assoc a) in
+      putAt-four-blocks out 0 countWidth (sectionLength keySection held) (sectionLength keySection held + countWidth) a b d e
+      (omega arith) (omega arith) (omega arith) (omega arith) e₁ e₂ e₃ e₄
+      ∙ ap (putAt out 0) whole
 
 -- ---- write_image_in
 
