@@ -1,4 +1,4 @@
--- Halving, by which the last few keys are searched (specs/Lent, `halved`): a turn of the loop, that the fuel is enough, and that one of the keys is found.
+-- Halving, by which the last few keys are searched (specs/Lent, `halved`): of one key, of two and of three, and that one of the keys is found.
 -- What halving finds among rising keys is in FindingLaws. Assumes nothing.
 use mathlib.Core.Path.{_≡_, refl, sym, _∙_, ap}
 use mathlib.Core.Bool.{Bool, true, false, cond}
@@ -31,24 +31,12 @@ module _ (keys : List ℕ) (key : ℕ) where
       halved-one n (cond (leb (getD keys (base + size / 2) 0) key) (base + size / 2) base) (size - size / 2) (omega arith)
       ∙ cond-same (leb (getD keys (base + size / 2) 0) key) (base + size / 2) base (omega arith)
 
-  -- fuel as large as the size is enough
-  pub halved-suc : (n base size : ℕ) → size ≤ n → halved (suc n) keys key base size ≡ halved n keys key base size
-  halved-suc zero base size h = halved-one 1 base size (omega arith)
-  halved-suc (suc n) base size h = ⊎-elim {C = halved (suc (suc n)) keys key base size ≡ halved (suc n) keys key base size}
-      (λ (p : 1 < size). halved-suc n (cond (leb (getD keys (base + size / 2) 0) key) (base + size / 2) base) (size - size / 2) (omega arith))
-      (λ (p : size ≤ 1). halved-one (suc (suc n)) base size p ∙ sym (halved-one (suc n) base size p))
-      (lt-or-le 1 size)
+  -- of two keys the second is found where it is at most `key`, and of three the last two are halved from there on
+  pub halved-two : (base : ℕ) → halved 2 keys key base 2 ≡ cond (leb (getD keys (base + 1) 0) key) (base + 1) base
+  halved-two base = halved-one 1 (cond (leb (getD keys (base + 1) 0) key) (base + 1) base) 1 (omega arith)
 
-  pub halved-fuel : (n base size : ℕ) → size ≤ n → halved n keys key base size ≡ halved size keys key base size
-  halved-fuel n base size = settled (λ (m : ℕ). halved m keys key base size) size (λ m. halved-suc m base size) n
-
-  -- a turn of the loop: the half from the middle on where the key there is at most `key`, and else the half before
-  pub halved-turn : (base size : ℕ) → 1 < size
-      → halved size keys key base size
-      ≡ halved (size - size / 2) keys key (cond (leb (getD keys (base + size / 2) 0) key) (base + size / 2) base) (size - size / 2)
-  halved-turn base zero h = absurd (omega arith)
-  halved-turn base (suc n) h =
-      halved-fuel n (cond (leb (getD keys (base + suc n / 2) 0) key) (base + suc n / 2) base) (suc n - suc n / 2) (omega arith)
+  pub halved-three : (base : ℕ) → halved 3 keys key base 3 ≡ halved 2 keys key (halved 2 keys key base 2) 2
+  halved-three base = ap (λ (b : ℕ). halved 2 keys key b 2) (sym (halved-two base))
 
 -- what halving finds is one of the keys
 pub halved-lt : (n : ℕ) (keys : List ℕ) (key base size : ℕ) → 0 < size → halved n keys key base size < base + size

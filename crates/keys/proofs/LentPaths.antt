@@ -1,9 +1,10 @@
 -- The calls on a lent run (src/lent.rt): one law for each way that the code goes, over the definitions of specs/Lent. What these mean where the run is
 -- a store in order is in LentLaws. Assumes nothing.
 use mathlib.Core.Path.{_≡_, _∙_, ap}
-use mathlib.Core.Bool.{Bool, true, false, not}
+use mathlib.Core.Bool.{Bool, true, false, not, and-false}
 use mathlib.Core.List.{List}
 use Prim.Native.Nat.{ℕ, _+_, _-_, _≤_, _<_}
+use native.Mathlib.Nat.{add-zero}
 use native.Mathlib.Omega.{arith}
 use borrow.Author.Tests.{lt-ltb, le-ltb, le-leb, lt-leb, eq-eqb, ne-eqb, not-true, not-false}
 use lib.Dec.{leb, eqb}
@@ -12,8 +13,8 @@ use lib.Seq.{take-all}
 use Rattle.keys.specs.declared.lent.Added.{Added}
 use Rattle.keys.specs.declared.lent.Place.{Place}
 use Rattle.keys.specs.Store.{limit, rising, allZero}
-use Rattle.keys.specs.Lent.{orderedIn, quartered, placeIn, insertedAt, lacking, putIn}
-use Rattle.keys.specs.Lent.{storeWith, Grown, grownWith, grown, noRoom, raised, addTwo, addIn, addBothIn}
+use Rattle.keys.specs.Lent.{orderedIn, quartered, placeIn, insertedAt, lacking, putIn, putTwo}
+use Rattle.keys.specs.Lent.{storeWith, Grown, grownWith, grown, noRoom, addTwo, addIn, addBothIn}
 use Rattle.keys.proofs.QuarteringLaws.{quartered-lt}
 use Rattle.keys.proofs.LentLaws.{lacking-le, placeIn-le}
 
@@ -99,30 +100,44 @@ module _ (keys : List ℕ) (count key : ℕ) (p : Place) (found : p ≡ placeIn 
       let fits : leb (count + lacking p) limit ≡ true = le-leb (count + lacking p) limit (omega (arith, lacking-le p)) in
       rw (← found, fits) (λ i. grown (storeWith (put i) (count + lacks i)) (p .at) (p .at))
 
+-- `put_two`: the lesser key at p and the greater one at q
+
+module _ (p q : Place) (count lo hi : ℕ) (keys after : List ℕ) where
+  pub two-lower-held : p .held ≡ true → after ≡ putIn q count hi keys → after ≡ putTwo p q count lo hi keys
+  two-lower-held e put = rw (e, add-zero (q .at), add-zero count) put
+
+  pub two-upper-held : p .held ≡ false → q .held ≡ true → after ≡ putIn p count lo keys → after ≡ putTwo p q count lo hi keys
+  two-upper-held e f put = rw f put
+
+  pub two-missing : p .held ≡ false → q .held ≡ false → after ≡ insertedAt (q .at + 1) (count + 1) hi (insertedAt (p .at) count lo keys)
+      → after ≡ putTwo p q count lo hi keys
+  two-missing e f put = rw (e, f) put
+
+-- two missing keys are put in below the limit
+pub two-fits : (p q : Place) (count : ℕ) → p .held ≡ false → q .held ≡ false → count + (lacking p + lacking q) ≤ limit → count + 1 < limit
+two-fits p q count e f h = let g : count + (1 + 1) ≤ limit = rw (e, f) at h in omega arith
+
 -- `add_two`: the lesser key at p and the greater one at q
 
 module _ (p q : Place) (keys : List ℕ) (count lo hi : ℕ) where
   pub two-fall : (r : Added) → r ≡ noRoom count → q .at < p .at → grownWith keys r ≡ addTwo p q lo hi (storeWith keys count)
   two-fall r told h = rw (lt-leb (p .at) (q .at) h) (ap (grownWith keys) told)
 
-  module _ (rise : p .at ≤ q .at) (below above : ℕ) (lacks-p : below ≡ lacking p) (lacks-q : above ≡ lacking q) where
+  module _ (below above : ℕ) (lacks-p : below ≡ lacking p) (lacks-q : above ≡ lacking q) where
     pub two-full : (r : Added) → r ≡ noRoom count → limit - (below + above) < count → grownWith keys r ≡ addTwo p q lo hi (storeWith keys count)
     two-full r told h =
         let full : leb (count + (lacking p + lacking q)) limit ≡ false =
         lt-leb (count + (lacking p + lacking q)) limit (omega (arith, lacking-le p, lacking-le q)) in
-        rw (le-leb (p .at) (q .at) rise, full) (ap (grownWith keys) told)
+        rw (full, and-false) (ap (grownWith keys) told)
 
-    pub two-room : count ≤ limit - (below + above) → (first after : List ℕ) → first ≡ putIn p count lo keys
-        → after ≡ putIn (record { at = q .at + below; held = q .held }) (count + below) hi first
+    pub two-room : p .at ≤ q .at → count ≤ limit - (below + above) → (after : List ℕ) → after ≡ putTwo p q count lo hi keys
         → grownWith after (record { fits = true; count = count + below + above; first = p .at; last = q .at + below })
         ≡ addTwo p q lo hi (storeWith keys count)
-    two-room h first after put put-more =
+    two-room rise h after put =
         let fits : leb (count + (lacking p + lacking q)) limit ≡ true =
         le-leb (count + (lacking p + lacking q)) limit (omega (arith, lacking-le p, lacking-le q)) in
-        let laid : after ≡ putIn (raised p q) (count + lacking p) hi (putIn p count lo keys) =
-        put-more ∙ (λ i. putIn (record { at = q .at + lacks-p i; held = q .held }) (count + lacks-p i) hi (put i)) in
         rw (le-leb (p .at) (q .at) rise, fits)
-        (λ i. grown (storeWith (laid i) (count + lacks-p i + lacks-q i)) (p .at) (q .at + lacks-p i))
+        (λ i. grown (storeWith (put i) (count + lacks-p i + lacks-q i)) (p .at) (q .at + lacks-p i))
 
 -- `add_both_in`
 

@@ -60,6 +60,14 @@ lacking p = cond (p .held) 0 1
 abbrev pub putIn : Place → ℕ → ℕ → List ℕ → List ℕ
 putIn p count key keys = cond (p .held) keys (insertedAt (p .at) count key keys)
 
+-- the place q of a greater key, once the lesser one is put in at p
+abbrev pub raised : Place → Place → Place
+raised p q = record { at = q .at + lacking p; held = q .held }
+
+-- the run once both are put in at their places
+abbrev pub putTwo : Place → Place → ℕ → ℕ → ℕ → List ℕ → List ℕ
+putTwo p q count lo hi keys = putIn (raised p q) (count + lacking p) hi (putIn p count lo keys)
+
 -- ---- keys added to the store that a run of keys and a count make up
 
 abbrev pub storeWith : List ℕ → ℕ → Store
@@ -98,10 +106,6 @@ withKey p key s = storeWith (putIn p (s .count) key (s .keys)) (s .count + lacki
 -- one key added, at p
 abbrev pub addOne : Place → ℕ → Store → Grown
 addOne p key s = cond (room (s .count) (lacking p)) (grown (withKey p key s) (p .at) (p .at)) (unfit s)
-
--- the place q of a greater key, once the lesser one is put in at p
-abbrev pub raised : Place → Place → Place
-raised p q = record { at = q .at + lacking p; held = q .held }
 
 -- Do two keys fit, the lesser one at p and the greater one at q? There is room, and p does not come after q, as it would where lo is above hi.
 abbrev pub fitTwo : Place → Place → ℕ → Bool

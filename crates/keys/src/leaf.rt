@@ -2,7 +2,7 @@
 use crate::store::Store;
 ghost use mathlib.Core.Path.{_≡_};
 ghost use mathlib.Core.Bool.{true, cond};
-ghost use Prim.Native.Nat.{_≤_, _<_, _+_, _*_, _^_};
+ghost use Prim.Native.Nat.{_≤_, _<_, _+_};
 ghost use lib.ListN.{length};
 ghost use Rattle.keys.specs.Store.{limit, rising, allZero};
 ghost use Rattle.keys.specs.Lent.{halved, quarterOf, quartered, insertedAt};
@@ -47,29 +47,30 @@ fn bit(yes: bool) -> usize
     yes as usize
 }
 
-// `half` times a bit. By a shift, which stays one: the compiler turns a product or an `if` into a branch, and no processor can foresee which way a search goes.
-fn times(half: usize, bit: usize) -> usize
-    requires { ⌜ (half < 2 ^ 63) × (bit ≤ 1) ⌝ }
-    ensures { λ r. ⌜ r ≡ half * bit ⌝ }
+// One place further where the key there is at most `key`. By a sum, which stays one: the compiler turns an `if` into a branch, and no processor can foresee
+// which way a search goes.
+fn step(keys: &[u64], at: usize, key: u64) -> usize
+    requires { ⌜ at + 1 < length (now keys) ⌝ }
+    ensures { λ r. ⌜ (r ≡ halved 2 (now (keys .entry)) key at 2) × (r ≤ at + 1) ⌝ }
 {
-    (half << bit) - half
+    let next = at + 1;
+    at + bit(keys[next] <= key)
 }
 
-// The last of the `count` keys from `first` on that is at most `key`, if they rise; the first one if none is.
+// The last of the `count` keys from `first` on that is at most `key`, if they rise; the first one if none is. They are at most three, and half of two or
+// three is one.
 fn halve(keys: &[u64], first: usize, count: usize, key: u64) -> usize
-    requires { ⌜ (0 < count) × (first + count ≤ length (now keys)) ⌝ }
+    requires { ⌜ (0 < count) × (count < 4) × (first + count ≤ length (now keys)) ⌝ }
     ensures { λ r. ⌜ r ≡ halved count (now (keys .entry)) key first count ⌝ }
 {
-    let mut base = first;
-    let mut size = count;
-    while 1 < size {
-        let half = size / 2;
-        let mid = base + half;
-        let up = bit(keys[mid] <= key);
-        base += times(half, up);
-        size -= half;
+    if count < 2 {
+        return first;
     }
-    base
+    let second = step(keys, first, key);
+    if count < 3 {
+        return second;
+    }
+    step(keys, second, key)
 }
 
 // Which of four quarters is kept, of `width` keys each from `base` on: as many of the last three as begin with a key that is at most `key`.
@@ -111,4 +112,26 @@ pub(crate) fn put(keys: &mut [u64; Store::LIMIT], at: usize, count: usize, key: 
         i -= 1;
     }
     keys[at] = key;
+}
+
+// Puts two keys in, the lesser one at `lower` and the greater one at `upper`: the keys from there to the count move up by two, those between by one. No key
+// moves twice.
+pub(crate) fn put_both(
+    keys: &mut [u64; Store::LIMIT],
+    lower: usize,
+    upper: usize,
+    count: usize,
+    lo: u64,
+    hi: u64,
+)
+    requires { ⌜ (lower ≤ upper) × (upper ≤ count) × (count + 1 < limit) × (length (now keys) ≡ limit) ⌝ }
+    ensures { λ r. ⌜ now (keys .exit) ≡ insertedAt (upper + 1) (count + 1) hi (insertedAt lower count lo (now (keys .entry))) ⌝ }
+{
+    let mut i = count;
+    while upper < i {
+        keys[i + 1] = keys[i - 1];
+        i -= 1;
+    }
+    keys[upper + 1] = hi;
+    put(keys, lower, upper, lo);
 }

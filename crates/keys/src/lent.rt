@@ -2,6 +2,7 @@
 // Each is total, and says by a definition of specs/Lent what it does to any content.
 use crate::leaf::blank;
 use crate::leaf::put;
+use crate::leaf::put_both;
 use crate::leaf::quarter;
 use crate::leaf::rises;
 use crate::store::Store;
@@ -9,7 +10,7 @@ ghost use mathlib.Core.Path.{_≡_};
 ghost use Prim.Native.Nat.{_+_, _≤_};
 ghost use lib.ListN.{length};
 ghost use Rattle.keys.specs.Store.{limit};
-ghost use Rattle.keys.specs.Lent.{orderedIn, placeIn, lacking, putIn, storeWith, grownWith, noRoom, addTwo, addIn, addBothIn};
+ghost use Rattle.keys.specs.Lent.{orderedIn, placeIn, lacking, putIn, putTwo, storeWith, grownWith, noRoom, addTwo, addIn, addBothIn};
 
 // Where a key stands, or would stand.
 pub struct Place {
@@ -113,6 +114,29 @@ pub fn add_in(keys: &mut [u64; Store::LIMIT], count: usize, key: u64) -> Added
     }
 }
 
+// Puts two keys in at their places, unless they are held: the lesser one at `lower` and the greater one at `upper`.
+fn put_two(
+    keys: &mut [u64; Store::LIMIT],
+    lower: Place,
+    upper: Place,
+    count: usize,
+    lo: u64,
+    hi: u64,
+)
+    requires { ⌜ (lower .at ≤ upper .at) × (upper .at ≤ count) × (count + (lacking lower + lacking upper) ≤ limit) × (length (now keys) ≡ limit) ⌝ }
+    ensures { λ r. ⌜ now (keys .exit) ≡ putTwo lower upper count lo hi (now (keys .entry)) ⌝ }
+{
+    if lower.held {
+        put_in(keys, upper, count, hi);
+        return;
+    }
+    if upper.held {
+        put_in(keys, lower, count, lo);
+        return;
+    }
+    put_both(keys, lower.at, upper.at, count, lo, hi);
+}
+
 // Enters two keys, the lesser one at `lower` and the greater one at `upper`.
 fn add_two(
     keys: &mut [u64; Store::LIMIT],
@@ -125,24 +149,18 @@ fn add_two(
     requires { ⌜ (lower .at ≤ count) × (upper .at ≤ count) × (length (now keys) ≡ limit) ⌝ }
     ensures { λ r. ⌜ grownWith (now (keys .exit)) r ≡ addTwo lower upper lo hi (storeWith (now (keys .entry)) count) ⌝ }
 {
-    if upper.at < lower.at {
-        return no_room(count);
-    }
     let below = lacks(lower);
     let above = lacks(upper);
     let most = Store::LIMIT - (below + above);
     if most < count {
         return no_room(count);
     }
-    put_in(keys, lower, count, lo);
+    if upper.at < lower.at {
+        return no_room(count);
+    }
+    put_two(keys, lower, upper, count, lo, hi);
     let last = upper.at + below;
-    let raised = Place {
-        at: last,
-        held: upper.held,
-    };
-    let grown = count + below;
-    put_in(keys, raised, grown, hi);
-    let total = grown + above;
+    let total = count + below + above;
     Added {
         fits: true,
         count: total,
