@@ -1,8 +1,9 @@
 -- What is left of a run computes the sum: the laws of the loops of src/sums.rt, how a turn goes on and what the sum is where it stops. Assumes nothing.
 use mathlib.Core.Path.{_≡_, sym, _∙_}
 use mathlib.Core.List.{List}
-use Prim.Native.Nat.{ℕ, _+_, _≤_, _<_}
+use Prim.Native.Nat.{ℕ, _+_, _-_, _≤_, _<_}
 use native.Mathlib.Numerals.{add-one}
+use native.Mathlib.Omega.{arith}
 use lib.Bits.{bitXor, xor-zero-l, xor-zero-r}
 use lib.ListN.{length, drop, getD, drop-of-length-le}
 use lib.Seq.{drop-cons}
@@ -18,3 +19,14 @@ module _ (l : List ℕ) (sum i : ℕ) (e : xorAll l ≡ bitXor sum (xorAll (drop
 
   pub xor-all : length l ≤ i → sum ≡ xorAll l
   xor-all h = rw (e, drop-of-length-le l, xor-zero-r)
+
+-- where one key is left, or two
+module _ (l : List ℕ) (sum i : ℕ) (e : xorAll l ≡ bitXor sum (xorAll (drop i l))) (inside : i < length l) where
+  pub xor-last : length l - 1 ≡ i → bitXor sum (getD l i 0) ≡ xorAll l
+  xor-last f = xor-all l (bitXor sum (getD l i 0)) (i + 1) (xor-on l sum i e inside) (omega arith)
+
+  pub xor-last-two : (length l - 1 ≡ i → ⊥) → length l ≤ i + 2 → bitXor (bitXor sum (getD l i 0)) (getD l (length l - 1) 0) ≡ xorAll l
+  xor-last-two f g =
+      let end : length l - 1 ≡ i + 1 = omega arith in
+      let next = xor-on l (bitXor sum (getD l i 0)) (i + 1) (xor-on l sum i e inside) (omega arith) in
+      rw end (xor-all l (bitXor (bitXor sum (getD l i 0)) (getD l (i + 1) 0)) (i + 1 + 1) next (omega arith))

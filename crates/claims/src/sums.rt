@@ -1,6 +1,6 @@
 // The XOR of keys, over a lent run of them.
 ghost use mathlib.Core.Path.{_≡_};
-ghost use Prim.Native.Nat.{_≤_};
+ghost use Prim.Native.Nat.{_≤_, _<_, _+_};
 ghost use lib.ListN.{length};
 ghost use Rattle.claims.specs.Claim.{xorAll};
 
@@ -23,9 +23,10 @@ pub(crate) struct Sums {
     pub(crate) other: u64,
 }
 
-// The XOR of all keys of each of two runs, of which the other is no longer than the one: side by side, since neither sum waits for the other.
+// The XOR of all keys of each of two runs, of which the one is longer by one key or two: side by side, since neither sum waits for the other. The last of
+// them are no loop, and no `if` reads a key: how many they are can't be foreseen.
 pub(crate) fn sums_of(one: &[u64], other: &[u64]) -> Sums
-    requires { ⌜ length (now other) ≤ length (now one) ⌝ }
+    requires { ⌜ (length (now other) < length (now one)) × (length (now one) ≤ length (now other) + 2) ⌝ }
     ensures { λ r. ⌜ (r .one ≡ xorAll (now (one .entry))) × (r .other ≡ xorAll (now (other .entry))) ⌝ }
 {
     let mut a = 0;
@@ -36,9 +37,17 @@ pub(crate) fn sums_of(one: &[u64], other: &[u64]) -> Sums
         b = b ^ other[i];
         i += 1;
     }
-    while i < one.len() {
-        a = a ^ one[i];
-        i += 1;
+    let next = one[i];
+    let end = one.len() - 1;
+    let last = one[end];
+    if end == i {
+        return Sums {
+            one: a ^ next,
+            other: b,
+        };
     }
-    Sums { one: a, other: b }
+    Sums {
+        one: a ^ next ^ last,
+        other: b,
+    }
 }

@@ -1,9 +1,9 @@
 // A round on flat words, for callers with plain parameters. The lent records are the queue itself: those before `head` are delivered, those from
 // `head` to `tail` wait. Question 1 is put once to each store, and no store is copied for a delivery.
 use crate::record::RECORD;
-use crate::record::claim_in;
 use crate::record::put_answer;
 use crate::record::put_record;
+use claims::claim_at;
 use claims::make_in;
 use claims::reply_in;
 use keys::Store;
@@ -98,7 +98,7 @@ fn deliver(
 {
     let at = head * RECORD;
     let sender = words[at];
-    let claim = claim_in(words, head);
+    let claim = claim_at(words, at + 1);
     if sender == 0 {
         let told = reply_in(right, right_count, claim);
         let answer = told.answer;

@@ -7,7 +7,7 @@ use denote.Ref.{now}
 use lib.Bits.{bitXor}
 use lib.ListN.{length, drop}
 use Rattle.claims.specs.Claim.{xorAll}
-use Rattle.claims.proofs.SumsPaths.{xor-none, xor-on, xor-all}
+use Rattle.claims.proofs.SumsPaths.{xor-none, xor-on, xor-all, xor-last, xor-last-two}
 use Rattle.claims.proofs.sums.sums_of.Statement.{statement}
 use Rattle.claims.proofs.sums.sums_of.Tie as tie
 
@@ -18,34 +18,28 @@ Inv-loop one other a₀ b₀ i₀ a b i =
 abbrev μ-loop : tie.MeasureT-loop
 μ-loop one other a₀ b₀ i₀ a b i = length other - i
 
-abbrev Inv-loop2 : tie.InvT-loop2
-Inv-loop2 one other b a₀ i₀ a i = (i ≤ length one) × (xorAll one ≡ bitXor a (xorAll (drop i one)))
-
-abbrev μ-loop2 : tie.MeasureT-loop2
-μ-loop2 one other b a₀ i₀ a i = length one - i
-
-loop-holds : tie.Need-loop-holds Inv-loop μ-loop Inv-loop2 μ-loop2
+loop-holds : tie.Need-loop-holds Inv-loop μ-loop
 loop-holds c = (search needs, xor-none (now (c .args .one)), xor-none (now (c .args .other)))
 
-mul-a : tie.Need-mul-a Inv-loop μ-loop Inv-loop2 μ-loop2
+mul-a : tie.Need-mul-a Inv-loop μ-loop
 mul-a c = search needs
 
-shared-slice-read-a : tie.Need-shared-slice-read-a Inv-loop μ-loop Inv-loop2 μ-loop2
+shared-slice-read-a : tie.Need-shared-slice-read-a Inv-loop μ-loop
 shared-slice-read-a c = search needs
 
-mul-b : tie.Need-mul-b Inv-loop μ-loop Inv-loop2 μ-loop2
+mul-b : tie.Need-mul-b Inv-loop μ-loop
 mul-b c = search needs
 
-shared-slice-read-b : tie.Need-shared-slice-read-b Inv-loop μ-loop Inv-loop2 μ-loop2
+shared-slice-read-b : tie.Need-shared-slice-read-b Inv-loop μ-loop
 shared-slice-read-b c = search needs
 
-add-i : tie.Need-add-i Inv-loop μ-loop Inv-loop2 μ-loop2
+add-i : tie.Need-add-i Inv-loop μ-loop
 add-i c = search needs
 
-loop-less : tie.Need-loop-less Inv-loop μ-loop Inv-loop2 μ-loop2
+loop-less : tie.Need-loop-less Inv-loop μ-loop
 loop-less c = search needs
 
-loop-again : tie.Need-loop-again Inv-loop μ-loop Inv-loop2 μ-loop2
+loop-again : tie.Need-loop-again Inv-loop μ-loop
 loop-again c =
     let t = c .before .before in
     let s = t .before in
@@ -56,26 +50,38 @@ loop-again c =
       xor-on (now (s .before .args .other)) (s .loop .b) (s .loop .i) (s .loop .inv .2) (omega arith),
     )
 
-loop2-holds : tie.Need-loop2-holds Inv-loop μ-loop Inv-loop2 μ-loop2
-loop2-holds c = search (needs)
+mul-next : tie.Need-mul-next Inv-loop μ-loop
+mul-next c = search needs
 
-mul-a-2 : tie.Need-mul-a-2 Inv-loop μ-loop Inv-loop2 μ-loop2
-mul-a-2 c = search needs
+shared-slice-read-next : tie.Need-shared-slice-read-next Inv-loop μ-loop
+shared-slice-read-next c = search needs
 
-shared-slice-read-a-2 : tie.Need-shared-slice-read-a-2 Inv-loop μ-loop Inv-loop2 μ-loop2
-shared-slice-read-a-2 c = search needs
+sub-end : tie.Need-sub-end Inv-loop μ-loop
+sub-end c = search needs
 
-add-i-2 : tie.Need-add-i-2 Inv-loop μ-loop Inv-loop2 μ-loop2
-add-i-2 c = search needs
+mul-last : tie.Need-mul-last Inv-loop μ-loop
+mul-last c = search needs
 
-loop2-less : tie.Need-loop2-less Inv-loop μ-loop Inv-loop2 μ-loop2
-loop2-less c = search needs
+shared-slice-read-last : tie.Need-shared-slice-read-last Inv-loop μ-loop
+shared-slice-read-last c = search needs
 
-loop2-again : tie.Need-loop2-again Inv-loop μ-loop Inv-loop2 μ-loop2
-loop2-again c = search (needs, xor-on)
+returns : tie.Need-returns Inv-loop μ-loop
+returns c =
+    let over = c .before .before .before in
+    let s = over .before in
+    let p = s .before .pre in (
+      xor-last (now (s .before .args .one)) (s .loop .a) (s .loop .i) (s .loop .inv .1) (omega arith) (c .if1 .taken),
+      xor-all (now (s .before .args .other)) (s .loop .b) (s .loop .i) (s .loop .inv .2) (omega arith),
+    )
 
-returns : tie.Need-returns Inv-loop μ-loop Inv-loop2 μ-loop2
-returns c = search (needs, xor-all)
+returns-2 : tie.Need-returns-2 Inv-loop μ-loop
+returns-2 c =
+    let over = c .before .before .before in
+    let s = over .before in
+    let p = s .before .pre in (
+      xor-last-two (now (s .before .args .one)) (s .loop .a) (s .loop .i) (s .loop .inv .1) (omega arith) (c .if1 .left) (omega arith),
+      xor-all (now (s .before .args .other)) (s .loop .b) (s .loop .i) (s .loop .inv .2) (omega arith),
+    )
 
 pub sums-of-spec : {M : Type 1} → statement M
 sums-of-spec =
@@ -83,8 +89,6 @@ sums-of-spec =
     (tie.spec
     Inv-loop
     μ-loop
-    Inv-loop2
-    μ-loop2
     loop-holds
     mul-a
     shared-slice-read-a
@@ -93,10 +97,10 @@ sums-of-spec =
     add-i
     loop-less
     loop-again
-    loop2-holds
-    mul-a-2
-    shared-slice-read-a-2
-    add-i-2
-    loop2-less
-    loop2-again
-    returns)
+    mul-next
+    shared-slice-read-next
+    sub-end
+    mul-last
+    shared-slice-read-last
+    returns
+    returns-2)

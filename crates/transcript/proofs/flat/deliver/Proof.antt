@@ -13,8 +13,11 @@ mul-sender c = search needs
 slice-read-sender : tie.Need-slice-read-sender
 slice-read-sender c = search needs
 
-claim-in-requires : tie.Need-claim-in-requires
-claim-in-requires c κs = search needs
+add-claim-at : tie.Need-add-claim-at
+add-claim-at c = search needs
+
+claim-at-requires : tie.Need-claim-at-requires
+claim-at-requires c κs = search needs
 
 reply-in-requires : tie.Need-reply-in-requires
 reply-in-requires c κs = search needs
@@ -47,7 +50,8 @@ deliver-spec =
     mul-at
     mul-sender
     slice-read-sender
-    claim-in-requires
+    add-claim-at
+    claim-at-requires
     reply-in-requires
     put-answer-requires
     same-length
