@@ -4,7 +4,9 @@ mod answer;
 mod digits;
 mod page;
 mod run;
+mod timed;
 
 pub use answer::Rehearsed;
 pub use page::rehearse_text;
 pub use run::rehearse;
+pub use timed::minutefrost_timed_round;

@@ -52,9 +52,10 @@ pub fn print_head() {
     println!(
         "\"Rattle\" is the archive, called through `minutefrost`; \"second\" is the second program, plain Rust of \
          the same call, in the same process. Both run in turns on the same bytes and must give the same. Each row is of 32 \
-         cases one after the other, alike but for their keys, so that no processor learns where the searches go. A time \
-         is the best of 210 turns of at least 0.25 ms; the ratio is best to best. The spread has the lowest and the \
-         highest ratio of 7 runs of 30 turns each: a busy machine widens it."
+         cases one after the other, 128 of a round, alike but for their keys, so that no processor learns where the \
+         searches go. A turn goes over all of them, as often as fills 0.25 ms. A time is the best turn of all; the ratio \
+         is best to best. The spread has the lowest and the highest ratio of 7 runs of 3 to 30 turns: a busy machine \
+         widens it."
     );
     println!();
     println!(

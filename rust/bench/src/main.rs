@@ -1,15 +1,20 @@
 //! How long the proved calls take, as ratios to the second program's, which
-//! is plain Rust of the same calls: `cargo run --release -p bench`.
+//! is plain Rust of the same calls: `cargo run --release -p bench`. With the
+//! words `against FOLDER`: as ratios to those of another checkout.
 //!
 //! What is printed is docs/BENCHMARK.md. A measurement and no test: nothing
 //! fails by being slow, but both programs must give the same bytes.
 
+mod against;
 mod cases;
+mod library;
 mod machine;
 mod round;
 mod timing;
 
 use std::hint::black_box;
+use std::path::Path;
+use std::process::ExitCode;
 
 use cases::{Buffers, Case, Pair};
 use minutefrost::Refusal;
@@ -37,7 +42,26 @@ const CALLS: [Timed; 4] = [
     ("count", count),
 ];
 
-fn main() {
+fn main() -> ExitCode {
+    let words: Vec<String> = std::env::args().skip(1).collect();
+    let words: Vec<&str> = words.iter().map(String::as_str).collect();
+    match words[..] {
+        [] => print_report(),
+        ["against", before] => {
+            if let Err(why) = against::print(Path::new(before)) {
+                eprintln!("bench: {why}");
+                return ExitCode::FAILURE;
+            }
+        }
+        _ => {
+            eprintln!("bench: no words, or `against` and the folder of another checkout");
+            return ExitCode::FAILURE;
+        }
+    }
+    ExitCode::SUCCESS
+}
+
+fn print_report() {
     machine::print_head();
     print_full();
     print_calls();
@@ -60,6 +84,7 @@ fn in_turns(
     }
     let (mut next, mut other_next) = (cases.iter().cycle(), cases.iter().cycle());
     compare(
+        cases.len(),
         || {
             let case = next.next().expect("a cycle");
             black_box((rattle(case, &mut one), &one));
@@ -248,7 +273,7 @@ fn print_growth() {
         for (call, timed) in CALLS {
             for n in [16, 32, 64, 128, 256, 512, 1_024] {
                 let times = timed(&cases::heard(n, 0, pending));
-                let [rattle, second] = [times.rattle, times.second].map(|time| time / n as f64);
+                let [rattle, second] = [times.time, times.base].map(|time| time / n as f64);
                 println!("| {n} | {pending} | {call} | {times} | {rattle:.2} | {second:.2} |");
             }
         }

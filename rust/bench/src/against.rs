@@ -1,0 +1,103 @@
+//! The calls of this checkout against those of another, in one process:
+//! `cargo run --release -p bench -- against FOLDER`. In both `rt staticlib
+//! host` and `rt staticlib rehearsal` have been run.
+//!
+//! Where code happens to stand in memory moves a time by some hundredths. So
+//! each archive is loaded at four places, and the best of them counts.
+
+use std::hint::black_box;
+use std::io;
+use std::path::Path;
+
+use crate::cases::{self, Buffers, Case};
+use crate::library::{Host, PLACES, TimedRound, own};
+use crate::round;
+use crate::timing::{Compared, compare, compare_beyond};
+use crate::{RULE, TABLE, differences};
+
+const CELLS: &str = "now, ns | before, ns | ratio | spread";
+
+/// A host call by its name, and how it is made.
+type Called = (&'static str, fn(Host, &Case, &mut Buffers) -> i64);
+
+/// The first two every checkout has.
+const CALLS: [Called; 4] = [
+    ("take_frame", |host, case, out| {
+        host.take_frame(&case.image, &case.frame, &mut out.image)
+    }),
+    ("beat", |host, case, out| {
+        host.beat(&case.image, &mut out.image, &mut out.frames)
+    }),
+    ("enter", |host, case, out| {
+        host.enter(&case.image, case.key, &mut out.image)
+    }),
+    ("count", |host, case, _| host.count(&case.image)),
+];
+
+/// What is timed of this checkout and of the one before, at one place.
+type Two<T> = [T; 2];
+
+fn loaded<T>(before: &Path, of: fn(&Path, usize) -> io::Result<T>) -> io::Result<Vec<Two<T>>> {
+    let both = PLACES.map(|up| Ok([of(&own(), up)?, of(before, up)?]));
+    both.into_iter().collect()
+}
+
+pub fn print(before: &Path) -> io::Result<()> {
+    print_host(&loaded(before, Host::of)?);
+    print_rounds(&loaded(before, TimedRound::of)?);
+    Ok(())
+}
+
+/// The measurements at all places, as one.
+fn at_all_places<T: Copy>(places: &[Two<T>], timed: impl Fn(Two<T>) -> Compared) -> Compared {
+    let times = places.iter().map(|both| timed(*both));
+    times.reduce(Compared::with).expect("there are places")
+}
+
+/// One call by both, in turns.
+fn in_turns(cases: &[Case], (_, call): Called, hosts: Two<Host>) -> Compared {
+    let [now, before] = hosts.map(|host| {
+        let mut next = cases.iter().cycle();
+        let mut out = Buffers::new();
+        move || {
+            let case = next.next().expect("a cycle");
+            black_box((call(host, case, &mut out), &out));
+        }
+    });
+    compare(cases.len(), now, before)
+}
+
+fn print_host(places: &[Two<Host>]) {
+    println!("| Union | Differing | Pending | Call | {CELLS} |");
+    println!("|---:|---:|---:|---|{RULE}|");
+    let all = places.iter().flatten().all(Host::has_enter_and_count);
+    let calls = if all { 4 } else { 2 };
+    for (union, differing) in differences() {
+        for pending in [0, TABLE] {
+            let cases = cases::heard(union, differing, pending);
+            let pending = cases[0].pending;
+            for call in &CALLS[..calls] {
+                let times = at_all_places(places, |both| in_turns(&cases, *call, both));
+                println!(
+                    "| {union} | {differing} | {pending} | {} | {times} |",
+                    call.0
+                );
+            }
+        }
+    }
+    println!();
+}
+
+fn print_rounds(places: &[Two<TimedRound>]) {
+    println!("| Union | Differing | Deliveries | {CELLS} |");
+    println!("|---:|---:|---:|{RULE}|");
+    for (union, differing) in differences() {
+        let cases = round::row(union, differing);
+        let deliveries = round::deliveries(&cases, &places[0][..1]);
+        let both = |program| [false, true].map(|refused| round::proved(&cases, program, refused));
+        let times = at_all_places(places, |[now, before]| {
+            compare_beyond(cases.len(), both(now), both(before))
+        });
+        println!("| {union} | {differing} | {deliveries:.0} | {times} |");
+    }
+}
