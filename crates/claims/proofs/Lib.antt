@@ -13,7 +13,6 @@
 --   ClaimPaths    src/claim.rt
 --   SumsPaths     src/sums.rt
 --   LentPaths     src/lent.rt
---   WordsPaths    src/words.rt
 --   CallsPaths    src/calls.rt
 pub mod Xor
 pub mod Between
@@ -27,5 +26,4 @@ pub mod WordsLaws
 mod ClaimPaths
 mod SumsPaths
 mod LentPaths
-mod WordsPaths
 mod CallsPaths

@@ -5,7 +5,6 @@ mod calls;
 mod claim;
 mod lent;
 mod sums;
-mod words;
 
 pub use answer::Answer;
 pub use answer::Entered;
@@ -23,5 +22,3 @@ pub use lent::answer_in;
 pub use lent::hear_in;
 pub use lent::make_in;
 pub use lent::reply_in;
-pub use words::claim_at;
-pub use words::put_claim;

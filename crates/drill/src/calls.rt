@@ -122,7 +122,7 @@ fn make(words: &mut [u64; MOST]) -> Said {
     let last = get(words, card::SECOND) as usize;
     let made = claims::make(store, first, last);
     let claim = made.claim;
-    claims::put_claim(words, card::CLAIMS, claim);
+    words::put_claim(words, card::CLAIMS, claim);
     Said {
         made: true,
         number: made.number,
@@ -148,8 +148,8 @@ fn put_told(words: &mut [u64; MOST], answer: Answer) -> Said {
     let parts = parts_of(answer);
     let one = parts.2;
     let two = parts.3;
-    claims::put_claim(words, card::CLAIMS + Claim::WORDS, one);
-    claims::put_claim(words, card::CLAIMS + 2 * Claim::WORDS, two);
+    words::put_claim(words, card::CLAIMS + Claim::WORDS, one);
+    words::put_claim(words, card::CLAIMS + 2 * Claim::WORDS, two);
     Said {
         made: true,
         number: parts.0,
@@ -159,7 +159,7 @@ fn put_told(words: &mut [u64; MOST], answer: Answer) -> Said {
 
 fn reply(words: &mut [u64; MOST]) -> Said {
     let store = card::store_at(words, card::LEFT);
-    let claim = claims::claim_at(words, card::CLAIMS);
+    let claim = words::claim_at(words, card::CLAIMS);
     let replied = claims::reply(store, claim);
     let after = replied.store;
     let answer = replied.answer;
@@ -168,7 +168,7 @@ fn reply(words: &mut [u64; MOST]) -> Said {
 }
 
 fn judge(words: &[u64; MOST]) -> Said {
-    let claim = claims::claim_at(words, card::CLAIMS);
+    let claim = words::claim_at(words, card::CLAIMS);
     Said {
         made: true,
         number: claims::judge(claim),
@@ -178,7 +178,7 @@ fn judge(words: &[u64; MOST]) -> Said {
 
 fn take(words: &mut [u64; MOST]) -> Said {
     let node = card::node_in(words);
-    let claim = claims::claim_at(words, card::CLAIMS);
+    let claim = words::claim_at(words, card::CLAIMS);
     let taken = nodes::take(node, claim);
     let after = taken.node;
     card::put_node(words, after);
@@ -248,7 +248,7 @@ fn round_record(words: &mut [u64; MOST]) -> Said {
     let met = recorded.met;
     let delivery = recorded.delivery;
     let claim = delivery.claim;
-    claims::put_claim(words, card::CLAIMS, claim);
+    words::put_claim(words, card::CLAIMS, claim);
     put(words, card::CLAIMS + Claim::WORDS, delivery.sender as u64);
     put_met(words, met)
 }

@@ -4,9 +4,9 @@ use crate::raw::get;
 use crate::raw::put;
 use claims::Claim;
 use claims::Store;
-use claims::claim_at;
-use claims::put_claim;
 use rule::Node;
+use words::claim_at;
+use words::put_claim;
 ghost use Prim.Native.Nat.{_≤_};
 
 // The number and count of the answer, both arguments.

@@ -1,12 +1,12 @@
 // A beat, and the claims that it sends in frames.
 use beats::beat_in;
 use claims::Claim;
-use claims::claim_at;
 use keys::capped;
 use rule::Node;
 use wire::Framed;
 use wire::write_frame;
 use wire::write_image_in;
+use words::claim_at;
 ghost use mathlib.Core.Path.{_≡_};
 ghost use mathlib.Core.Bool.{true};
 ghost use Prim.Native.Nat.{_+_, _*_, _≤_};

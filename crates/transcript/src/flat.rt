@@ -3,12 +3,12 @@
 use crate::record::RECORD;
 use crate::record::put_answer;
 use crate::record::put_record;
-use claims::claim_at;
 use claims::make_in;
 use claims::reply_in;
 use keys::Store;
 use keys::ordered_in;
 use rule::Met;
+use words::claim_at;
 ghost use mathlib.Core.Path.{_≡_};
 ghost use mathlib.Core.Bool.{true};
 ghost use Prim.Native.Nat.{_≤_, _<_};

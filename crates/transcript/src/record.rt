@@ -1,9 +1,9 @@
 // Records of a transcript in a lent run of words, one after the other: the sender, then the claim. Each function is total.
 use claims::Answer;
 use claims::Claim;
-use claims::claim_at;
-use claims::put_claim;
 use rule::Delivery;
+use words::claim_at;
+use words::put_claim;
 ghost use mathlib.Core.Path.{_≡_};
 ghost use Prim.Native.Nat.{_<_, _/_};
 ghost use Rattle.claims.specs.Reply.{claimsOf};

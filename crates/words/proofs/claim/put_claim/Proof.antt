@@ -1,10 +1,10 @@
--- `claims::words::put_claim` meets its contract. Assumes nothing.
+-- `words::claim::put_claim` meets its contract. Assumes nothing.
 use native.Mathlib.Omega.{arith}
 use borrow.Author.Needs.{needs}
 use lib.ListN.{length-set}
-use Rattle.claims.proofs.WordsPaths.{put-few, put-past, put-some}
-use Rattle.claims.proofs.words.put_claim.Statement.{statement}
-use Rattle.claims.proofs.words.put_claim.Tie as tie
+use Rattle.words.proofs.ClaimPaths.{put-few, put-past, put-some}
+use Rattle.words.proofs.claim.put_claim.Statement.{statement}
+use Rattle.words.proofs.claim.put_claim.Tie as tie
 
 returns : tie.Need-returns
 returns c = search (needs, put-few)

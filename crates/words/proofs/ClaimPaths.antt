@@ -1,14 +1,14 @@
--- A claim in a lent run of words (src/words.rt): one law for each way that the code goes, over the definitions of specs/Words. What these mean is in
--- WordsLaws. Assumes nothing.
+-- A claim in a lent run of words (src/claim.rt): one law for each way that the code goes, over the definitions of `claims`, specs/Words. What these mean is
+-- in its WordsLaws. Assumes nothing.
 use mathlib.Core.Path.{_≡_, sym}
 use mathlib.Core.List.{List}
 use Prim.Native.Nat.{ℕ, _+_, _-_, _%_, _≤_, _<_}
 use native.Mathlib.Omega.{arith}
 use lib.ListN.{length, getD, set}
 use Rattle.claims.specs.declared.claim.Claim.{Claim}
 use Rattle.claims.specs.Claim.{noClaim}
 use Rattle.claims.specs.Words.{claimWidth, claimAt, putClaim}
 use Rattle.claims.proofs.WordsLaws.{claimAt-past, claimAt-word, putClaim-past, putClaim-set}
 
 -- too few words at all, or too few from the place on
 module _ (words : List ℕ) (at : ℕ) where

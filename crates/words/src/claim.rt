@@ -1,8 +1,8 @@
 // A claim in a lent run of words, one word to a field: lo, hi, sum, cnt. Each function is total. That a claim's words fit from a place on is asked by a
 // difference: the place and their number could be more than a number holds.
-use crate::claim::Claim;
+use claims::Claim;
 ghost use mathlib.Core.Path.{_≡_};
 ghost use Rattle.claims.specs.Words.{claimAt, putClaim};
 
 // The claim at a place, and zeros where the words end before it does. Of its count the low 16 bits are read.
 pub fn claim_at(words: &[u64], at: usize) -> Claim

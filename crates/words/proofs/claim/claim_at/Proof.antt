@@ -1,8 +1,8 @@
--- `claims::words::claim_at` meets its contract. Assumes nothing.
+-- `words::claim::claim_at` meets its contract. Assumes nothing.
 use borrow.Author.Needs.{needs}
-use Rattle.claims.proofs.WordsPaths.{read-few, read-past, read-some}
-use Rattle.claims.proofs.words.claim_at.Statement.{statement}
-use Rattle.claims.proofs.words.claim_at.Tie as tie
+use Rattle.words.proofs.ClaimPaths.{read-few, read-past, read-some}
+use Rattle.words.proofs.claim.claim_at.Statement.{statement}
+use Rattle.words.proofs.claim.claim_at.Tie as tie
 
 returns : tie.Need-returns
 returns c = search (needs, read-few)
