@@ -20,7 +20,7 @@ use Rattle.claims.specs.declared.claim.Claim.{Claim}
 use Rattle.claims.specs.Question.{firstNo, settle}
 use Rattle.rule.specs.declared.delivery.Delivery.{Delivery}
 use Rattle.rule.specs.declared.answer.Met.{Met}
-use Rattle.rule.specs.Round.{union, Line, transcript}
+use Rattle.rule.specs.Round.{union, Line, Run, transcript}
 use Rattle.rule.specs.Call.{recordWidth, recordsIn, deliveryWords, roundQuestions, roundBy, met, metLent, metWords}
 use Rattle.rule.proofs.CallLaws.{RoundYes, roundQuestions-yes, met-done, met-refused, roundYes-rounded, metLent-done, metLent-refused, metWords-done}
 use Rattle.rule.proofs.Words.{length-deliveryWords}
@@ -32,7 +32,8 @@ use Rattle.rounds.proofs.Narrow.{Narrow, AllNarrow, allNarrow-getD, rou
 -- ---- a record in words
 
 module _ (words : List ℕ) (at : ℕ) where
-  pub deliveryIn-some : at < recordsIn words → (c : Claim) → c ≡ claimIn words at → record { sender = getD words (at * recordWidth) 0 % 256; claim = c } ≡ deliveryIn words at
+  pub deliveryIn-some : at < recordsIn words → (c : Claim) → c ≡ claimIn words at
+      → record { sender = getD words (at * recordWidth) 0 % 256; claim = c } ≡ deliveryIn words at
   unfolding deliveryIn
   deliveryIn-some h c e = rw (lt-ltb at (recordsIn words) h, e)
 
@@ -46,13 +47,15 @@ module _ (words : List ℕ) (records n : ℕ) (e : n ≡ frontRecords words reco
   pub length-take-front : length (take (n * recordWidth) words) ≡ n * recordWidth
   length-take-front = length-take-le (n * recordWidth) words (omega (arith, e))
 
-  pub front-met : (s t : Store) (r : Met) (after : List ℕ) → (r ≡ met s t (recordsIn (take (n * recordWidth) words))) × (after ≡ metWords s t (take (n * recordWidth) words))
+  pub front-met : (s t : Store) (r : Met) (after : List ℕ)
+      → (r ≡ met s t (recordsIn (take (n * recordWidth) words))) × (after ≡ metWords s t (take (n * recordWidth) words))
       → (r ≡ met s t (frontRecords words records)) × (after ++ drop (n * recordWidth) words ≡ frontWords s t words records)
   unfolding frontWords
   front-met s t r after h =
       let k : recordsIn (take (n * recordWidth) words) ≡ frontRecords words records = omega (arith, e, length-take-front) in (
         h .0 ∙ ap (met s t) k,
-        ap (λ (v : List ℕ). v ++ drop (n * recordWidth) words) (h .1) ∙ ap (λ (m : ℕ). metWords s t (take (m * recordWidth) words) ++ drop (m * recordWidth) words) e,
+        ap (λ (v : List ℕ). v ++ drop (n * recordWidth) words) (h .1)
+            ∙ ap (λ (m : ℕ). metWords s t (take (m * recordWidth) words) ++ drop (m * recordWidth) words) e,
       )
 
 -- ---- records stored one after the other
@@ -69,7 +72,8 @@ module _ (lent : List ℕ) where
       let all : List ℕ = putAt lent 0 (deliveryWords (done ++ (d ∷ rest))) in
       let same : length all ≡ length lent = length-over (done ++ (d ∷ rest)) lent h in
       let some : length done < recordsIn all = omega (arith, length-append done (d ∷ rest)) in
-      let byte : getD all (length done * recordWidth) 0 % 256 ≡ d .sender = let e : getD all (length done * recordWidth) 0 ≡ d .sender = sender-at done d rest lent in omega (arith, w .sender) in
+      let whole : getD all (length done * recordWidth) 0 ≡ d .sender = sender-at done d rest lent in
+      let byte : getD all (length done * recordWidth) 0 % 256 ≡ d .sender = omega (arith, w .sender) in
       sym (deliveryIn-some all (length done) some (d .claim) (sym (claim-at done d rest lent h (w .cnt))))
       ∙ (λ i. record { sender = byte i; claim = d .claim })
 
@@ -88,10 +92,12 @@ module _ (lent : List ℕ) where
       ap₂ (λ (l : List Delivery) (x : Delivery). set l n x) (copied-take ds into narrow h g n (omega arith)) read
       ∙ (ap (λ (l : List Delivery). set (take n ds ++ l) n d) (drop-cons into n noDelivery (omega arith))
       ∙ (set-at (take n ds) (getD into n noDelivery) (drop (suc n) into) d n long
-      ∙ (sym (append-snoc (take n ds) d (drop (suc n) into)) ∙ ap (λ (l : List Delivery). l ++ drop (suc n) into) (sym (take-suc ds n noDelivery (omega arith))))))
+      ∙ (sym (append-snoc (take n ds) d (drop (suc n) into))
+      ∙ ap (λ (l : List Delivery). l ++ drop (suc n) into) (sym (take-suc ds n noDelivery (omega arith))))))
 
 -- what is written to the first words is written to the words
-putAt-take : {A : Type 0} (new lent : List A) (k : ℕ) → length new ≤ k → k ≤ length lent → putAt (take k lent) 0 new ++ drop k lent ≡ putAt lent 0 new
+putAt-take : {A : Type 0} (new lent : List A) (k : ℕ) → length new ≤ k → k ≤ length lent
+    → putAt (take k lent) 0 new ++ drop k lent ≡ putAt lent 0 new
 unfolding putAt
 putAt-take new lent k h g =
     let a : length new ≤ length (take k lent) = omega (arith, length-take-le k lent g) in
@@ -128,7 +134,9 @@ module _ (s t : Store) (words : List ℕ) (long : 2 * limit ≤ recordsIn words)
   pub met-front : (n : ℕ) → met s t (frontRecords words n) ≡ met s t n
   unfolding met
   met-front n =
-      ap (λ (k : ℕ). settle k (record { number = 0; left = storeOf (roundBy s t .stores .left); right = storeOf (roundBy s t .stores .right); deliveries = length (roundBy s t .lines) })
+      let by : Run = roundBy s t in
+      ap (λ (k : ℕ).
+      settle k (record { number = 0; left = storeOf (by .stores .left); right = storeOf (by .stores .right); deliveries = length (by .lines) })
       (λ x. record { number = x; left = s; right = t; deliveries = 0 })) (roundQuestions-min s t n (recordsIn words) long)
 
   -- the records of a round that is not refused are at most so many as lent, and as there are words for
@@ -146,10 +154,14 @@ module _ (s t : Store) (words : List ℕ) (long : 2 * limit ≤ recordsIn words)
       let cut : length (take (k * recordWidth) words) ≡ k * recordWidth = length-take-front words n k refl in
       let same : recordsIn (take (k * recordWidth) words) ≡ k = omega arith in
       let fit : length (transcript (roundBy s t)) ≤ k = lines-fit n (roundQuestions-yes s t n h) in
-      ap (λ (l : List ℕ). l ++ drop (k * recordWidth) words) (metWords-done s t (take (k * recordWidth) words) (ap (λ (m : ℕ). firstNo (roundQuestions s t m)) same ∙ (roundQuestions-min s t n (recordsIn words) long ∙ h)))
-      ∙ putAt-take (deliveryWords (transcript (roundBy s t))) words (k * recordWidth) (omega (arith, length-deliveryWords (transcript (roundBy s t)))) (omega arith)
+      let yes : firstNo (roundQuestions s t (recordsIn (take (k * recordWidth) words))) ≡ 0 =
+      ap (λ (m : ℕ). firstNo (roundQuestions s t m)) same ∙ (roundQuestions-min s t n (recordsIn words) long ∙ h) in
+      ap (λ (l : List ℕ). l ++ drop (k * recordWidth) words) (metWords-done s t (take (k * recordWidth) words) yes)
+      ∙ putAt-take (deliveryWords (transcript (roundBy s t))) words (k * recordWidth)
+      (omega (arith, length-deliveryWords (transcript (roundBy s t)))) (omega arith)
 
-  met-lent-done : (lent : List Delivery) → firstNo (roundQuestions s t (length lent)) ≡ 0 → copied (met s t (length lent) .deliveries) (frontWords s t words (length lent)) lent ≡ metLent s t lent
+  met-lent-done : (lent : List Delivery) → firstNo (roundQuestions s t (length lent)) ≡ 0
+      → copied (met s t (length lent) .deliveries) (frontWords s t words (length lent)) lent ≡ metLent s t lent
   met-lent-done lent h =
       let y : RoundYes s t (length lent) = roundQuestions-yes s t (length lent) h in
       let ds : List Delivery = transcript (roundBy s t) in
@@ -158,7 +170,8 @@ module _ (s t : Store) (words : List ℕ) (long : 2 * limit ≤ recordsIn words)
       let narrow : AllNarrow (roundBy s t .lines) = round-narrow (keysOf s) (keysOf t) (inOrder-rising s (y .left)) (inOrder-rising t (y .right)) (y .fits) in
       ap₂ (λ (m : Met) (w : List ℕ). copied (m .deliveries) w lent) (met-done s t (length lent) h) (frontWords-done (length lent) h)
       ∙ (ap (λ (m : ℕ). copied m (putAt words 0 (deliveryWords ds)) lent) (sym count)
-      ∙ (copied-take words ds lent (λ n b. allNarrow-getD (roundBy s t .lines) n noDelivery narrow (omega arith)) (omega arith) (omega arith) (length ds) (omega arith)
+      ∙ (copied-take words ds lent (λ n b. allNarrow-getD (roundBy s t .lines) n noDelivery narrow (omega arith)) (omega arith) (omega arith)
+      (length ds) (omega arith)
       ∙ (ap (λ (l : List Delivery). l ++ drop (length ds) lent) (take-length ds) ∙ (sym (putAt-zero lent ds) ∙ sym (metLent-done s t lent h)))))
 
   pub met-lent : (lent : List Delivery) → copied (met s t (length lent) .deliveries) (frontWords s t words (length lent)) lent ≡ metLent s t lent

@@ -47,7 +47,8 @@ run-narrow (suc n) u p (e ∷ q) f = (
 )
 
 half-narrow : (s : End) (p : Pair) → Rises p → length (unionOf p) ≤ limit → AllNarrow (half s p .lines)
-half-narrow s p r h = subst (λ (x : Run). AllNarrow (x .lines)) (sym (half-run s p)) (run-narrow (length (unionOf p)) (unionOf p) p (opening s p) (halfway-opening s p r h .fine))
+half-narrow s p r h = subst (λ (x : Run). AllNarrow (x .lines)) (sym (half-run s p))
+    (run-narrow (length (unionOf p)) (unionOf p) p (opening s p) (halfway-opening s p r h .fine))
 
 pub round-narrow : (l r : List ℕ) → Rising l → Rising r → length (union l r) ≤ limit → AllNarrow (roundOf l r .lines)
 round-narrow l r a b h =

@@ -29,8 +29,9 @@ same-length c = search needs
 returns : tie.Need-returns
 returns c =
     let s = c .before .before .before .before .before .before in
-    front-met (now (s .args .words)) (s .args .records) (c .before .before .before .before .capped .result) (c .before .before .before .before .capped .ensures)
-    (s .args .left) (s .args .right) (c .before .before .round-words .result) (c .before .before .round-words .last .1 .1 .0) (c .before .before .round-words .ensures)
+    let n = c .before .before .before .before .capped in
+    let r = c .before .before .round-words in
+    front-met (now (s .args .words)) (s .args .records) (n .result) (n .ensures) (s .args .left) (s .args .right) (r .result) (r .last .1 .1 .0) (r .ensures)
 
 pub round-front-spec : {M : Type 1} → statement M
 round-front-spec =
