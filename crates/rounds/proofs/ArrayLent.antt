@@ -1,12 +1,12 @@
 -- A local array, for a walk by hand that lends it as a slice. It says nothing of the crate.
---     array-cells    the array's cell, with what its elements own, is the elements side by side, which is what `Denote/Lend.antt` lends
---     array-room     and back, once the loan is over: the elements are the array's room
---     repeated-are   a value n times is an array's value
---     big-lit        a constant of many digits, as the array's length, evaluates to itself
---     MutAt, ShrAt          what a borrow of them owns
---     apart                 an array's cell is the elements side by side
---     lends, takes-back     elements side by side are lent for a lifetime, and come back when it ends
---     shares-out, has-room  they are shared for one, and are the array's room when it ends
+--     array-cells               the array's cell, with what its elements own, is the elements side by side, which is what `Denote/Lend.antt` lends
+--     array-room                and back, once the loan is over: the elements are the array's room
+--     repeated-are              a value n times is an array's value
+--     big-lit                   a constant of many digits, as the array's length, evaluates to itself
+--     borrow-of, MutAt, ShrAt   a borrow of elements, and what it owns
+--     apart                     an array's cell is the elements side by side, as a step
+--     lends, takes-back         elements side by side are lent for a lifetime, and come back when it ends
+--     shares-out, has-room      they are shared for one, and are the array's room when it ends
 -- `repeated-are` assumes nothing, the others `Given`.
 use mathlib.Core.Path.{_≡_, refl, subst}
 use Prim.Native.Nat.{ℕ, zero, suc}
@@ -73,15 +73,15 @@ module _ {M : Type 1} {𝓤 : URA M} {H : Heap 𝓤} {A : Atoms 𝓤} {K : Type 
 
 -- ---- as steps of a walk, for a lifetime ν of the walk's own
 
-module _ (R : RattleType) (ν : ℕ) (ys : List (R .Denot)) (b o : ℕ) (δ : GName) where
-  abbrev borrow : RefT (List (R .Denot))
-  borrow = record { ptr = (b, o); name = δ; now = ys }
+abbrev pub borrow-of : {X : Type 0} → ℕ → ℕ → GName → List X → RefT (List X)
+borrow-of b o δ ys = record { ptr = (b, o); name = δ; now = ys }
 
+module _ (R : RattleType) (ν : ℕ) (ys : List (R .Denot)) (b o : ℕ) (δ : GName) where
   abbrev pub MutAt : Fml
-  MutAt = MutSlice (named 0) (ν ∷ []) R .own borrow (sliceVal (b, o) (length ys) ∷ [])
+  MutAt = MutSlice (named 0) (ν ∷ []) R .own (borrow-of b o δ ys) (sliceVal (b, o) (length ys) ∷ [])
 
   abbrev pub ShrAt : Lifetime → Fml
-  ShrAt ℓ = ShrSlice ℓ (ν ∷ []) R .own borrow (sliceVal (b, o) (length ys) ∷ [])
+  ShrAt ℓ = ShrSlice ℓ (ν ∷ []) R .own (borrow-of b o δ ys) (sliceVal (b, o) (length ys) ∷ [])
 
 module _ {M : Type 1} {𝓤 : URA M} {H : Heap 𝓤} {A : Atoms 𝓤} {K : Type 0} {W : Given 𝓤 H A} {Γ : List (Item 𝓤)} {G : Goal 𝓤 H} where
   module _ (t : K) (z : Soaks G) (R : RattleType) (ν : ℕ) (ys : List (R .Denot)) (b o : ℕ) where

@@ -9,6 +9,7 @@
 --     leaves, leaves-vacant       a local is freed at the end of the body
 --     owned-usize, owned-struct   what a number or a plain struct owns is had for nothing
 --     word-typed, slice-typed     a number below 2 ^ 64, and a pointer with a count, are values of their types
+--     struct-typed                and so is a struct's machine value
 -- Assumes `Given`.
 use mathlib.Core.Path.{_≡_, refl, sym, ap, subst}
 use Prim.Native.Nat.{ℕ, zero, suc, _+_, _<_, _^_}
@@ -63,6 +64,10 @@ word-typed fits = (tt, record { fits = fits })
 pub slice-typed : {n : ℕ} → n < 2 ^ 64 → Unit {0} × (Unit {0} × (Fits w64 n × Unit {0}))
 slice-typed fits = (tt, (tt, (record { fits = fits }, tt)))
 
+pub struct-typed : {M : Type 1} {𝓤 : URA M} {H : Heap 𝓤} {A : Atoms 𝓤} → Given 𝓤 H A → (T : Declared) (L : LL.Laws T) (d : T .D) → Is (row T) d (LL.vals T L d)
+    → Holds (hasTy (lone (row T .mir)) (LL.val T L d)) × WT (LL.val T L d)
+struct-typed {M} {𝓤} {H} {A} W T L d is = LL.lawful T L 𝓤 H A W .typed d _ is .0
+
 -- entry n is the room of local i; v is a value of its type; and entry n holds v
 module _ {M : Type 1} (𝓤 : URA M) (H : Heap 𝓤) (A : Atoms 𝓤) (E : Env 𝓤 H) (i : ℕ) where
   abbrev pub Empty : ℕ → List (Item 𝓤) → Type 2
@@ -107,7 +112,7 @@ module _ {M : Type 1} {𝓤 : URA M} {H : Heap 𝓤} {A : Atoms 𝓤} {K : Type 
             let tells : v ∷ [] ≡ LL.vals T L d = LL.tells T L d (v ∷ []) was in
             let is : Is (row T) d (LL.vals T L d) = subst (Is (row T) d) tells was in
             let typed : Typed 𝓤 H E i (LL.val T L d) =
-            subst (λ (τ : Ty). Holds (hasTy τ (LL.val T L d)) × WT (LL.val T L d)) (sym type) (LL.lawful T L 𝓤 H A W .typed d _ is .0) in
+            subst (λ (τ : Ty). Holds (hasTy τ (LL.val T L d)) × WT (LL.val T L d)) (sym type) (struct-typed W T L d is) in
             drop t $ regoal t (λ (w : Val). lands C Λ E (place i []) w rest q) (ap only tells) refl $ land t (from t (stop t)) (init t n e typed) $ k is)
 
   module _ {E : Env 𝓤 H} {x y : Operand} {u v : Val} where

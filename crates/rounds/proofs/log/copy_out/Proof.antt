@@ -44,7 +44,6 @@ use denote.Slice.{sliceTy, sliceVal, MutSlice, ShrSlice, Room, finally, slice-va
 use denote.Lend.{Held}
 use denote.Index.{row, whole-out, whole-in, opens-slice, closes-slice}
 use denote.Steps.{heard, nothing}
-use denote.Struct.Laws as LL
 use denote.Triple.Entry.{onEntry}
 use denote.Triple.Spec.{tripleOf}
 use denote.Triple.Statement.{Contract, Triple}
@@ -58,10 +57,10 @@ use Rattle.rule.proofs.delivery.Delivery as D
 use Rattle.rule.proofs.delivery.Delivery.Laws as D′
 use Rattle.rounds.specs.Log.{deliveryIn, copied}
 use Rattle.rounds.proofs.LogLaws.{length-copied}
+use Rattle.rounds.proofs.ArrayLent.{borrow-of, MutAt, lends, takes-back}
 use Rattle.rounds.proofs.WalkSteps.{_&_, holds, vacant, local-at, part-at, two, three, Token, sets, asks-nothing, returned, lands-unit}
 use Rattle.rounds.proofs.WalkSteps.{lands-struct, leaves, leaves-vacant, owned-usize, owned-struct, word-typed, slice-typed}
-use Rattle.rounds.proofs.LogWalk.{word, delivery, records, ref-to, slice-of, coded, walked-meets}
-use Rattle.rounds.proofs.ArrayLent.{MutAt, lends, takes-back}
+use Rattle.rounds.proofs.LogWalk.{word, delivery, records, ref-to, slice-of, mach, coded, walked-meets}
 use Rattle.rounds.proofs.log.delivery_in as delivery-in
 use Rattle.rounds.proofs.log.delivery_in.Symbol as delivery-in-def
 use Rattle.rounds.proofs.log.delivery_in.Symbol.{name as #delivery-in}
@@ -106,10 +105,10 @@ module _ {M : Type 1} (𝓤 : URA M) (H : Heap 𝓤) (A : Atoms 𝓤) (W : Given
       (b o : ℕ) (γ : GName) (ys : List Delivery) (b′ o′ : ℕ) (γ′ : GName) (ws : List ℕ) (n : ℕ) where
     -- the borrow of the records at the list l, under some name, and that of the words
     abbrev x : GName → List Delivery → RefT (List Delivery)
-    x δ l = record { ptr = (b, o); name = δ; now = l }
+    x δ l = borrow-of b o δ l
 
     abbrev w : RefT (List ℕ)
-    w = record { ptr = (b′, o′); name = γ′; now = ws }
+    w = borrow-of b′ o′ γ′ ws
 
     abbrev Arg : Type 0
     Arg = RefT (List Delivery) × (RefT (List ℕ) × (ℕ × Unit {0}))
@@ -125,10 +124,6 @@ module _ {M : Type 1} (𝓤 : URA M) (H : Heap 𝓤) (A : Atoms 𝓤) (W : Given
 
     abbrev vals : List Val × (List Val × (List Val × Unit {0}))
     vals = (s ys ∷ [], (s′ ∷ [], (vint w64 n ∷ [], tt)))
-
-    -- a record's machine value
-    abbrev mach : Delivery → Val
-    mach d = LL.val D.the-type D′.the-laws d
 
     abbrev Post : Val → SProp 𝓤
     Post = walkOf 𝓤 H A copy-out.ended stayed (copy-out.clauses 𝓤 H A mem′ run) .post (((κ, (κ′, tt)), (q, (q′, tt)), bounds, a, vals), tt)

@@ -46,9 +46,10 @@ use Rattle.rule.specs.declared.delivery.Delivery.{Delivery}
 use Rattle.rule.proofs.delivery.Delivery as D
 use Rattle.rule.proofs.delivery.Delivery.Laws as D′
 use Rattle.rounds.specs.Log.{noDelivery}
+use Rattle.rounds.proofs.ArrayLent.{borrow-of}
 use Rattle.rounds.proofs.WalkSteps.{_&_, holds, vacant, local-at, part-at, two, sets, sets-last, leaves, leaves-vacant, owned-usize}
-use Rattle.rounds.proofs.WalkSteps.{owned-struct, word-typed, slice-typed}
-use Rattle.rounds.proofs.LogWalk.{word, records, coded, place-fits, none-claim, none-delivery, walked-meets}
+use Rattle.rounds.proofs.WalkSteps.{owned-struct, word-typed, slice-typed, struct-typed}
+use Rattle.rounds.proofs.LogWalk.{word, records, mach, coded, recordBytes, place-fits, none-claim, none-delivery, walked-meets}
 use Rattle.rounds.proofs.log.get.Key.{name as #get}
 use Rattle.rounds.proofs.log.get as get
 use Rattle.rounds.proofs.log.get.Statement as stated
@@ -72,17 +73,13 @@ spelled = record {
 module _ {M : Type 1} (𝓤 : URA M) (H : Heap 𝓤) (A : Atoms 𝓤) (W : Given 𝓤 H A) (mem : Memory → SProp 𝓤) (run : Routine → Fun 𝓤) where
   module _ (κ : Lft) (q : Share) (b o : ℕ) (γ : GName) (ys : List Delivery) (i : ℕ) where
     abbrev x : RefT (List Delivery)
-    x = record { ptr = (b, o); name = γ; now = ys }
+    x = borrow-of b o γ ys
 
     abbrev Arg : Type 0
     Arg = RefT (List Delivery) × (ℕ × Unit {0})
 
     abbrev a : Arg
     a = (x, (i, tt))
-
-    -- a record's machine value
-    abbrev mach : Delivery → Val
-    mach d = LL.val D.the-type D′.the-laws d
 
     abbrev s : Val
     s = sliceVal (b, o) (length ys)
@@ -98,7 +95,7 @@ module _ {M : Type 1} (𝓤 : URA M) (H : Heap 𝓤) (A : Atoms 𝓤) (W : Given
     kept Γ = ‵ (flft κ q) ∷ ‵ (fshr-bor κ (λ t. arr-parts (shares D.the-row) (length ys) .part t ys b o)) ∷ ‵ (fres γ (coded ys)) ∷ Γ
 
     typed : (d : Delivery) → Is D.the-row d (mach d ∷ []) → Holds (hasTy D′.mir (mach d)) × WT (mach d)
-    typed d gd = LL.lawful D.the-type D′.the-laws 𝓤 H A W .typed d _ gd .0
+    typed d gd = struct-typed W D.the-type D′.the-laws d gd
 
     module _ (gn : Room D.the-row (length ys)) (gi : i < 2 ^ 64) where
       exits : (d : Delivery) → Is D.the-row d (mach d ∷ []) → d ≡ getD ys i noDelivery → ent 𝓤 (⋆ 𝓤 H A (kept [])) (Post (mach d))
@@ -150,10 +147,10 @@ module _ {M : Type 1} (𝓤 : URA M) (H : Heap 𝓤) (A : Atoms 𝓤) (W : Given
             first ! $ branches ! (local-at ! 13 refl)
             (λ below.
             let within : i < length ys = ltb→lt i (length ys) below in
-            let fits : i * 40 < 2 ^ 64 = place-fits (gn .1) within in
+            let fits : i * recordBytes < 2 ^ 64 = place-fits (gn .1) within in
             sets ! (bin ! (local-at ! 17 refl) (lit ! tt) (record { fits = fits })) 9 refl (word-typed fits) $
             sets ! (bin ! (part-at ! 19 refl (sub ! 0 refl (whole !))) (local-at ! 9 refl) tt) 7 refl (tt, tt) $
-            rewrite ! 7 (λ (p : ℕ). ‵ (fat fullShare tyPtr l₇ 0 (vptr b p))) (sym (place-is 40 o i)) refl $
+            rewrite ! 7 (λ (p : ℕ). ‵ (fat fullShare tyPtr l₇ 0 (vptr b p))) (sym (place-is recordBytes o i)) refl $
             looks-slice ! tt D.the-row (Is D.the-row) (shows 𝓤 H A D.the-row) (LL.vals D.the-type D′.the-laws) (LL.tells D.the-type D′.the-laws)
             (LL.copy D.the-type D′.the-copy 𝓤 H A W) ys b o (λ q′.
             elem-out ! D.the-row (Is D.the-row) (shows 𝓤 H A D.the-row) (LL.vals D.the-type D′.the-laws) (LL.tells D.the-type D′.the-laws)
@@ -166,7 +163,7 @@ module _ {M : Type 1} (𝓤 : URA M) (H : Heap 𝓤) (A : Atoms 𝓤) (W : Given
             by ! (tail l₀ l₁ l₂ l₃ l₄ l₅ l₆ l₇ l₈ l₉ found (ltb i (length ys)) gd refl))))
             (λ past.
             sets ! (agg ! (and-then ! (lit ! tt) (and-then ! (lit ! tt) (and-then ! (lit ! tt) (and-then ! (lit ! tt) (no-more !)))))) 3 refl
-            (LL.lawful K.the-type K′.the-laws 𝓤 H A W .typed noClaim _ none-claim .0) $
+            (struct-typed W K.the-type K′.the-laws noClaim none-claim) $
             sets-last ! (agg ! (two ! (lit ! tt) (local-at ! 3 refl))) 11 refl (typed noDelivery none-delivery) $
             forget ! 3 refl $ move ! (1 ∷ 0 ∷ []) $
             by ! (tail l₀ l₁ l₂ l₃ l₄ l₅ l₆ l₇ l₈ l₉ noDelivery (ltb i (length ys)) none-delivery
