@@ -21,12 +21,10 @@ cast-t12 : tie.Need-cast-t12
 cast-t12 c = search needs
 
 returns : tie.Need-returns
-returns c =
-    let s = c .before .before .before .before in
-    deliveryIn-some (now (s .args .words)) (s .args .at) (c .before .before .if1 .taken) (c .claim-in .result) (c .claim-in .ensures)
+returns c = search (needs, deliveryIn-some)
 
 returns-2 : tie.Need-returns-2
-returns-2 c = deliveryIn-none (now (c .before .before .args .words)) (c .before .before .args .at) (c .if1 .left)
+returns-2 c = search (needs, deliveryIn-none)
 
 pub delivery-in-spec : {M : Type 1} → statement M
 delivery-in-spec =

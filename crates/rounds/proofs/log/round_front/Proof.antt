@@ -28,10 +28,11 @@ same-length c = search needs
 
 returns : tie.Need-returns
 returns c =
-    let s = c .before .before .before .before .before .before in
-    let n = c .before .before .before .before .capped in
-    let r = c .before .before .round-words in
-    front-met (now (s .args .words)) (s .args .records) (n .result) (n .ensures) (s .args .left) (s .args .right) (r .result) (r .last .1 .1 .0) (r .ensures)
+    let ran = c .before .before in
+    let cut = ran .before .before in
+    let a = cut .before .before .args in
+    let r = ran .round-words in
+    front-met (now (a .words)) (a .records) (cut .capped .result) (cut .capped .ensures) (a .left) (a .right) (r .result) (r .last .1 .1 .0) (r .ensures)
 
 pub round-front-spec : {M : Type 1} → statement M
 round-front-spec =
