@@ -50,7 +50,7 @@ module _ (keys : List ℕ) (count : ℕ) (c : Claim) where
         → hearingWith after (record { number = 0; count = a .count; first = a .first; last = a .last }) ≡ hearIn (storeWith keys count) c
     heard-added f = ap heard added ∙ sym (hearIn-fit (storeWith keys count) c (sym asked ∙ pass) (sym fits-is ∙ not-false (a .fits) f))
 
--- `inside`
+-- `within`
 
 module _ (keys : List ℕ) (count first last : ℕ) where
   pub within-fall : last < first → false ≡ within (storeWith keys count) first last
@@ -65,7 +65,7 @@ module _ (keys : List ℕ) (count first last : ℕ) where
   pub within-limit : first ≤ last → last < count → count ≤ length keys → leb count limit ≡ within (storeWith keys count) first last
   within-limit h g f = rw (le-leb first last h, lt-ltb last count g, le-leb count (length keys) f)
 
-  -- `make_in`, by what `inside` said
+  -- `make_in`, by what `within` said
 
   module _ (inside : Bool) (told : inside ≡ within (storeWith keys count) first last) where
     pub within-positions : not inside ≡ false → Positions keys first last

@@ -84,7 +84,7 @@ fn summed(claim: Claim) -> bool
 }
 
 // Whether two claims are equal in all four fields.
-pub(crate) fn alike(one: Claim, other: Claim) -> bool
+pub(crate) fn same(one: Claim, other: Claim) -> bool
     ensures { λ r. ⌜ r ≡ same one other ⌝ }
 {
     if one.lo != other.lo {

@@ -3,10 +3,10 @@
 use crate::answer::Answer;
 use crate::answer::Made;
 use crate::claim::Claim;
-use crate::claim::alike;
 use crate::claim::judge;
-use crate::sums::sum_of;
+use crate::claim::same;
 use crate::sums::sums_of;
+use crate::sums::xor_all;
 use keys::Store;
 use keys::add_both_in;
 use keys::place_in;
@@ -62,7 +62,7 @@ pub fn hear_in(keys: &mut [u64; Store::LIMIT], count: usize, claim: Claim) -> He
 }
 
 // Whether first and last are positions of the run.
-fn inside(keys: &[u64], count: usize, first: usize, last: usize) -> bool
+fn within(keys: &[u64], count: usize, first: usize, last: usize) -> bool
     ensures { λ r. ⌜ r ≡ within (storeWith (now (keys .entry)) count) first last ⌝ }
 {
     if last < first {
@@ -94,7 +94,7 @@ fn claim_at(keys: &[u64], first: usize, last: usize) -> Claim
     ensures { λ r. ⌜ r ≡ claimOf first last (now (keys .entry)) ⌝ }
 {
     let end = last + 1;
-    let sum = sum_of(&keys[first..end]);
+    let sum = xor_all(&keys[first..end]);
     claim_with(keys, first, last, sum)
 }
 
@@ -102,7 +102,7 @@ fn claim_at(keys: &[u64], first: usize, last: usize) -> Claim
 pub fn make_in(keys: &[u64], count: usize, first: usize, last: usize) -> Made
     ensures { λ r. ⌜ r ≡ makeIn (storeWith (now (keys .entry)) count) first last ⌝ }
 {
-    if !inside(keys, count, first, last) {
+    if !within(keys, count, first, last) {
         return Made {
             number: 7,
             claim: Claim::NONE,
@@ -146,7 +146,7 @@ fn answer_with(
     ensures { λ r. ⌜ r ≡ answerAt (now (keys .entry)) first last claim ⌝ }
 {
     let own = claim_with(keys, first, last, left ^ right);
-    if alike(own, claim) {
+    if same(own, claim) {
         return Answer::Match;
     }
     if own.cnt < claim.cnt {
@@ -172,7 +172,7 @@ pub fn answer_in(keys: &[u64], count: usize, claim: Claim) -> Answer
 {
     let lower = place_in(keys, count, claim.lo);
     let upper = place_in(keys, count, claim.hi);
-    if !inside(keys, count, lower.at, upper.at) {
+    if !within(keys, count, lower.at, upper.at) {
         return Answer::Refused(1);
     }
     answer_at(keys, lower.at, upper.at, claim)

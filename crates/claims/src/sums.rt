@@ -5,7 +5,7 @@ ghost use lib.ListN.{length};
 ghost use Rattle.claims.specs.Claim.{xorAll};
 
 // The XOR of all keys of a run.
-pub(crate) fn sum_of(keys: &[u64]) -> u64
+pub(crate) fn xor_all(keys: &[u64]) -> u64
     ensures { λ r. ⌜ r ≡ xorAll (now (keys .entry)) ⌝ }
 {
     let mut sum = 0;

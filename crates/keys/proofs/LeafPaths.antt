@@ -1,5 +1,5 @@
--- The leaves of src/leaf.rt. Of the loops `rises` and `blank`, in which what is left of a run computes the answer: how a turn goes on, and what the answer
--- is where it stops. Of `step` and `halve`: each way that they go. Not here: the loops that quarter and put in, each by the laws of its definition
+-- The leaves of src/leaf.rt. Of the loops `rising` and `all_zero`, in which what is left of a run computes the answer: how a turn goes on, and what the answer
+-- is where it stops. Of `step` and `halved`: each way that they go. Not here: the loops that quarter and put in, each by the laws of its definition
 -- (QuarteringLaws, PuttingLaws).
 -- Assumes nothing.
 use mathlib.Core.Path.{_≡_, refl, sym, _∙_, ap}
@@ -19,7 +19,7 @@ use Rattle.keys.specs.Lent.{halved}
 use Rattle.keys.proofs.Tests.{eq-or-ne}
 use Rattle.keys.proofs.HalvingLaws.{halved-one, halved-two, halved-three}
 
--- `rises`: the keys rise if those from i on rise from above the last one
+-- `rising`: the keys rise if those from i on rise from above the last one
 
 pub rising-none : (l : List ℕ) → length l ≡ 0 → true ≡ rising l
 rising-none [] h = refl
@@ -39,7 +39,7 @@ module _ (l : List ℕ) (k i : ℕ) (e : rising l ≡ risesFrom k (drop i l)) wh
   pub rises-all : length l ≤ i → true ≡ rising l
   rises-all h = rw (e, drop-of-length-le l)
 
--- `blank`: every place is 0 if the bits so far are none and those from i on are 0
+-- `all_zero`: every place is 0 if the bits so far are none and those from i on are 0
 
 -- two numbers together have no bits if neither has
 or-none : (a b : ℕ) → eqb (bitOr a b) 0 ≡ (eqb a 0 && eqb b 0)
@@ -65,7 +65,7 @@ step-on keys key at up e = rw (e, halved-two keys key at) (go (leb (getD keys (a
     go true = (refl, omega arith)
     go false = (omega arith, omega arith)
 
--- `halve`: of one key, of two, of three
+-- `halved`: of one key, of two, of three
 
 module _ (keys : List ℕ) (key first count : ℕ) where
   pub halve-one : count < 2 → first ≡ halved count keys key first count

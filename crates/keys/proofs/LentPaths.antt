@@ -34,9 +34,9 @@ module _ (keys : List ℕ) (count : ℕ) where
     unfolding orderedIn
     ordered-not e = rw (le-leb count limit few, le-leb count (length keys) long, ← told, not-true rises e)
 
-    pub ordered-blank : not rises ≡ false → (blank : Bool) → blank ≡ allZero (take (length keys - count) (drop count keys)) → blank ≡ orderedIn keys count
+    pub ordered-all-zero : not rises ≡ false → (blank : Bool) → blank ≡ allZero (take (length keys - count) (drop count keys)) → blank ≡ orderedIn keys count
     unfolding orderedIn
-    ordered-blank e blank looked =
+    ordered-all-zero e blank looked =
         let all : take (length keys - count) (drop count keys) ≡ drop count keys =
         take-all (length keys - count) (drop count keys) (omega (arith, length-drop count keys)) in
         looked ∙ rw (le-leb count limit few, le-leb count (length keys) long, ← told, not-false rises e, all)

@@ -8,7 +8,7 @@ ghost use Rattle.keys.specs.Store.{limit, rising, allZero};
 ghost use Rattle.keys.specs.Lent.{halved, quarterOf, quartered, insertedAt};
 
 // Whether the keys rise strictly.
-pub(crate) fn rises(keys: &[u64]) -> bool
+pub(crate) fn rising(keys: &[u64]) -> bool
     ensures { λ r. ⌜ r ≡ rising (now (keys .entry)) ⌝ }
 {
     if keys.len() == 0 {
@@ -28,7 +28,7 @@ pub(crate) fn rises(keys: &[u64]) -> bool
 }
 
 // Whether every place is 0. All are looked at, several at a time: nearly always they are.
-pub(crate) fn blank(places: &[u64]) -> bool
+pub(crate) fn all_zero(places: &[u64]) -> bool
     ensures { λ r. ⌜ r ≡ allZero (now (places .entry)) ⌝ }
 {
     let mut bits = 0;
@@ -59,7 +59,7 @@ fn step(keys: &[u64], at: usize, key: u64) -> usize
 
 // The last of the `count` keys from `first` on that is at most `key`, if they rise; the first one if none is. They are at most three, and half of two or
 // three is one.
-fn halve(keys: &[u64], first: usize, count: usize, key: u64) -> usize
+fn halved(keys: &[u64], first: usize, count: usize, key: u64) -> usize
     requires { ⌜ (0 < count) × (count < 4) × (first + count ≤ length (now keys)) ⌝ }
     ensures { λ r. ⌜ r ≡ halved count (now (keys .entry)) key first count ⌝ }
 {
@@ -86,7 +86,7 @@ fn quarter_of(keys: &[u64], base: usize, width: usize, key: u64) -> usize
 
 // The last of the first `count` keys that is at most `key`, if they rise; the first one if none is. Four ways at a time: the three keys of a turn are
 // read without waiting for each other, so there are half as many turns that wait as by halving alone. The product stays one, since `up` is no bit.
-pub(crate) fn quarter(keys: &[u64], count: usize, key: u64) -> usize
+pub(crate) fn quartered(keys: &[u64], count: usize, key: u64) -> usize
     requires { ⌜ (0 < count) × (count ≤ length (now keys)) ⌝ }
     ensures { λ r. ⌜ r ≡ quartered count (now (keys .entry)) key 0 count ⌝ }
 {
@@ -98,7 +98,7 @@ pub(crate) fn quarter(keys: &[u64], count: usize, key: u64) -> usize
         base += width * up;
         size -= 3 * width;
     }
-    halve(keys, base, size, key)
+    halved(keys, base, size, key)
 }
 
 // Puts `key` in at a place: the keys from there to the count move up by one, the last one first.

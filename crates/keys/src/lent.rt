@@ -1,10 +1,10 @@
 // The calls on a lent run of keys, for the crates above: no store is copied and question 1 is not put again.
 // Each is total, and says by a definition of specs/Lent what it does to any content.
-use crate::leaf::blank;
+use crate::leaf::all_zero;
 use crate::leaf::put;
 use crate::leaf::put_both;
-use crate::leaf::quarter;
-use crate::leaf::rises;
+use crate::leaf::quartered;
+use crate::leaf::rising;
 use crate::store::Store;
 ghost use mathlib.Core.Path.{_≡_};
 ghost use Prim.Native.Nat.{_+_, _≤_};
@@ -35,10 +35,10 @@ pub fn ordered_in(keys: &[u64], count: usize) -> bool
     if keys.len() < count {
         return false;
     }
-    if !rises(&keys[..count]) {
+    if !rising(&keys[..count]) {
         return false;
     }
-    blank(&keys[count..])
+    all_zero(&keys[count..])
 }
 
 pub fn place_in(keys: &[u64], count: usize, key: u64) -> Place
@@ -50,7 +50,7 @@ pub fn place_in(keys: &[u64], count: usize, key: u64) -> Place
     if keys.len() < count {
         return Place { at: 0, held: false };
     }
-    let at = quarter(keys, count, key);
+    let at = quartered(keys, count, key);
     let found = keys[at];
     if found < key {
         let next = at + 1;
@@ -77,7 +77,7 @@ fn put_in(keys: &mut [u64; Store::LIMIT], place: Place, count: usize, key: u64)
 }
 
 // How many keys are missing at a place: 0 or 1.
-fn lacks(place: Place) -> usize
+fn lacking(place: Place) -> usize
     ensures { λ r. ⌜ (r ≡ lacking place) × (r ≤ 1) ⌝ }
 {
     if place.held { 0 } else { 1 }
@@ -100,7 +100,7 @@ pub fn add_in(keys: &mut [u64; Store::LIMIT], count: usize, key: u64) -> Added
     ensures { λ r. ⌜ grownWith (now (keys .exit)) r ≡ addIn (storeWith (now (keys .entry)) count) key ⌝ }
 {
     let place = place_in(&keys[..], count, key);
-    let more = lacks(place);
+    let more = lacking(place);
     if Store::LIMIT - more < count {
         return no_room(count);
     }
@@ -149,8 +149,8 @@ fn add_two(
     requires { ⌜ (lower .at ≤ count) × (upper .at ≤ count) × (length (now keys) ≡ limit) ⌝ }
     ensures { λ r. ⌜ grownWith (now (keys .exit)) r ≡ addTwo lower upper lo hi (storeWith (now (keys .entry)) count) ⌝ }
 {
-    let below = lacks(lower);
-    let above = lacks(upper);
+    let below = lacking(lower);
+    let above = lacking(upper);
     let most = Store::LIMIT - (below + above);
     if most < count {
         return no_room(count);

@@ -30,7 +30,7 @@ use Rattle.transcript.proofs.StepLaws.{length-step, head-step, tail-ste
 use Rattle.transcript.proofs.WordsLaws.{logOf}
 use Rattle.transcript.proofs.CoreLaws.{Laid, laid-both}
 
--- ---- `ask`
+-- ---- `asked`
 
 -- a run that `ordered_in` found in order
 module _ (keys : List ℕ) (count : ℕ) (a : Bool) (said : a ≡ orderedIn keys count) (yes : not a ≡ false) where

@@ -51,7 +51,7 @@ fn union_count(left: &[u64], right: &[u64]) -> usize
 }
 
 // The questions of a round, 1 (left, then right), 8 and 9: the number of the first answered no, or 0.
-fn ask(left: &[u64], left_count: usize, right: &[u64], right_count: usize, records: usize) -> u8
+fn asked(left: &[u64], left_count: usize, right: &[u64], right_count: usize, records: usize) -> u8
     ensures { λ r. ⌜ r ≡ asked (storeWith (now (left .entry)) «left_count») (storeWith (now (right .entry)) «right_count») records ⌝ }
 {
     if !ordered_in(left, left_count) {
@@ -211,7 +211,7 @@ pub fn round_words(left: Store, right: Store, words: &mut [u64]) -> Met
     let left_count = l.count;
     let right_count = r.count;
     let records = words.len() / RECORD;
-    let number = ask(&l.keys, left_count, &r.keys, right_count, records);
+    let number = asked(&l.keys, left_count, &r.keys, right_count, records);
     if number != 0 {
         return Met {
             number,

@@ -10,8 +10,8 @@ place-in-requires c κs = search needs
 place-in-requires-2 : tie.Need-place-in-requires-2
 place-in-requires-2 c κs = search needs
 
-inside-requires : tie.Need-inside-requires
-inside-requires c κs = search needs
+within-requires : tie.Need-within-requires
+within-requires c κs = search needs
 
 returns : tie.Need-returns
 returns c = search (needs, answerIn-not)
@@ -25,4 +25,4 @@ returns-2 c = search (needs, answerIn-at)
 pub answer-in-spec : {M : Type 1} → statement M
 answer-in-spec =
     tie.close
-    (tie.spec place-in-requires place-in-requires-2 inside-requires returns answer-at-requires returns-2)
+    (tie.spec place-in-requires place-in-requires-2 within-requires returns answer-at-requires returns-2)

@@ -8,8 +8,8 @@ use Rattle.claims.proofs.lent.answer_with.Tie as tie
 claim-with-requires : tie.Need-claim-with-requires
 claim-with-requires c κs = search (needs, halves-sum)
 
-alike-requires : tie.Need-alike-requires
-alike-requires c κs = search needs
+same-requires : tie.Need-same-requires
+same-requires c κs = search needs
 
 returns : tie.Need-returns
 returns c = search (needs, decide-match)
@@ -24,4 +24,4 @@ returns-3 : tie.Need-returns-3
 returns-3 c = search (needs, decide-help)
 
 pub answer-with-spec : {M : Type 1} → statement M
-answer-with-spec = tie.close (tie.spec claim-with-requires alike-requires returns returns-2 help-with-requires returns-3)
+answer-with-spec = tie.close (tie.spec claim-with-requires same-requires returns returns-2 help-with-requires returns-3)

@@ -9,25 +9,25 @@ use Rattle.claims.proofs.lent.claim_at.Tie as tie
 add-end : tie.Need-add-end
 add-end c = search needs
 
-mul-sum-of : tie.Need-mul-sum-of
-mul-sum-of c = search needs
+mul-xor-all : tie.Need-mul-xor-all
+mul-xor-all c = search needs
 
-sub-sum-of : tie.Need-sub-sum-of
-sub-sum-of c = search needs
+sub-xor-all : tie.Need-sub-xor-all
+sub-xor-all c = search needs
 
-part-sum-of-start : tie.Need-part-sum-of-start
-part-sum-of-start c = search needs
+part-xor-all-start : tie.Need-part-xor-all-start
+part-xor-all-start c = search needs
 
-part-sum-of-end : tie.Need-part-sum-of-end
-part-sum-of-end c = search needs
+part-xor-all-end : tie.Need-part-xor-all-end
+part-xor-all-end c = search needs
 
-sum-of-requires : tie.Need-sum-of-requires
-sum-of-requires c κs = search needs
+xor-all-requires : tie.Need-xor-all-requires
+xor-all-requires c κs = search needs
 
 claim-with-requires : tie.Need-claim-with-requires
 claim-with-requires c κs =
     let s = c .before .before .before in
-    (s .pre, c .sum-of .ensures ∙ part-span (now (s .args .keys)) (s .args .first) (s .args .last) (s .pre .rise))
+    (s .pre, c .xor-all .ensures ∙ part-span (now (s .args .keys)) (s .args .first) (s .args .last) (s .pre .rise))
 
 returns : tie.Need-returns
 returns c = c .claim-with .ensures
@@ -37,10 +37,10 @@ claim-at-spec =
     tie.close
     (tie.spec
     add-end
-    mul-sum-of
-    sub-sum-of
-    part-sum-of-start
-    part-sum-of-end
-    sum-of-requires
+    mul-xor-all
+    sub-xor-all
+    part-xor-all-start
+    part-xor-all-end
+    xor-all-requires
     claim-with-requires
     returns)

@@ -4,8 +4,8 @@ use Rattle.claims.proofs.LentPaths.{within-positions, makeIn-not, makeI
 use Rattle.claims.proofs.lent.make_in.Statement.{statement}
 use Rattle.claims.proofs.lent.make_in.Tie as tie
 
-inside-requires : tie.Need-inside-requires
-inside-requires c κs = search needs
+within-requires : tie.Need-within-requires
+within-requires c κs = search needs
 
 returns : tie.Need-returns
 returns c = search (needs, makeIn-not)
@@ -17,4 +17,4 @@ returns-2 : tie.Need-returns-2
 returns-2 c = search (needs, makeIn-claim)
 
 pub make-in-spec : {M : Type 1} → statement M
-make-in-spec = tie.close (tie.spec inside-requires returns claim-at-requires returns-2)
+make-in-spec = tie.close (tie.spec within-requires returns claim-at-requires returns-2)

@@ -7,8 +7,8 @@ use Rattle.keys.proofs.lent.add_in.Tie as tie
 place-in-requires : tie.Need-place-in-requires
 place-in-requires c κs = search needs
 
-lacks-requires : tie.Need-lacks-requires
-lacks-requires c κs = search needs
+lacking-requires : tie.Need-lacking-requires
+lacking-requires c κs = search needs
 
 sub-if1 : tie.Need-sub-if1
 sub-if1 c = search needs
@@ -31,4 +31,4 @@ returns-2 c = search (needs, add-room)
 pub add-in-spec : {M : Type 1} → statement M
 add-in-spec =
     tie.close
-    (tie.spec place-in-requires lacks-requires sub-if1 no-room-requires returns put-in-requires add-total returns-2)
+    (tie.spec place-in-requires lacking-requires sub-if1 no-room-requires returns put-in-requires add-total returns-2)

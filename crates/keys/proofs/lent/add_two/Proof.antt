@@ -4,11 +4,11 @@ use Rattle.keys.proofs.LentPaths.{two-fall, two-full, two-room}
 use Rattle.keys.proofs.lent.add_two.Statement.{statement}
 use Rattle.keys.proofs.lent.add_two.Tie as tie
 
-lacks-requires : tie.Need-lacks-requires
-lacks-requires c κs = search needs
+lacking-requires : tie.Need-lacking-requires
+lacking-requires c κs = search needs
 
-lacks-requires-2 : tie.Need-lacks-requires-2
-lacks-requires-2 c κs = search needs
+lacking-requires-2 : tie.Need-lacking-requires-2
+lacking-requires-2 c κs = search needs
 
 add-most : tie.Need-add-most
 add-most c = search needs
@@ -47,8 +47,8 @@ pub add-two-spec : {M : Type 1} → statement M
 add-two-spec =
     tie.close
     (tie.spec
-    lacks-requires
-    lacks-requires-2
+    lacking-requires
+    lacking-requires-2
     add-most
     sub-most
     no-room-requires

@@ -2,7 +2,7 @@
 use mathlib.Core.Path.{sym}
 use borrow.Author.Needs.{needs}
 use lib.Seq.{length-take-le}
-use Rattle.keys.proofs.LentPaths.{ordered-long, ordered-short, ordered-not, ordered-blank}
+use Rattle.keys.proofs.LentPaths.{ordered-long, ordered-short, ordered-not, ordered-all-zero}
 use Rattle.keys.proofs.lent.ordered_in.Statement.{statement}
 use Rattle.keys.proofs.lent.ordered_in.Tie as tie
 
@@ -12,32 +12,32 @@ returns c = search (needs, ordered-long)
 returns-2 : tie.Need-returns-2
 returns-2 c = search (needs, ordered-short)
 
-slice-aggregate-rises : tie.Need-slice-aggregate-rises
-slice-aggregate-rises c = sym (search (needs, length-take-le))
+slice-aggregate-rising : tie.Need-slice-aggregate-rising
+slice-aggregate-rising c = sym (search (needs, length-take-le))
 
-rises-requires : tie.Need-rises-requires
-rises-requires c κs = search needs
+rising-requires : tie.Need-rising-requires
+rising-requires c κs = search needs
 
 returns-3 : tie.Need-returns-3
 returns-3 c = search (needs, ordered-not)
 
-mul-blank : tie.Need-mul-blank
-mul-blank c = search needs
+mul-all-zero : tie.Need-mul-all-zero
+mul-all-zero c = search needs
 
-sub-blank : tie.Need-sub-blank
-sub-blank c = search needs
+sub-all-zero : tie.Need-sub-all-zero
+sub-all-zero c = search needs
 
-part-blank-start : tie.Need-part-blank-start
-part-blank-start c = search needs
+part-all-zero-start : tie.Need-part-all-zero-start
+part-all-zero-start c = search needs
 
-part-blank-end : tie.Need-part-blank-end
-part-blank-end c = search needs
+part-all-zero-end : tie.Need-part-all-zero-end
+part-all-zero-end c = search needs
 
-blank-requires : tie.Need-blank-requires
-blank-requires c κs = search needs
+all-zero-requires : tie.Need-all-zero-requires
+all-zero-requires c κs = search needs
 
 returns-4 : tie.Need-returns-4
-returns-4 c = search (needs, ordered-blank)
+returns-4 c = search (needs, ordered-all-zero)
 
 pub ordered-in-spec : {M : Type 1} → statement M
 ordered-in-spec =
@@ -45,12 +45,12 @@ ordered-in-spec =
     (tie.spec
     returns
     returns-2
-    slice-aggregate-rises
-    rises-requires
+    slice-aggregate-rising
+    rising-requires
     returns-3
-    mul-blank
-    sub-blank
-    part-blank-start
-    part-blank-end
-    blank-requires
+    mul-all-zero
+    sub-all-zero
+    part-all-zero-start
+    part-all-zero-end
+    all-zero-requires
     returns-4)

@@ -6,11 +6,11 @@ use Rattle.keys.proofs.lent.place_in.Statement.{statement}
 use Rattle.keys.proofs.lent.place_in.Tie as tie
 
 -- what the function was given, from where the place is found
-abbrev given : tie.After-quarter → tie.Start
+abbrev given : tie.After-quartered → tie.Start
 given c = c .before .before .before .before
 
 -- the place found is below the count
-found-lt : (c : tie.After-quarter) → c .quarter .result < given c .args .count
+found-lt : (c : tie.After-quartered) → c .quartered .result < given c .args .count
 found-lt c = search (needs, place-lt)
 
 returns : tie.Need-returns
@@ -19,8 +19,8 @@ returns c = search (needs, place-none)
 returns-2 : tie.Need-returns-2
 returns-2 c = search (needs, place-short)
 
-quarter-requires : tie.Need-quarter-requires
-quarter-requires c κs = search needs
+quartered-requires : tie.Need-quartered-requires
+quartered-requires c κs = search needs
 
 mul-found : tie.Need-mul-found
 mul-found c = let h = found-lt c in search needs
@@ -43,7 +43,7 @@ place-in-spec =
     (tie.spec
     returns
     returns-2
-    quarter-requires
+    quartered-requires
     mul-found
     shared-slice-read-found
     add-next

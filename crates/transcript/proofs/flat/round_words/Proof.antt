@@ -4,8 +4,8 @@ use Rattle.transcript.proofs.FlatPaths.{met-not, words-not, met-round, 
 use Rattle.transcript.proofs.flat.round_words.Statement.{statement}
 use Rattle.transcript.proofs.flat.round_words.Tie as tie
 
-ask-requires : tie.Need-ask-requires
-ask-requires c κs = search needs
+asked-requires : tie.Need-asked-requires
+asked-requires c κs = search needs
 
 returns : tie.Need-returns
 returns c = search (needs, met-not, words-not)
@@ -21,4 +21,4 @@ returns-2 c = search (needs, met-round, words-round)
 
 pub round-words-spec : {M : Type 1} → statement M
 round-words-spec =
-    tie.close (tie.spec ask-requires returns both-halves-requires same-length returns-2)
+    tie.close (tie.spec asked-requires returns both-halves-requires same-length returns-2)

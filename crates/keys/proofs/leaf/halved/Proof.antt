@@ -1,8 +1,8 @@
--- `keys::leaf::halve` meets its contract. Assumes nothing.
+-- `keys::leaf::halved` meets its contract. Assumes nothing.
 use borrow.Author.Needs.{needs}
 use Rattle.keys.proofs.LeafPaths.{halve-one, halve-two, halve-three}
-use Rattle.keys.proofs.leaf.halve.Statement.{statement}
-use Rattle.keys.proofs.leaf.halve.Tie as tie
+use Rattle.keys.proofs.leaf.halved.Statement.{statement}
+use Rattle.keys.proofs.leaf.halved.Tie as tie
 
 returns : tie.Need-returns
 returns c = search (needs, halve-one)
@@ -19,5 +19,5 @@ step-requires-2 c κs = search needs
 returns-3 : tie.Need-returns-3
 returns-3 c = search (needs, halve-three)
 
-pub halve-spec : {M : Type 1} → statement M
-halve-spec = tie.close (tie.spec returns step-requires returns-2 step-requires-2 returns-3)
+pub halved-spec : {M : Type 1} → statement M
+halved-spec = tie.close (tie.spec returns step-requires returns-2 step-requires-2 returns-3)

@@ -1,4 +1,4 @@
--- `keys::leaf::blank` meets its contract. The invariant: every place is 0 exactly if the bits so far are none and the places from i on are 0. Assumes nothing.
+-- `keys::leaf::all_zero` meets its contract. The invariant: every place is 0 exactly if the bits so far are none and the places from i on are 0. Assumes nothing.
 use mathlib.Core.Path.{_≡_, refl}
 use mathlib.Core.Bool.{_&&_}
 use Prim.Native.Nat.{_≤_, _-_}
@@ -9,8 +9,8 @@ use lib.Dec.{eqb}
 use lib.ListN.{length, drop}
 use Rattle.keys.specs.Store.{allZero}
 use Rattle.keys.proofs.LeafPaths.{zero-on, zero-all}
-use Rattle.keys.proofs.leaf.blank.Statement.{statement}
-use Rattle.keys.proofs.leaf.blank.Tie as tie
+use Rattle.keys.proofs.leaf.all_zero.Statement.{statement}
+use Rattle.keys.proofs.leaf.all_zero.Tie as tie
 
 abbrev Inv-loop : tie.InvT-loop
 Inv-loop places bits₀ i₀ bits i = (i ≤ length places) × (allZero places ≡ (eqb bits 0 && allZero (drop i places)))
@@ -43,8 +43,8 @@ returns c =
     let s = c .before in
     zero-all (now (s .before .args .places)) (s .loop .bits) (s .loop .i) (s .loop .inv .1) (c .loop-test .left)
 
-pub blank-spec : {M : Type 1} → statement M
-blank-spec =
+pub all-zero-spec : {M : Type 1} → statement M
+all-zero-spec =
     tie.close
     (tie.spec
     Inv-loop

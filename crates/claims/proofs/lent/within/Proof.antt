@@ -1,8 +1,8 @@
--- `claims::lent::inside` meets its contract. Assumes nothing.
+-- `claims::lent::within` meets its contract. Assumes nothing.
 use borrow.Author.Needs.{needs}
 use Rattle.claims.proofs.LentPaths.{within-fall, within-past, within-short, within-limit}
-use Rattle.claims.proofs.lent.inside.Statement.{statement}
-use Rattle.claims.proofs.lent.inside.Tie as tie
+use Rattle.claims.proofs.lent.within.Statement.{statement}
+use Rattle.claims.proofs.lent.within.Tie as tie
 
 returns : tie.Need-returns
 returns c = search (needs, within-fall)
@@ -16,5 +16,5 @@ returns-3 c = search (needs, within-short)
 returns-4 : tie.Need-returns-4
 returns-4 c = search (needs, within-limit)
 
-pub inside-spec : {M : Type 1} → statement M
-inside-spec = tie.close (tie.spec returns returns-2 returns-3 returns-4)
+pub within-spec : {M : Type 1} → statement M
+within-spec = tie.close (tie.spec returns returns-2 returns-3 returns-4)

@@ -1,4 +1,4 @@
--- `keys::leaf::rises` meets its contract. The invariant: the keys rise exactly if those from i on rise from above `last`. Assumes nothing.
+-- `keys::leaf::rising` meets its contract. The invariant: the keys rise exactly if those from i on rise from above `last`. Assumes nothing.
 use mathlib.Core.Path.{_≡_}
 use mathlib.Core.List.{List}
 use Prim.Native.Nat.{ℕ, _≤_, _-_}
@@ -8,8 +8,8 @@ use denote.Ref.{now}
 use lib.ListN.{length, drop}
 use Rattle.keys.specs.Store.{rising, risesFrom}
 use Rattle.keys.proofs.LeafPaths.{rising-none, rising-first, rises-on, rises-not, rises-all}
-use Rattle.keys.proofs.leaf.rises.Statement.{statement}
-use Rattle.keys.proofs.leaf.rises.Tie as tie
+use Rattle.keys.proofs.leaf.rising.Statement.{statement}
+use Rattle.keys.proofs.leaf.rising.Tie as tie
 
 abbrev Inv-loop : tie.InvT-loop
 Inv-loop keys last₀ i₀ last i = (i ≤ length keys) × (rising keys ≡ risesFrom last (drop i keys))
@@ -57,8 +57,8 @@ returns-3 c =
     let s = c .before in
     rises-all (run s) (s .loop .last) (s .loop .i) (s .loop .inv .1) (c .loop-test .left)
 
-pub rises-spec : {M : Type 1} → statement M
-rises-spec =
+pub rising-spec : {M : Type 1} → statement M
+rising-spec =
     tie.close
     (tie.spec
     Inv-loop

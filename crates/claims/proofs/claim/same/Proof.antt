@@ -1,8 +1,8 @@
--- `claims::claim::alike` meets its contract: equal in all four fields. Assumes nothing.
+-- `claims::claim::same` meets its contract: equal in all four fields. Assumes nothing.
 use borrow.Author.Needs.{needs}
 use Rattle.claims.proofs.ClaimPaths.{same-lo, same-hi, same-sum, same-cnt}
-use Rattle.claims.proofs.claim.alike.Statement.{statement}
-use Rattle.claims.proofs.claim.alike.Tie as tie
+use Rattle.claims.proofs.claim.same.Statement.{statement}
+use Rattle.claims.proofs.claim.same.Tie as tie
 
 returns : tie.Need-returns
 returns c = search (needs, same-lo)
@@ -16,5 +16,5 @@ returns-3 c = search (needs, same-sum)
 returns-4 : tie.Need-returns-4
 returns-4 c = search (needs, same-cnt)
 
-pub alike-spec : {M : Type 1} → statement M
-alike-spec = tie.close (tie.spec returns returns-2 returns-3 returns-4)
+pub same-spec : {M : Type 1} → statement M
+same-spec = tie.close (tie.spec returns returns-2 returns-3 returns-4)

@@ -1,4 +1,4 @@
--- `keys::leaf::quarter` meets its contract. The invariant: quartering what is left gives what quartering all of it gives. Assumes nothing.
+-- `keys::leaf::quartered` meets its contract. The invariant: quartering what is left gives what quartering all of it gives. Assumes nothing.
 use mathlib.Core.Path.{_≡_, refl, sym, _∙_}
 use Prim.Native.Nat.{_≤_, _<_, _+_, _*_, _/_}
 use native.Mathlib.Omega.{arith}
@@ -6,8 +6,8 @@ use borrow.Author.Needs.{needs}
 use denote.Ref.{now}
 use Rattle.keys.specs.Lent.{quartered}
 use Rattle.keys.proofs.QuarteringLaws.{quarters-le, quartered-few, quartered-turn}
-use Rattle.keys.proofs.leaf.quarter.Statement.{statement}
-use Rattle.keys.proofs.leaf.quarter.Tie as tie
+use Rattle.keys.proofs.leaf.quartered.Statement.{statement}
+use Rattle.keys.proofs.leaf.quartered.Tie as tie
 
 abbrev Inv-loop : tie.InvT-loop
 Inv-loop keys count key base₀ size₀ base size =
@@ -49,18 +49,18 @@ loop-again c =
     let on = quartered-turn (now (a .keys)) (a .key) (s .loop .base) (s .loop .size) (omega arith) in
     (omega arith, omega (arith, passed-le c), rw (c .quarter-of .ensures .0) (s .loop .inv .2 ∙ on))
 
-halve-requires : tie.Need-halve-requires Inv-loop μ-loop
-halve-requires c κs = search needs
+halved-requires : tie.Need-halved-requires Inv-loop μ-loop
+halved-requires c κs = search needs
 
 returns : tie.Need-returns Inv-loop μ-loop
 returns c =
     let s = c .before .before in
     let a = s .before .before .args in
     let few = quartered-few (now (a .keys)) (a .key) (s .loop .size) (s .loop .base) (s .loop .size) (omega arith) in
-    rw (c .halve .ensures) (sym (s .loop .inv .2 ∙ few))
+    rw (c .halved .ensures) (sym (s .loop .inv .2 ∙ few))
 
-pub quarter-spec : {M : Type 1} → statement M
-quarter-spec =
+pub quartered-spec : {M : Type 1} → statement M
+quartered-spec =
     tie.close
     (tie.spec
     Inv-loop
@@ -73,5 +73,5 @@ quarter-spec =
     sub-size
     loop-less
     loop-again
-    halve-requires
+    halved-requires
     returns)

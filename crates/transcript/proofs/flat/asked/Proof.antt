@@ -1,8 +1,8 @@
--- `transcript::flat::ask` meets its contract. Assumes nothing.
+-- `transcript::flat::asked` meets its contract. Assumes nothing.
 use borrow.Author.Needs.{needs}
 use Rattle.transcript.proofs.FlatPaths.{found-long, found-rising, found-short, asked-left, asked-right, asked-8, asked-9, asked-0}
-use Rattle.transcript.proofs.flat.ask.Statement.{statement}
-use Rattle.transcript.proofs.flat.ask.Tie as tie
+use Rattle.transcript.proofs.flat.asked.Statement.{statement}
+use Rattle.transcript.proofs.flat.asked.Tie as tie
 
 ordered-in-requires : tie.Need-ordered-in-requires
 ordered-in-requires c κs = search needs
@@ -37,8 +37,8 @@ returns-4 c = search (needs, asked-9)
 returns-5 : tie.Need-returns-5
 returns-5 c = search (needs, asked-0)
 
-pub ask-spec : {M : Type 1} → statement M
-ask-spec =
+pub asked-spec : {M : Type 1} → statement M
+asked-spec =
     tie.close
     (tie.spec
     ordered-in-requires

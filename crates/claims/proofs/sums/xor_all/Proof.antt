@@ -1,4 +1,4 @@
--- `claims::sums::sum_of` meets its contract. The invariant: the sum of all keys is that so far and that of the keys from i on. Assumes nothing.
+-- `claims::sums::xor_all` meets its contract. The invariant: the sum of all keys is that so far and that of the keys from i on. Assumes nothing.
 use mathlib.Core.Path.{_≡_}
 use Prim.Native.Nat.{_≤_, _-_}
 use borrow.Author.Needs.{needs}
@@ -7,8 +7,8 @@ use lib.Bits.{bitXor}
 use lib.ListN.{length, drop}
 use Rattle.claims.specs.Claim.{xorAll}
 use Rattle.claims.proofs.SumsPaths.{xor-none, xor-on, xor-all}
-use Rattle.claims.proofs.sums.sum_of.Statement.{statement}
-use Rattle.claims.proofs.sums.sum_of.Tie as tie
+use Rattle.claims.proofs.sums.xor_all.Statement.{statement}
+use Rattle.claims.proofs.sums.xor_all.Tie as tie
 
 abbrev Inv-loop : tie.InvT-loop
 Inv-loop keys sum₀ i₀ sum i = (i ≤ length keys) × (xorAll keys ≡ bitXor sum (xorAll (drop i keys)))
@@ -37,8 +37,8 @@ loop-again c = search (needs, xor-on)
 returns : tie.Need-returns Inv-loop μ-loop
 returns c = search (needs, xor-all)
 
-pub sum-of-spec : {M : Type 1} → statement M
-sum-of-spec =
+pub xor-all-spec : {M : Type 1} → statement M
+xor-all-spec =
     tie.close
     (tie.spec
     Inv-loop
