@@ -29,7 +29,7 @@ use Rattle.wire.specs.Frame.{allPass}
 use Rattle.wire.specs.Run.{readRun}
 use Rattle.host.specs.Frames.{framesLimit, inWords}
 use Rattle.host.specs.Call.{nodeServed, framesSent}
-use Rattle.host.proofs.Grouping.{length-framesBytes, framesLength-limit}
+use Rattle.host.proofs.FramesLaws.{length-framesBytes, framesLength-limit}
 use Rattle.host.proofs.Passing.{sending-passes}
 use Rattle.host.proofs.Words.{readRun-claimWords}
 

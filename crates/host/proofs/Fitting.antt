@@ -36,7 +36,7 @@ use Rattle.wire.proofs.RunLaws.{each-mem, mem-each, each-append, each-replicate
 use Rattle.wire.proofs.ImageLaws.{readImage-yes, readImage-0, ordered-counts}
 use Rattle.host.specs.Taking.{takenInTurn}
 use Rattle.host.specs.Call.{nodeIn, nodeServed, nodeEntered}
-use Rattle.host.proofs.Entering.{grown, nodeEntered-is}
+use Rattle.host.proofs.EnterPaths.{grown, nodeEntered-is}
 use Rattle.host.proofs.Passing.{sending-spanned}
 
 abbrev pub KeyFits : ℕ → Type 0

@@ -36,11 +36,11 @@ use Rattle.host.specs.Frames.{fours, inFrames, framesBytes, framesLimit}
 use Rattle.host.specs.Call.{minus, nodeIn, savingQuestions, saved, savedOut, takingQuestions, nodeAfter, frameTaken, frameTakenOut}
 use Rattle.host.specs.Call.{enteringQuestions, nodeEntered, keyEntered, keyEnteredOut, beatImageQuestions, nodeServed, framesSent}
 use Rattle.host.specs.Call.{imageBeaten, imageBeatenOut, imageBeatenFrames}
-use Rattle.host.proofs.Turns.{ordered-takenInTurn}
-use Rattle.host.proofs.Grouping.{flatten-fours, fours-mem}
+use Rattle.host.proofs.TurnPaths.{ordered-takenInTurn}
+use Rattle.host.proofs.FramesLaws.{flatten-fours, fours-mem}
 use Rattle.host.proofs.Passing.{allPass-mem, sending-spanned, spanned-passes}
-use Rattle.host.proofs.Entering.{fits-six, ordered-entered}
-use Rattle.host.proofs.Answers.{sixes, readImage-ordered}
+use Rattle.host.proofs.EnterPaths.{fits-six, ordered-entered}
+use Rattle.host.proofs.LibPaths.{sixes, readImage-ordered}
 use Rattle.host.proofs.Fitting.{Narrow, narrow-fits, narrow-read, narrow-takenInTurn, narrow-served, narrow-entered, sending-fits}
 
 -- ---- a call that returned a length was not refused

@@ -16,7 +16,7 @@ groups zero n xs = []
 groups (suc most) n [] = []
 groups (suc most) n (x ∷ xs) = take n (x ∷ xs) ∷ groups most n (drop n (x ∷ xs))
 
--- "four to a frame and the rest in a last one". As many groups as claims are enough: `flatten-fours` of proofs/Grouping says that no claim is lost.
+-- "four to a frame and the rest in a last one". As many groups as claims are enough: `flatten-fours` of proofs/FramesLaws says that no claim is lost.
 unfoldable pub fours : List Claim → List (List Claim)
 fours cs = groups (length cs) frameLimit cs
 

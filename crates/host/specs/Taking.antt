@@ -21,7 +21,7 @@ abbrev pub takenInTurn : Node → List Claim → Node
 takenInTurn n [] = n
 takenInTurn n (c ∷ cs) = takenInTurn (taken n c .node) cs
 
--- The same as the code goes: until one is refused. What it says of the two above is a law (`takenUntil-number`, `takenUntil-node` of proofs/Turns).
+-- The same as the code goes: until one is refused. What it says of the two above is a law (`takenUntil-number`, `takenUntil-node` of proofs/TurnPaths).
 abbrev pub takenUntil : Node → List Claim → Taken
 takenUntil n [] = record { number = 0; node = n }
 takenUntil n (c ∷ cs) = cond (eqb (taken n c .number) 0) (takenUntil (taken n c .node) cs) (taken n c)

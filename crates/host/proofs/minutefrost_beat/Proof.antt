@@ -3,7 +3,7 @@ use mathlib.Core.Path.{refl}
 use native.Mathlib.Omega.{arith}
 use borrow.Author.Needs.{needs}
 use Rattle.keys.specs.Store.{zeros}
-use Rattle.host.proofs.Answers.{beaten-image, beaten-out, beaten-frames, beaten-0}
+use Rattle.host.proofs.LibPaths.{beaten-image, beaten-out, beaten-frames, beaten-0}
 use Rattle.host.proofs.minutefrost_beat.Statement.{statement}
 use Rattle.host.proofs.minutefrost_beat.Tie as tie
 

@@ -2,7 +2,7 @@
 use mathlib.Core.Path.{refl}
 use borrow.Author.Needs.{needs}
 use Rattle.keys.specs.Store.{zeros}
-use Rattle.host.proofs.Answers.{loaded-small, counted-no, counted-yes}
+use Rattle.host.proofs.LibPaths.{loaded-small, counted-no, counted-yes}
 use Rattle.host.proofs.minutefrost_count.Statement.{statement}
 use Rattle.host.proofs.minutefrost_count.Tie as tie
 

@@ -2,9 +2,9 @@
 use mathlib.Core.Path.{refl, sym}
 use borrow.Author.Needs.{needs}
 use Rattle.keys.specs.Store.{zeros}
-use Rattle.host.proofs.Signs.{handed-on}
-use Rattle.host.proofs.Saving.{saved-known}
-use Rattle.host.proofs.Answers.{entering-numbered}
+use Rattle.host.proofs.SignPaths.{handed-on}
+use Rattle.host.proofs.SavePaths.{saved-known}
+use Rattle.host.proofs.LibPaths.{entering-numbered}
 use Rattle.host.proofs.minutefrost_enter.Statement.{statement}
 use Rattle.host.proofs.minutefrost_enter.Tie as tie
 

@@ -2,9 +2,9 @@
 use mathlib.Core.Path.{refl, sym}
 use borrow.Author.Needs.{needs}
 use Rattle.keys.specs.Store.{zeros}
-use Rattle.host.proofs.Signs.{handed-on}
-use Rattle.host.proofs.Saving.{saved-known}
-use Rattle.host.proofs.Answers.{taking-numbered}
+use Rattle.host.proofs.SignPaths.{handed-on}
+use Rattle.host.proofs.SavePaths.{saved-known}
+use Rattle.host.proofs.LibPaths.{taking-numbered}
 use Rattle.host.proofs.minutefrost_take_frame.Statement.{statement}
 use Rattle.host.proofs.minutefrost_take_frame.Tie as tie
 

@@ -1,6 +1,6 @@
 -- `enter::entered_into` meets its contract: one law for each way. Assumes nothing.
 use borrow.Author.Needs.{needs}
-use Rattle.host.proofs.Answers.{loaded-refused, enteredInto-unfit, enteredInto-fit}
+use Rattle.host.proofs.LibPaths.{loaded-refused, enteredInto-unfit, enteredInto-fit}
 use Rattle.host.proofs.enter.entered_into.Statement.{statement}
 use Rattle.host.proofs.enter.entered_into.Tie as tie
 

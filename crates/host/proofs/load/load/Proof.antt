@@ -10,8 +10,8 @@ use Rattle.wire.specs.declared.answer.Imaged.{Imaged}
 use Rattle.wire.specs.Lent.{readInLent}
 use Rattle.wire.proofs.ImageLaws.{readImage-number}
 use Rattle.wire.proofs.LentLaws.{readIn-few, readIn-refused, readInLent-refused, readImage-1, readImage-lent}
-use Rattle.host.proofs.Saving.{known-refused}
-use Rattle.host.proofs.Answers.{loaded-lent}
+use Rattle.host.proofs.SavePaths.{known-refused}
+use Rattle.host.proofs.LibPaths.{loaded-lent}
 use Rattle.host.proofs.load.load.Statement.{statement}
 use Rattle.host.proofs.load.load.Tie as tie
 

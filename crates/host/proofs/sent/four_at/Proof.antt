@@ -12,7 +12,7 @@ use Rattle.wire.specs.Frame.{frameLimit}
 use Rattle.wire.specs.Run.{readRun}
 use Rattle.wire.proofs.FrameLaws.{blanks-four, putAt-four}
 use Rattle.host.specs.Frames.{inWords}
-use Rattle.host.proofs.Sends.{four-turn}
+use Rattle.host.proofs.SentPaths.{four-turn}
 use Rattle.host.proofs.sent.four_at.Statement.{statement}
 use Rattle.host.proofs.sent.four_at.Tie as tie
 

@@ -17,7 +17,7 @@ use Rattle.beats.specs.Lent.{beatenWith}
 use Rattle.wire.specs.Image.{nodeBytes, Shaped}
 use Rattle.host.specs.Frames.{framesBytes}
 use Rattle.host.proofs.Beats.{Ran, nodeServed-ordered, length-framesSent, beat-ran}
-use Rattle.host.proofs.Saving.{writeImageIn-room}
+use Rattle.host.proofs.SavePaths.{writeImageIn-room}
 use Rattle.host.proofs.sent.send.Statement.{statement}
 use Rattle.host.proofs.sent.send.Tie as tie
 

@@ -3,7 +3,7 @@ use native.Mathlib.Omega.{arith}
 use mathlib.Core.Path.{_≡_}
 use borrow.Author.Needs.{needs}
 use Rattle.wire.specs.Frame.{frameLength}
-use Rattle.host.proofs.Sends.{frame-length, frame-put}
+use Rattle.host.proofs.SentPaths.{frame-length, frame-put}
 use Rattle.host.proofs.sent.write_at.Statement.{statement}
 use Rattle.host.proofs.sent.write_at.Tie as tie
 

@@ -12,8 +12,8 @@ use Rattle.wire.proofs.FrameLaws.{take-fourOf}
 use Rattle.wire.proofs.RunLaws.{length-readRun}
 use Rattle.host.specs.Frames.{inWords}
 use Rattle.host.proofs.Words.{readRun-part}
-use Rattle.host.proofs.Sends.{Written, written-none, written-all, Turn}
-use Rattle.host.proofs.Sends.{turn-few, turn-more, turn-inside, turn-countable, turn-room, turn-pass, turn-written}
+use Rattle.host.proofs.SentPaths.{Written, written-none, written-all, Turn}
+use Rattle.host.proofs.SentPaths.{turn-few, turn-more, turn-inside, turn-countable, turn-room, turn-pass, turn-written}
 use Rattle.host.proofs.sent.write_frames.Statement.{statement}
 use Rattle.host.proofs.sent.write_frames.Tie as tie
 

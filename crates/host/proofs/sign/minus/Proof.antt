@@ -1,7 +1,7 @@
 -- `sign::minus` meets its contract: a byte taken from zero. Assumes nothing.
 use Prim.Native.Nat.{_<_}
 use borrow.Author.Needs.{needs}
-use Rattle.host.proofs.Signs.{minus-fits, minus-value}
+use Rattle.host.proofs.SignPaths.{minus-fits, minus-value}
 use Rattle.host.proofs.sign.minus.Statement.{statement}
 use Rattle.host.proofs.sign.minus.Tie as tie
 

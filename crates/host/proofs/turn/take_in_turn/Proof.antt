@@ -17,7 +17,7 @@ use Rattle.rule.proofs.NodeLaws.{length-mapped}
 use Rattle.nodes.specs.Lent.{nodeWith, takenWith}
 use Rattle.wire.specs.Image.{Shaped}
 use Rattle.host.specs.Taking.{takenUntil}
-use Rattle.host.proofs.Turns.{Turn, turn-refused, turn-done, turn-ordered, turn-long, takenUntil-end}
+use Rattle.host.proofs.TurnPaths.{Turn, turn-refused, turn-done, turn-ordered, turn-long, takenUntil-end}
 use Rattle.host.proofs.turn.take_in_turn.Statement.{statement}
 use Rattle.host.proofs.turn.take_in_turn.Tie as tie
 

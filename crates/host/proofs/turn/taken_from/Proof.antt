@@ -5,7 +5,7 @@ use Rattle.rule.specs.declared.node.Node.{Node}
 use Rattle.wire.specs.declared.answer.Framed.{Framed}
 use Rattle.wire.specs.Frame.{frameClaims}
 use Rattle.host.specs.Taking.{takenUntil}
-use Rattle.host.proofs.Answers.{loaded-refused, Accepted, readFrame-accepted, takenFrom-frame, takenFrom-turns}
+use Rattle.host.proofs.LibPaths.{loaded-refused, Accepted, readFrame-accepted, takenFrom-frame, takenFrom-turns}
 use Rattle.host.proofs.turn.taken_from.Statement.{statement}
 use Rattle.host.proofs.turn.taken_from.Tie as tie
 

@@ -32,7 +32,7 @@ use Rattle.wire.proofs.RunLaws.{length-readRun, set-readRun}
 use Rattle.host.specs.Frames.{framesBytes, inWords}
 use Rattle.host.specs.Known.{FramesWritten}
 use Rattle.host.proofs.Words.{getD-readRun}
-use Rattle.host.proofs.Grouping.{framesBytes-turn, framesBytes-nil}
+use Rattle.host.proofs.FramesLaws.{framesBytes-turn, framesBytes-nil}
 
 -- ---- claims that pass
 

@@ -1,5 +1,5 @@
 -- What the host calls return, one law for each way that the code goes. In order: what reading tells; every question has a number; an image that was loaded:
--- counting, taking a frame, entering a key; a beat. Not here: the end of a call that writes one image (Saving). Assumes nothing.
+-- counting, taking a frame, entering a key; a beat. Not here: the end of a call that writes one image (SavePaths). Assumes nothing.
 use Prim.Native.Nat.{ℕ, _≤_, _<_}
 use native.Mathlib.Omega.{arith}
 use mathlib.Core.Bool.{true, false, cond, not}
@@ -38,10 +38,10 @@ use Rattle.host.specs.Frames.{framesLimit}
 use Rattle.host.specs.Call.{minus, nodeIn, imageCounted, takingQuestions, nodeAfter, enteringQuestions, nodeEntered}
 use Rattle.host.specs.Call.{beatImageQuestions, nodeServed, framesSent, imageBeaten, imageBeatenOut, imageBeatenFrames}
 use Rattle.host.specs.Known.{nodeHeld, Known, Loaded, TakenFrom, EnteredInto, Sent}
-use Rattle.host.proofs.Signs.{returned, fits-pos, fits-minus}
-use Rattle.host.proofs.Turns.{questions6-numbered, takenUntil-number, takenUntil-node, ordered-takenInTurn}
-use Rattle.host.proofs.Entering.{six, ordered-entered, added-six, unfit-long, added-fits, added-node, added-long}
-use Rattle.host.proofs.Saving.{known-refused}
+use Rattle.host.proofs.SignPaths.{returned, fits-pos, fits-minus}
+use Rattle.host.proofs.TurnPaths.{questions6-numbered, takenUntil-number, takenUntil-node, ordered-takenInTurn}
+use Rattle.host.proofs.EnterPaths.{six, ordered-entered, added-six, unfit-long, added-fits, added-node, added-long}
+use Rattle.host.proofs.SavePaths.{known-refused}
 
 -- ---- what reading tells
 

@@ -28,7 +28,7 @@ use Rattle.wire.proofs.LentLaws.{ordered-withinLimits, writeImageIn-0}
 use Rattle.wire.proofs.ImageTrips.{image-at-most}
 use Rattle.host.specs.Call.{minus, savingQuestions, saved, savedOut}
 use Rattle.host.specs.Known.{nodeHeld, Known, asOne, Saved}
-use Rattle.host.proofs.Signs.{returned, fits-pos, fits-minus}
+use Rattle.host.proofs.SignPaths.{returned, fits-pos, fits-minus}
 
 -- ---- where a question was answered no
 
