@@ -47,7 +47,8 @@ impl Library {
             return Err(io::Error::other(told));
         }
         let [shared, gap] = ["so", "s"].map(|kind| folder.join(format!("lib{name}-{up}.{kind}")));
-        fs::write(&gap, format!(".text\n.p2align 6\n.fill {up}\n"))?;
+        let no_stack = ".section .note.GNU-stack,\"\",@progbits";
+        fs::write(&gap, format!(".text\n.p2align 6\n.fill {up}\n{no_stack}\n"))?;
         let mut compiler = Command::new("cc");
         compiler.args(["-shared", "-o"]).arg(&shared).arg(&gap);
         compiler.arg("-Wl,--whole-archive").arg(&archive);

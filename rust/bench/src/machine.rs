@@ -53,9 +53,9 @@ pub fn print_head() {
         "\"Rattle\" is the archive, called through `minutefrost`; \"second\" is the second program, plain Rust of \
          the same call, in the same process. Both run in turns on the same bytes and must give the same. Each row is of 32 \
          cases one after the other, 128 of a round, alike but for their keys, so that no processor learns where the \
-         searches go. A turn goes over all of them, as often as fills 0.25 ms. A time is the best turn of all; the ratio \
-         is best to best. The spread has the lowest and the highest ratio of 7 runs of 3 to 30 turns: a busy machine \
-         widens it."
+         searches go. A turn goes over all of them, as often as fills 0.25 ms. There are 7 runs of 3 to 30 turns, and of a run \
+         the best turn counts. A time is the best of all runs, of a round the middle one; the ratio is of these two times, \
+         and the spread has the lowest and the highest ratio of a run: a busy machine widens it."
     );
     println!();
     println!(

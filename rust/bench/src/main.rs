@@ -273,7 +273,7 @@ fn print_growth() {
         for (call, timed) in CALLS {
             for n in [16, 32, 64, 128, 256, 512, 1_024] {
                 let times = timed(&cases::heard(n, 0, pending));
-                let [rattle, second] = [times.time, times.base].map(|time| time / n as f64);
+                let [rattle, second] = [times.time(), times.base()].map(|time| time / n as f64);
                 println!("| {n} | {pending} | {call} | {times} | {rattle:.2} | {second:.2} |");
             }
         }

@@ -15,59 +15,77 @@ const RUN: Duration = Duration::from_millis(30);
 const TURN: Duration = Duration::from_micros(250);
 
 /// What a program took, and what another took for the same work, in
-/// nanoseconds a call.
+/// nanoseconds a call: of each run its best turns.
 pub struct Compared {
-    pub time: f64,
-    pub base: f64,
-    /// The lowest and the highest ratio of the runs.
-    pub spread: (f64, f64),
+    runs: Vec<[f64; 2]>,
+    of_all: fn(Vec<f64>) -> f64,
 }
 
 impl Compared {
-    pub fn ratio(&self) -> f64 {
-        self.time / self.base
+    fn column(&self, at: usize) -> f64 {
+        (self.of_all)(self.runs.iter().map(|run| run[at]).collect())
     }
 
-    /// The best times of both measurements, and the ratios of either.
-    pub fn with(self, other: Compared) -> Compared {
-        Compared {
-            time: self.time.min(other.time),
-            base: self.base.min(other.base),
-            spread: (
-                self.spread.0.min(other.spread.0),
-                self.spread.1.max(other.spread.1),
-            ),
-        }
+    pub fn time(&self) -> f64 {
+        self.column(0)
+    }
+
+    pub fn base(&self) -> f64 {
+        self.column(1)
+    }
+
+    /// The lowest and the highest ratio of the runs.
+    fn spread(&self) -> (f64, f64) {
+        let ratios = self.runs.iter().map(|[time, base]| time / base);
+        ratios.fold((f64::MAX, f64::MIN), |(low, high), ratio| {
+            (low.min(ratio), high.max(ratio))
+        })
+    }
+
+    /// The runs of both measurements.
+    pub fn with(mut self, other: Compared) -> Compared {
+        self.runs.extend(other.runs);
+        self
     }
 }
 
 /// The cells of a row: both times, the ratio and its spread.
 impl fmt::Display for Compared {
     fn fmt(&self, out: &mut fmt::Formatter<'_>) -> fmt::Result {
-        let (low, high) = self.spread;
+        let (time, base, (low, high)) = (self.time(), self.base(), self.spread());
+        let ratio = time / base;
         write!(
             out,
-            "{:.0} | {:.0} | **{:.2}** | {low:.2} to {high:.2}",
-            self.time,
-            self.base,
-            self.ratio()
+            "{time:.0} | {base:.0} | **{ratio:.2}** | {low:.2} to {high:.2}"
         )
     }
+}
+
+fn least(times: Vec<f64>) -> f64 {
+    times.into_iter().fold(f64::MAX, f64::min)
+}
+
+fn median(mut times: Vec<f64>) -> f64 {
+    times.sort_by(f64::total_cmp);
+    times[times.len() / 2]
 }
 
 /// Times a program's work against another's, each of so many cases one after
 /// the other: a turn goes over all of them.
 ///
 /// Turns alternate, so that both meet the same disturbance, and the best turn
-/// of each counts, being the one least disturbed. The ratio is best to best
-/// over all runs; each run has a ratio of its own, which the spread is of.
+/// of each counts, being the one least disturbed.
 pub fn compare(cases: usize, program: impl FnMut(), base: impl FnMut()) -> Compared {
     let mut works: [Box<dyn FnMut() + '_>; 2] = [Box::new(program), Box::new(base)];
-    best_of(cases, &mut works, |best| [best[0], best[1]])
+    Compared {
+        runs: best_turns(cases, &mut works, |best| [best[0], best[1]]),
+        of_all: least,
+    }
 }
 
 /// The same of what work takes longer than a part of it: of each program its
-/// work and then that part.
+/// work and then that part. The least of differences would be of a disturbed
+/// part, so the middle one of the runs counts.
 pub fn compare_beyond<P: FnMut(), Q: FnMut()>(
     cases: usize,
     program: [P; 2],
@@ -81,40 +99,34 @@ pub fn compare_beyond<P: FnMut(), Q: FnMut()>(
         Box::new(base_all),
         Box::new(base_part),
     ];
-    best_of(cases, &mut works, |best| {
-        [best[0] - best[1], best[2] - best[3]]
-    })
+    let beyond = |best: &[f64]| [best[0] - best[1], best[2] - best[3]];
+    Compared {
+        runs: best_turns(cases, &mut works, beyond),
+        of_all: median,
+    }
 }
 
-/// All pieces of work in turns; of the best times come the two that are
-/// compared.
-fn best_of(
+/// All pieces of work in turns; of the best times of each run come the two that
+/// are compared.
+fn best_turns(
     cases: usize,
     works: &mut [Box<dyn FnMut() + '_>],
     told: impl Fn(&[f64]) -> [f64; 2],
-) -> Compared {
+) -> Vec<[f64; 2]> {
     let turns: Vec<Turn> = works.iter_mut().map(|work| turn_of(cases, work)).collect();
     let each_once: f64 = turns.iter().map(|turn| turn.time).sum();
     let (least, most) = TURNS;
     let turns_in_a_run = (RUN.as_nanos() as f64 / each_once).clamp(least, most) as usize;
-    let mut best = vec![f64::MAX; works.len()];
-    let mut spread = (f64::MAX, 0.0_f64);
-    for _ in 0..RUNS {
-        let mut best_of_run = vec![f64::MAX; works.len()];
+    let run = |_| {
+        let mut best = vec![f64::MAX; works.len()];
         for _ in 0..turns_in_a_run {
-            for ((work, turn), best) in works.iter_mut().zip(&turns).zip(&mut best_of_run) {
+            for ((work, turn), best) in works.iter_mut().zip(&turns).zip(&mut best) {
                 *best = best.min(time(work, turn.calls) / turn.calls as f64);
             }
         }
-        let [of_run, base_of_run] = told(&best_of_run);
-        let ratio = of_run / base_of_run;
-        spread = (spread.0.min(ratio), spread.1.max(ratio));
-        for (best, of_run) in best.iter_mut().zip(best_of_run) {
-            *best = best.min(of_run);
-        }
-    }
-    let [time, base] = told(&best);
-    Compared { time, base, spread }
+        told(&best)
+    };
+    (0..RUNS).map(run).collect()
 }
 
 /// The nanoseconds of so many calls.
