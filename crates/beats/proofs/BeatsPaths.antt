@@ -164,7 +164,10 @@ module _ (s : Store) (table : List Claim) (pending at : ℕ) (lent₀ : List ℕ
         = (rw none at (left .places)) ∙ sets-blanks (rest 0 .kept) (omega (arith, length-keptIn s (take pending table), all)) in
         let count-is : n ≡ length (rest 0 .kept) = omega (arith, rw none at (left .stayed)) in
         let written-is : next ≡ at + length (rest 0 .sent) = omega (arith, rw none at (left .written)) in
-        record { result = λ j. record { number = 0; table = places j; count = count-is j; written = written-is j }; words = sym (putAt-nil lent (claimWidth * next)) ∙ (rw none at (left .words)) }
+        record {
+          result = λ j. record { number = 0; table = places j; count = count-is j; written = written-is j };
+          words = sym (putAt-nil lent (claimWidth * next)) ∙ (rw none at (left .words));
+        }
 
 -- ---- `write_whole`
 

@@ -181,7 +181,9 @@ help-answered c l r i j p q h g n o = go (ltb (j - 1 - (i + 1)) 3) refl
     middle = span-inside i j l r h g ∙ ap₂ (λ (x y : ℕ). inside x y l) p q
 
     go : (t : Bool) → ltb (j - 1 - (i + 1)) 3 ≡ t
-        → Answered c l (cond t (One (claimOf (i + 1) (j - 1) l)) (Two (claimOf (i + 1) (i + 1 + zOf (i + 1) (j - 1)) l) (claimOf (i + 1 + zOf (i + 1) (j - 1) + 1) (j - 1) l)))
+        → Answered c l
+        (cond t (One (claimOf (i + 1) (j - 1) l))
+        (Two (claimOf (i + 1) (i + 1 + zOf (i + 1) (j - 1)) l) (claimOf (i + 1 + zOf (i + 1) (j - 1) + 1) (j - 1) l)))
     go true e =
         helped-one n o
         (claimOf-span (i + 1) (j - 1) l h (omega arith) ∙ ap spanClaim middle)

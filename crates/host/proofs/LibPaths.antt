@@ -180,7 +180,9 @@ module _ (image : List ℕ) {keys : List ℕ} {r : Rest} (loaded : Loaded image 
             node = λ z. node ∙ ap (λ (m : Node). nodeEntered m key) (loaded .node read);
             sound = record {
               long = added-long n key held-ordered (loaded .sound .long) added f;
-              ordered = λ z. rw node (ordered-nodeInOrder (nodeEntered n key) (ordered-entered n key held-ordered (added-fits n key held-ordered (loaded .sound .long) added f)));
+              ordered = λ z.
+                  rw node
+                  (ordered-nodeInOrder (nodeEntered n key) (ordered-entered n key held-ordered (added-fits n key held-ordered (loaded .sound .long) added f)));
             };
           }
 

@@ -63,7 +63,8 @@ metWords-records s t lent =
     metWords-done s t (deliveryWords lent) (ap (λ (n : ℕ). firstNo (roundQuestions s t n)) records ∙ z)
     ∙ sym (ap deliveryWords (metLent-done s t lent z) ∙ deliveryWords-putAt (transcript (roundBy s t)) lent))
     (λ (f : firstNo (roundQuestions s t (length lent)) ≡ 0 → ⊥).
-    metWords-refused s t (deliveryWords lent) (λ (z : firstNo (roundQuestions s t (recordsIn (deliveryWords lent))) ≡ 0). f (sym (ap (λ (n : ℕ). firstNo (roundQuestions s t n)) records) ∙ z))
+    metWords-refused s t (deliveryWords lent)
+    (λ (z : firstNo (roundQuestions s t (recordsIn (deliveryWords lent))) ≡ 0). f (sym (ap (λ (n : ℕ). firstNo (roundQuestions s t n)) records) ∙ z))
     ∙ sym (ap deliveryWords (metLent-refused s t lent f)))
     (eq-or-ne (firstNo (roundQuestions s t (length lent))) 0)
   where

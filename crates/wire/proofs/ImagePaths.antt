@@ -30,7 +30,7 @@ use Rattle.wire.specs.Image.{keySection, sections, sectionLength, imageB
 use Rattle.wire.specs.Image.{countsFit, toldLength}
 use Rattle.wire.specs.Image.{parse, imageLength, writeImage, imageLent}
 use Rattle.wire.specs.Sizes.{partOf, sizesOf, AsTold, Readable, HasRoom}
-use Rattle.wire.specs.Lent.{noRest, readIn, readInLent, withinLimits, writeImageIn, imageInLent}
+use Rattle.wire.specs.Lent.{noRest, readImageIn, readImageInLent, withinLimits, writeImageIn, imageInLent}
 use Rattle.wire.proofs.NumberLaws.{length-bytes, numberAt-drop}
 use Rattle.wire.proofs.RunLaws.{length-readRun, length-writeRun, key-faithful}
 use Rattle.wire.proofs.ImageLaws.{countFits-missing, countFits-high, countFits-of, whole-told, length-nodeKeys, length-pending, length-nodeBytes}
@@ -103,13 +103,13 @@ module _ (bs : List ℕ) {t : Sizes} (e : t ≡ sizesOf bs) where
   unfolding imageLength
   imageLength-counts h = rw (lacking h)
 
-  pub readIn-counts : not (t .fits) ≡ true → {r : Rest} → r ≡ noRest 14 → r ≡ readIn bs
-  unfolding readIn
-  readIn-counts h is = is ∙ rw (lacking h)
+  pub readImageIn-counts : not (t .fits) ≡ true → {r : Rest} → r ≡ noRest 14 → r ≡ readImageIn bs
+  unfolding readImageIn
+  readImageIn-counts h is = is ∙ rw (lacking h)
 
-  pub readInLent-counts : not (t .fits) ≡ true → (keys : List ℕ) → keys ≡ readInLent bs keys
-  unfolding readInLent
-  readInLent-counts h keys = rw (lacking h)
+  pub readImageInLent-counts : not (t .fits) ≡ true → (keys : List ℕ) → keys ≡ readImageInLent bs keys
+  unfolding readImageInLent
+  readImageInLent-counts h keys = rw (lacking h)
 
   module _ (fits : not (t .fits) ≡ false) where
     all-fit : countsFit sections bs ≡ true
@@ -126,13 +126,13 @@ module _ (bs : List ℕ) {t : Sizes} (e : t ≡ sizesOf bs) where
     unfolding imageLength
     imageLength-0 h = rw (all-fit, le-leb (toldLength sections bs) (length bs) (rw (← lengths) h), lengths)
 
-    pub readIn-length : (length bs ≡ t .length → ⊥) → {r : Rest} → r ≡ noRest 14 → r ≡ readIn bs
-    unfolding readIn
-    readIn-length f is = is ∙ rw (all-fit, ne-eqb (length bs) (toldLength sections bs) (λ z. f (z ∙ sym lengths)))
+    pub readImageIn-length : (length bs ≡ t .length → ⊥) → {r : Rest} → r ≡ noRest 14 → r ≡ readImageIn bs
+    unfolding readImageIn
+    readImageIn-length f is = is ∙ rw (all-fit, ne-eqb (length bs) (toldLength sections bs) (λ z. f (z ∙ sym lengths)))
 
-    pub readInLent-length : (length bs ≡ t .length → ⊥) → (keys : List ℕ) → keys ≡ readInLent bs keys
-    unfolding readInLent
-    readInLent-length f keys = rw (all-fit, ne-eqb (length bs) (toldLength sections bs) (λ z. f (z ∙ sym lengths)))
+    pub readImageInLent-length : (length bs ≡ t .length → ⊥) → (keys : List ℕ) → keys ≡ readImageInLent bs keys
+    unfolding readImageInLent
+    readImageInLent-length f keys = rw (all-fit, ne-eqb (length bs) (toldLength sections bs) (λ z. f (z ∙ sym lengths)))
 
     told-as : length bs ≡ t .length → AsTold bs (t .keys) (t .pending)
     told-as whole =
@@ -155,19 +155,19 @@ module _ {bs : List ℕ} {n m : ℕ} (told : AsTold bs n m) where
   unfolding parse
   pending-parsed = rw (told .keys, told .pending, ← drop-drop countWidth (sectionLength keySection (countOf bs)) bs)
 
-  pub readIn-0 : {cs : List Claim} → cs ≡ putAt (blanks tableLimit) 0 (readRun claim m (drop (sectionLength keySection n + countWidth) bs))
-      → record { number = 0; held = n; table = cs; count = m } ≡ readIn bs
-  unfolding readIn nodeOf storeOf blanks
-  readIn-0 {cs} e =
+  pub readImageIn-0 : {cs : List Claim} → cs ≡ putAt (blanks tableLimit) 0 (readRun claim m (drop (sectionLength keySection n + countWidth) bs))
+      → record { number = 0; held = n; table = cs; count = m } ≡ readImageIn bs
+  unfolding readImageIn nodeOf storeOf blanks
+  readImageIn-0 {cs} e =
       let t = parse bs .pending in
       let q : cs ≡ t ++ replicate (tableLimit - length t) noClaim = e ∙ rw pending-parsed (putAt-replicate t tableLimit noClaim) in
       let u : n ≡ length (parse bs .keys) = sym (length-readRun key n (drop countWidth bs)) ∙ ap length keys-parsed in
       let v : m ≡ length t = sym (length-readRun claim m (drop (sectionLength keySection n + countWidth) bs)) ∙ ap length pending-parsed in
       (λ i. record { number = 0; held = u i; table = q i; count = v i }) ∙ rw (whole-told told)
 
-  pub readInLent-0 : (keys : List ℕ) {ks : List ℕ} → ks ≡ putAt keys 0 (readRun key n (drop countWidth bs)) → ks ≡ readInLent bs keys
-  unfolding readInLent
-  readInLent-0 keys e = e ∙ (ap (putAt keys 0) keys-parsed ∙ rw (whole-told told))
+  pub readImageInLent-0 : (keys : List ℕ) {ks : List ℕ} → ks ≡ putAt keys 0 (readRun key n (drop countWidth bs)) → ks ≡ readImageInLent bs keys
+  unfolding readImageInLent
+  readImageInLent-0 keys e = e ∙ (ap (putAt keys 0) keys-parsed ∙ rw (whole-told told))
 
 -- ---- put_image
 

@@ -1,4 +1,4 @@
--- Laws of specs/Lent: what the calls on lent keys are by the definitions of Image. `readIn-refused`, `readImage-1` and `readImage-lent` say it of reading,
+-- Laws of specs/Lent: what the calls on lent keys are by the definitions of Image. `readImageIn-refused`, `readImage-1` and `readImage-lent` say it of reading,
 -- `writeImageIn-writeImage` and `imageInLent-imageLent` of writing. Assumes nothing.
 use Prim.Native.Nat.{ℕ, _-_, _≤_}
 use mathlib.Core.Bool.{Bool, true, false, not, _&&_}
@@ -23,8 +23,9 @@ use Rattle.nodes.specs.Lent.{nodeWith, frontIn}
 use Rattle.wire.specs.Claim.{countWidth}
 use Rattle.wire.specs.Run.{key, claim}
 use Rattle.wire.specs.Sizes.{AsTold}
-use Rattle.wire.specs.Image.{nodeBytes, keySection, sections, countOf, behind, countsFit, toldLength, parse, nodeFrom, question14, noImage, readImage, writeImage, imageLent}
-use Rattle.wire.specs.Lent.{restOf, noRest, readIn, readInLent, withinLimits, writeImageIn, imageInLent}
+use Rattle.wire.specs.Image.{nodeBytes, keySection, sections, countOf, behind, countsFit, toldLength}
+use Rattle.wire.specs.Image.{parse, nodeFrom, question14, noImage, readImage, writeImage, imageLent}
+use Rattle.wire.specs.Lent.{restOf, noRest, readImageIn, readImageInLent, withinLimits, writeImageIn, imageInLent}
 use Rattle.wire.proofs.RunLaws.{length-readRun}
 use Rattle.wire.proofs.ImageLaws.{ordered-counts}
 use Rattle.wire.proofs.SizesLaws.{told-room}
@@ -32,40 +33,40 @@ use Rattle.wire.proofs.SizesLaws.{told-room}
 -- ---- reading
 
 -- read into the places of an empty store
-pub readIn-fresh : (bs : List ℕ) {s : Store} → s ≡ emptyStore → {ks : List ℕ} → ks ≡ readInLent bs (s .keys) → ks ≡ readInLent bs (emptyStore .keys)
-readIn-fresh bs p k = k ∙ ap (λ (x : Store). readInLent bs (x .keys)) p
+pub readImageIn-fresh : (bs : List ℕ) {s : Store} → s ≡ emptyStore → {ks : List ℕ} → ks ≡ readImageInLent bs (s .keys) → ks ≡ readImageInLent bs (emptyStore .keys)
+readImageIn-fresh bs p k = k ∙ ap (λ (x : Store). readImageInLent bs (x .keys)) p
 
-module _ (bs : List ℕ) {r : Rest} (e : r ≡ readIn bs) where
-  readIn-number : r .number ≡ firstNo (question14 bs ∷ [])
-  unfolding readIn
-  readIn-number =
+module _ (bs : List ℕ) {r : Rest} (e : r ≡ readImageIn bs) where
+  readImageIn-number : r .number ≡ firstNo (question14 bs ∷ [])
+  unfolding readImageIn
+  readImageIn-number =
       ap (λ (x : Rest). x .number) e ∙ settle-number (λ (x : Rest). x .number) (firstNo (question14 bs ∷ [])) _ noRest refl (λ (k : ℕ). refl)
 
   -- refused with 14
-  pub readIn-refused : (r .number ≡ 0 → ⊥) → noImage (r .number) ≡ readImage bs
+  pub readImageIn-refused : (r .number ≡ 0 → ⊥) → noImage (r .number) ≡ readImage bs
   unfolding readImage
-  readIn-refused f = go (question14 bs .yes) refl
+  readImageIn-refused f = go (question14 bs .yes) refl
     where
       go : (t : Bool) → question14 bs .yes ≡ t → noImage (r .number) ≡ readImage bs
-      go true y = absurd (f (readIn-number ∙ rw y))
-      go false y = rw (readIn-number, y)
+      go true y = absurd (f (readImageIn-number ∙ rw y))
+      go false y = rw (readImageIn-number, y)
 
   -- .. and then the lent run is as it was
-  pub readInLent-refused : (keys : List ℕ) → (r .number ≡ 0 → ⊥) → readInLent bs keys ≡ keys
-  unfolding readInLent
-  readInLent-refused keys f = settle-refused (firstNo (question14 bs ∷ [])) _ (λ (k : ℕ). keys) (λ z. f (readIn-number ∙ z))
+  pub readImageInLent-refused : (keys : List ℕ) → (r .number ≡ 0 → ⊥) → readImageInLent bs keys ≡ keys
+  unfolding readImageInLent
+  readImageInLent-refused keys f = settle-refused (firstNo (question14 bs ∷ [])) _ (λ (k : ℕ). keys) (λ z. f (readImageIn-number ∙ z))
 
-  module _ (done : r .number ≡ 0) {ks : List ℕ} (k : ks ≡ readInLent bs (emptyStore .keys)) where
+  module _ (done : r .number ≡ 0) {ks : List ℕ} (k : ks ≡ readImageInLent bs (emptyStore .keys)) where
     passed : question14 bs .yes ≡ true
-    passed = firstNo-zero (question14 bs) [] (lit< tt) (sym readIn-number ∙ done) .0
+    passed = firstNo-zero (question14 bs) [] (lit< tt) (sym readImageIn-number ∙ done) .0
 
     -- the node of both
     abbrev pub readNode : Node
     readNode = nodeWith ks (r .held) (r .table) (r .count)
 
-    pub readIn-node : readNode ≡ nodeFrom (parse bs)
-    unfolding readIn readInLent nodeOf storeOf emptyStore zeros
-    readIn-node =
+    pub readImageIn-node : readNode ≡ nodeFrom (parse bs)
+    unfolding readImageIn readImageInLent nodeOf storeOf emptyStore zeros
+    readImageIn-node =
         let l = parse bs .keys in
         let rest : r ≡ restOf (nodeFrom (parse bs)) = e ∙ rw passed in
         let p : ks ≡ l ++ replicate (limit - length l) 0 = k ∙ rw passed (putAt-replicate l limit 0) in
@@ -83,23 +84,23 @@ module _ (bs : List ℕ) {r : Rest} (e : r ≡ readIn bs) where
         }
 
     counted : (r .held ≡ countOf bs) × (r .count ≡ countOf (behind keySection bs))
-    unfolding readIn nodeOf storeOf parse
+    unfolding readImageIn nodeOf storeOf parse
     counted =
         let rest : r ≡ restOf (nodeFrom (parse bs)) = e ∙ rw passed in (
           ap (λ (x : Rest). x .held) rest ∙ length-readRun key (countOf bs) (drop countWidth bs),
           ap (λ (x : Rest). x .count) rest ∙ length-readRun claim (countOf (behind keySection bs)) (drop countWidth (behind keySection bs)),
         )
 
-    pub readIn-few : (r .held ≤ limit) × (r .count ≤ tableLimit)
-    readIn-few = let (n, m) = counted in let (f, g, room) = told-room told in (rw n f, rw m g)
+    pub readImageIn-few : (r .held ≤ limit) × (r .count ≤ tableLimit)
+    readImageIn-few = let (n, m) = counted in let (f, g, room) = told-room told in (rw n f, rw m g)
 
     -- what question 1 of these keys and claims then decides
     module _ (ordered : Bool) (tested : ordered ≡ frontIn (take (r .held) ks) (r .table) (r .count)) where
       in-order : nodeInOrder (nodeFrom (parse bs)) ≡ ordered
       in-order =
-          let keys : take (r .held) ks ≡ parse bs .keys = ap nodeKeys readIn-node ∙ nodeKeys-nodeOf (parse bs .keys) (parse bs .pending) in
-          let claims : take (r .count) (r .table) ≡ parse bs .pending = ap pendingOf readIn-node ∙ pendingOf-nodeOf (parse bs .keys) (parse bs .pending) in
-          sym (tested ∙ rw (le-leb (r .count) tableLimit (readIn-few .1), keys, claims))
+          let keys : take (r .held) ks ≡ parse bs .keys = ap nodeKeys readImageIn-node ∙ nodeKeys-nodeOf (parse bs .keys) (parse bs .pending) in
+          let claims : take (r .count) (r .table) ≡ parse bs .pending = ap pendingOf readImageIn-node ∙ pendingOf-nodeOf (parse bs .keys) (parse bs .pending) in
+          sym (tested ∙ rw (le-leb (r .count) tableLimit (readImageIn-few .1), keys, claims))
 
       pub readImage-1 : not ordered ≡ true → noImage 1 ≡ readImage bs
       unfolding readImage
@@ -107,7 +108,7 @@ module _ (bs : List ℕ) {r : Rest} (e : r ≡ readIn bs) where
 
       pub readImage-lent : not ordered ≡ false → record { number = 0; node = readNode } ≡ readImage bs
       unfolding readImage
-      readImage-lent t = (λ i. record { number = 0; node = readIn-node i }) ∙ rw (passed, in-order ∙ not-false ordered t)
+      readImage-lent t = (λ i. record { number = 0; node = readImageIn-node i }) ∙ rw (passed, in-order ∙ not-false ordered t)
 
 -- ---- writing
 

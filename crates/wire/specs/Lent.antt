@@ -1,6 +1,6 @@
 -- Calls between our own crates: an image read and written where a node's keys are lent, so that none is copied, and where question 1 is put by `front_in`
 -- of `nodes`, so that a host call pays it once. They are total, and no rule of document 01. What they are by the definitions of Image is said by
--- laws (proofs/LentLaws): `readIn-node`, `writeImageIn-writeImage`, `imageInLent-imageLent`. Assumes nothing.
+-- laws (proofs/LentLaws): `readImageIn-node`, `writeImageIn-writeImage`, `imageInLent-imageLent`. Assumes nothing.
 use Prim.Native.Nat.{ℕ}
 use mathlib.Core.Bool.{Bool, _&&_}
 use mathlib.Core.List.{List, [], _∷_}
@@ -26,11 +26,11 @@ abbrev pub noRest : ℕ → Rest
 noRest number = record { number = number; held = 0; table = blanks tableLimit; count = 0 }
 
 -- `read_image_in` asks 14 alone. What it reads beside the keys, and the lent run of keys afterwards
-unfoldable pub readIn : List ℕ → Rest
-readIn bs = settle (firstNo (question14 bs ∷ [])) (restOf (nodeFrom (parse bs))) noRest
+unfoldable pub readImageIn : List ℕ → Rest
+readImageIn bs = settle (firstNo (question14 bs ∷ [])) (restOf (nodeFrom (parse bs))) noRest
 
-unfoldable pub readInLent : List ℕ → List ℕ → List ℕ
-readInLent bs keys = settle (firstNo (question14 bs ∷ [])) (putAt keys 0 (parse bs .keys)) (λ k. keys)
+unfoldable pub readImageInLent : List ℕ → List ℕ → List ℕ
+readImageInLent bs keys = settle (firstNo (question14 bs ∷ [])) (putAt keys 0 (parse bs .keys)) (λ k. keys)
 
 -- are all places of the keys there, and both counts not too high?
 abbrev pub withinLimits : List ℕ → ℕ → ℕ → Bool

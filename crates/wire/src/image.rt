@@ -20,7 +20,7 @@ ghost use Rattle.wire.specs.Claim.{keyWidth, claimSize};
 ghost use Rattle.wire.specs.Run.{key as key-layout, claim as claim-layout, readRun, writeRun};
 ghost use Rattle.wire.specs.Image.{imageLimit, nodeBytes, noImage, readImage, imageLength, writeImage, imageLent};
 ghost use Rattle.wire.specs.Sizes.{IsPart, sizesOf, Readable, HasRoom};
-ghost use Rattle.wire.specs.Lent.{noRest, readIn, readInLent, withinLimits, writeImageIn, imageInLent};
+ghost use Rattle.wire.specs.Lent.{noRest, readImageIn, readImageInLent, withinLimits, writeImageIn, imageInLent};
 
 // A section as its count tells it: whether the count is there and not too high, and the count.
 struct Part {
@@ -184,8 +184,8 @@ fn no_rest(number: u8) -> Rest
 // The contents of an image whose counts and length are right: its keys into a lent run, and the rest.
 fn contents(bytes: &[u8], n: usize, m: usize, keys: &mut [u64; Store::LIMIT]) -> Rest
     requires { ⌜ Readable (now bytes) n m ⌝ }
-    ensures { λ r. ⌜ (r ≡ readIn (now (bytes .entry)))
-        × (now (keys .exit) ≡ readInLent (now (bytes .entry)) (now (keys .entry))) ⌝ }
+    ensures { λ r. ⌜ (r ≡ readImageIn (now (bytes .entry)))
+        × (now (keys .exit) ≡ readImageInLent (now (bytes .entry)) (now (keys .entry))) ⌝ }
 {
     read_keys(bytes, number::COUNT, n, &mut keys[..]);
     let table = read_claims(bytes, number::COUNT + number::KEY * n + number::COUNT, m);
@@ -199,8 +199,8 @@ fn contents(bytes: &[u8], n: usize, m: usize, keys: &mut [u64; Store::LIMIT]) ->
 
 // Reads an image: its keys into the first places of a lent run, and the rest. Asks 14; question 1 is left to `front_in`.
 pub fn read_image_in(bytes: &[u8], keys: &mut [u64; Store::LIMIT]) -> Rest
-    ensures { λ r. ⌜ (r ≡ readIn (now (bytes .entry)))
-        × (now (keys .exit) ≡ readInLent (now (bytes .entry)) (now (keys .entry))) ⌝ }
+    ensures { λ r. ⌜ (r ≡ readImageIn (now (bytes .entry)))
+        × (now (keys .exit) ≡ readImageInLent (now (bytes .entry)) (now (keys .entry))) ⌝ }
 {
     let sizes = sizes_of(bytes);
     if !sizes.fits {

@@ -7,9 +7,9 @@ use lib.Seq.{length-take-le}
 use Rattle.keys.specs.Store.{limit, zeros, emptyStore}
 use Rattle.keys.proofs.StoreLaws.{length-zeros}
 use Rattle.wire.specs.declared.answer.Imaged.{Imaged}
-use Rattle.wire.specs.Lent.{readInLent}
+use Rattle.wire.specs.Lent.{readImageInLent}
 use Rattle.wire.proofs.ImageLaws.{readImage-number}
-use Rattle.wire.proofs.LentLaws.{readIn-few, readIn-refused, readInLent-refused, readImage-1, readImage-lent}
+use Rattle.wire.proofs.LentLaws.{readImageIn-few, readImageIn-refused, readImageInLent-refused, readImage-1, readImage-lent}
 use Rattle.host.proofs.SavePaths.{known-refused}
 use Rattle.host.proofs.LibPaths.{loaded-lent}
 use Rattle.host.proofs.load.load.Statement.{statement}
@@ -20,10 +20,10 @@ empty-zeros : zeros limit ≡ emptyStore .keys
 unfolding emptyStore
 empty-zeros = refl
 
-keys : (r : tie.After-read-image-in) → r .read-image-in .last .1 .0 ≡ readInLent (r .before .before .before .args .image .now) (emptyStore .keys)
+keys : (r : tie.After-read-image-in) → r .read-image-in .last .1 .0 ≡ readImageInLent (r .before .before .before .args .image .now) (emptyStore .keys)
 keys r =
     let s = r .before .before .before in
-    r .read-image-in .ensures .1 ∙ ap (readInLent (s .args .image .now)) (s .pre ∙ empty-zeros)
+    r .read-image-in .ensures .1 ∙ ap (readImageInLent (s .args .image .now)) (s .pre ∙ empty-zeros)
 
 -- the image was read, from where its order is tested
 abbrev taken : tie.After-front-in → tie.Else1
@@ -39,15 +39,15 @@ returns : tie.Need-returns
 returns c =
     let r = c .before .before in
     known-refused
-    (ap (λ (x : Imaged). x .number) (readIn-refused _ (r .read-image-in .ensures .0) (c .if1 .taken)) ∙ readImage-number _)
-    (rw (keys r, readInLent-refused _ (r .read-image-in .ensures .0) (emptyStore .keys) (c .if1 .taken), ← empty-zeros) (length-zeros limit)) (c .if1 .taken)
+    (ap (λ (x : Imaged). x .number) (readImageIn-refused _ (r .read-image-in .ensures .0) (c .if1 .taken)) ∙ readImage-number _)
+    (rw (keys r, readImageInLent-refused _ (r .read-image-in .ensures .0) (emptyStore .keys) (c .if1 .taken), ← empty-zeros) (length-zeros limit)) (c .if1 .taken)
 
 slice-aggregate-front-in : tie.Need-slice-aggregate-front-in
 slice-aggregate-front-in c =
     let places = c .before .before in
     let e = places .before .before in
     let r = e .before .before in
-    let few = readIn-few _ (r .read-image-in .ensures .0) (e .if1 .left) (keys r) .0 in
+    let few = readImageIn-few _ (r .read-image-in .ensures .0) (e .if1 .left) (keys r) .0 in
     let long : length (r .read-image-in .last .1 .0) ≡ limit = search needs in
     sym (length-take-le _ _ (rw long few))
 

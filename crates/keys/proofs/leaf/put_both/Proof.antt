@@ -47,7 +47,9 @@ loop-again : tie.Need-loop-again Inv-loop μ-loop
 loop-again c =
     let s = c .before .before in
     let a = s .before .args in
-    let on = moved-down 0 2 (now (a .keys)) (s .loop .keys) (a .count) (s .loop .i) (s .loop .i + 1) (omega arith) (omega arith) (omega arith) (omega arith) (s .loop .inv .2) in
+    let on =
+    moved-down 0 2 (now (a .keys)) (s .loop .keys) (a .count) (s .loop .i) (s .loop .i + 1)
+    (omega arith) (omega arith) (omega arith) (omega arith) (s .loop .inv .2) in
     (omega arith, omega arith, on)
 
 add-keys-2 : tie.Need-add-keys-2 Inv-loop μ-loop

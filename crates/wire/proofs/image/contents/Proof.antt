@@ -1,6 +1,6 @@
 -- `image::contents` meets its contract. Assumes nothing.
 use borrow.Author.Needs.{needs}
-use Rattle.wire.proofs.ImagePaths.{readIn-0, readInLent-0}
+use Rattle.wire.proofs.ImagePaths.{readImageIn-0, readImageInLent-0}
 use Rattle.wire.proofs.image.contents.Statement.{statement}
 use Rattle.wire.proofs.image.contents.Tie as tie
 
@@ -20,7 +20,7 @@ read-claims-requires : tie.Need-read-claims-requires
 read-claims-requires c κs = search needs
 
 returns : tie.Need-returns
-returns c = search (needs, readIn-0, readInLent-0)
+returns c = search (needs, readImageIn-0, readImageInLent-0)
 
 pub contents-spec : {M : Type 1} → statement M
 contents-spec =

@@ -1,6 +1,6 @@
 -- `image::read_image_in` meets its contract: one law for each way. Assumes nothing.
 use borrow.Author.Needs.{needs}
-use Rattle.wire.proofs.ImagePaths.{readIn-counts, readInLent-counts, readIn-length, readInLent-length, told-readable}
+use Rattle.wire.proofs.ImagePaths.{readImageIn-counts, readImageInLent-counts, readImageIn-length, readImageInLent-length, told-readable}
 use Rattle.wire.proofs.image.read_image_in.Statement.{statement}
 use Rattle.wire.proofs.image.read_image_in.Tie as tie
 
@@ -11,13 +11,13 @@ no-rest-requires : tie.Need-no-rest-requires
 no-rest-requires c κs = search needs
 
 returns : tie.Need-returns
-returns c = search (needs, readIn-counts, readInLent-counts)
+returns c = search (needs, readImageIn-counts, readImageInLent-counts)
 
 no-rest-requires-2 : tie.Need-no-rest-requires-2
 no-rest-requires-2 c κs = search needs
 
 returns-2 : tie.Need-returns-2
-returns-2 c = search (needs, readIn-length, readInLent-length)
+returns-2 c = search (needs, readImageIn-length, readImageInLent-length)
 
 contents-requires : tie.Need-contents-requires
 contents-requires c κs = search (needs, told-readable)
