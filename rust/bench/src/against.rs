@@ -3,7 +3,7 @@
 //! host` and `rt staticlib rehearsal` have been run.
 //!
 //! Where code happens to stand in memory moves a time by some hundredths. So
-//! each archive is loaded at four places, and the best of them counts.
+//! each archive is loaded at four places, and the runs at all of them count.
 
 use std::hint::black_box;
 use std::io;

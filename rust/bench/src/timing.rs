@@ -6,7 +6,7 @@ use std::time::{Duration, Instant};
 /// How often the whole measurement is made anew.
 const RUNS: usize = 7;
 
-/// The turns of a run, at most and at least, and how long they take in all,
+/// The turns of a run, at least and at most, and how long they take in all,
 /// about; of each piece of work the best turn counts.
 const TURNS: (f64, f64) = (3.0, 30.0);
 const RUN: Duration = Duration::from_millis(30);
