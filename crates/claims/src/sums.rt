@@ -23,8 +23,8 @@ pub(crate) struct Sums {
     pub(crate) other: u64,
 }
 
-// The XOR of all keys of each of two runs, of which the one is longer by one key or two: side by side, since neither sum waits for the other. The last of
-// them are no loop, and no `if` reads a key: how many they are can't be foreseen.
+// The XOR of all keys of each of two runs, of which the one is longer by one key or two: side by side, since neither sum waits for the other. What is left
+// of the one is read before it is asked whether that is one key or two, which no processor can foresee.
 pub(crate) fn sums_of(one: &[u64], other: &[u64]) -> Sums
     requires { ⌜ (length (now other) < length (now one)) × (length (now one) ≤ length (now other) + 2) ⌝ }
     ensures { λ r. ⌜ (r .one ≡ xorAll (now (one .entry))) × (r .other ≡ xorAll (now (other .entry))) ⌝ }
