@@ -6,7 +6,7 @@
 --   Insert          entering keys
 --   Position        the position of a key
 --   StoreLaws       a store in order (specs/Store)
---   HalvingLaws, QuarteringLaws    the two searches of specs/Lent: a turn, the fuel
+--   HalvingLaws, QuarteringLaws    the two searches of specs/Lent: of one to three keys; a turn, the fuel
 --   FindingLaws     what they find among rising keys
 --   PuttingLaws     putting an element in at a place
 --   LentLaws        what the calls on a lent run mean, above all where the run is a store in order (specs/Lent)
