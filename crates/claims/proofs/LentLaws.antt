@@ -31,7 +31,8 @@ use Rattle.claims.specs.Claim.{span, xorAll, claimOf, noClaim}
 use Rattle.claims.specs.Question.{question, firstNo, claimQuestions}
 use Rattle.claims.specs.Reply.{hear, own, same, decide, zOf, help, answer, reply, numberOf}
 use Rattle.claims.specs.Call.{judged}
-use Rattle.claims.specs.Lent.{hearQuestions, Hearing, heard, unheard, hearIn, within, makeIn, middle, Halves, helpIn, answerAt, answerIn, replyIn}
+use Rattle.claims.specs.Lent.{hearQuestions, Hearing, heard, unheard, hearIn, within, makeIn}
+use Rattle.claims.specs.Lent.{middle, Positions, Halves, helpIn, answerAt, answerIn, replyIn}
 use Rattle.claims.proofs.Xor.{xor-assoc, xorAll-append, xorAll-snoc}
 use Rattle.claims.proofs.QuestionLaws.{Passes, passes-firstNo, judged-firstNo}
 use Rattle.claims.proofs.QuestionLaws.{firstNo-append-zero, firstNo-append-no, settle-kept, claimQuestions-numbered}
@@ -249,7 +250,7 @@ xor-last i n l h =
 pub middle-zOf : (first last : ℕ) → first + 1 < last → middle first last ≡ first + 1 + zOf (first + 1) (last - 1) + 1
 middle-zOf first last h = omega arith
 
-pub middle-lt : (first last : ℕ) → 3 ≤ last - 1 - (first + 1) → middle first last < last
+middle-lt : (first last : ℕ) → 3 ≤ last - 1 - (first + 1) → middle first last < last
 middle-lt first last h = omega arith
 
 module _ (keys : List ℕ) (first last left right : ℕ) (halves : Halves keys first last left right) where
@@ -286,8 +287,9 @@ module _ (keys : List ℕ) (first last left right : ℕ) (halves : Halves keys f
       let a : bitXor (xorAll (part first (suc n) keys)) (getD keys first 0) ≡ xorAll (part (suc first) n keys) = xor-first first n keys (omega arith) in
       rw (halves .left-sum, e, k) (rw (← (add-one first)) at a)
 
-  pub right-sum : middle first last < last → bitXor right (getD keys last 0) ≡ xorAll (span (middle first last) (last - 1) keys)
-  right-sum below =
+  pub right-sum : 3 ≤ last - 1 - (first + 1) → bitXor right (getD keys last 0) ≡ xorAll (span (middle first last) (last - 1) keys)
+  right-sum h =
+      let below = middle-lt first last h in
       let places = halves .places in
       let n : ℕ = last - middle first last in
       let e : last + 1 - middle first last ≡ suc n = omega arith in
@@ -296,3 +298,13 @@ module _ (keys : List ℕ) (first last left right : ℕ) (halves : Halves keys f
       let a : bitXor (xorAll (part (middle first last) (suc n) keys)) (getD keys (middle first last + n) 0) ≡ xorAll (part (middle first last) n keys) =
       xor-last (middle first last) n keys (omega arith) in
       rw (halves .right-sum, e, k) (rw f at a)
+
+  -- where the claims that help stand
+  pub one-places : first + 1 < last → Positions keys (first + 1) (last - 1)
+  one-places h = let places = halves .places in record { rise = omega arith; short = omega arith; inside = omega arith }
+
+  pub left-places : 3 ≤ last - 1 - (first + 1) → Positions keys (first + 1) (middle first last - 1)
+  left-places h = let places = halves .places in record { rise = omega arith; short = omega arith; inside = omega arith }
+
+  pub right-places : 3 ≤ last - 1 - (first + 1) → Positions keys (middle first last) (last - 1)
+  right-places h = let places = halves .places in record { rise = omega arith; short = omega arith; inside = omega arith }

@@ -14,13 +14,13 @@ minus-requires : tie.Need-minus-requires
 minus-requires c κs = search needs
 
 returns : tie.Need-returns
-returns c = search (needs, counted-no)
+returns c = search counted-no
 
 size-requires : tie.Need-size-requires
-size-requires c κs = search (needs, loaded-small)
+size-requires c κs = search loaded-small
 
 returns-2 : tie.Need-returns-2
-returns-2 c = search (needs, counted-yes)
+returns-2 c = search counted-yes
 
 pub minutefrost-count-spec : {M : Type 1} → statement M
 minutefrost-count-spec = tie.close (tie.spec load-requires minus-requires returns size-requires returns-2)

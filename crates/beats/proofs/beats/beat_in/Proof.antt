@@ -5,22 +5,22 @@ use Rattle.beats.proofs.beats.beat_in.Statement.{statement}
 use Rattle.beats.proofs.beats.beat_in.Tie as tie
 
 returns : tie.Need-returns
-returns c = search (needs, beat-many)
+returns c = search beat-many
 
 returns-2 : tie.Need-returns-2
-returns-2 c = search (needs, beat-short)
+returns-2 c = search beat-short
 
 write-whole-requires : tie.Need-write-whole-requires
 write-whole-requires c κs = search needs
 
 serve-table-requires : tie.Need-serve-table-requires
-serve-table-requires c κs = search (needs, beat-room)
+serve-table-requires c κs = search beat-room
 
 same-length : tie.Need-same-length
 same-length c = search needs
 
 returns-3 : tie.Need-returns-3
-returns-3 c = search (needs, beat-done)
+returns-3 c = search beat-done
 
 pub beat-in-spec : {M : Type 1} → statement M
 beat-in-spec =

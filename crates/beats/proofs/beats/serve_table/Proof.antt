@@ -15,7 +15,7 @@ abbrev μ-loop : tie.MeasureT-loop
 
 loop-holds : tie.Need-loop-holds Inv-loop μ-loop
 unfolding blanks
-loop-holds c = search (needs, left-all)
+loop-holds c = search left-all
 
 mul-claim : tie.Need-mul-claim Inv-loop μ-loop
 mul-claim c = search needs
@@ -48,19 +48,19 @@ loop-less : tie.Need-loop-less Inv-loop μ-loop
 loop-less c = search needs
 
 loop-again : tie.Need-loop-again Inv-loop μ-loop
-loop-again c = search (needs, left-stays)
+loop-again c = search left-stays
 
 loop-less-2 : tie.Need-loop-less-2 Inv-loop μ-loop
 loop-less-2 c = search needs
 
 loop-again-2 : tie.Need-loop-again-2 Inv-loop μ-loop
-loop-again-2 c = search (needs, left-leaves)
+loop-again-2 c = search left-leaves
 
 same-length : tie.Need-same-length Inv-loop μ-loop
 same-length c = search needs
 
 returns : tie.Need-returns Inv-loop μ-loop
-returns c = search (needs, left-none)
+returns c = search left-none
 
 pub serve-table-spec : {M : Type 1} → statement M
 serve-table-spec =

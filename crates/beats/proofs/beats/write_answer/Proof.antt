@@ -56,28 +56,28 @@ add-result-3 : tie.Need-add-result-3
 add-result-3 c = search needs
 
 returns : tie.Need-returns
-returns c = search (needs, wrote-none)
+returns c = search wrote-none
 
 returns-2 : tie.Need-returns-2
-returns-2 c = search (needs, wrote-none)
+returns-2 c = search wrote-none
 
 same-length : tie.Need-same-length
 same-length c = search needs
 
 returns-3 : tie.Need-returns-3
-returns-3 c = search (needs, wrote-one)
+returns-3 c = search wrote-one
 
 same-length-2 : tie.Need-same-length-2
 same-length-2 c = search needs
 
 returns-4 : tie.Need-returns-4
-returns-4 c = search (needs, wrote-one)
+returns-4 c = search wrote-one
 
 same-length-3 : tie.Need-same-length-3
 same-length-3 c = search needs
 
 returns-5 : tie.Need-returns-5
-returns-5 c = search (needs, wrote-two)
+returns-5 c = search wrote-two
 
 pub write-answer-spec : {M : Type 1} → statement M
 write-answer-spec =

@@ -5,7 +5,7 @@ use Rattle.beats.proofs.beats.write_whole.Statement.{statement}
 use Rattle.beats.proofs.beats.write_whole.Tie as tie
 
 returns : tie.Need-returns
-returns c = search (needs, whole-none)
+returns c = search whole-none
 
 sub-make-in : tie.Need-sub-make-in
 sub-make-in c = search needs
@@ -20,7 +20,7 @@ same-length : tie.Need-same-length
 same-length c = search needs
 
 returns-2 : tie.Need-returns-2
-returns-2 c = search (needs, whole-one)
+returns-2 c = search whole-one
 
 pub write-whole-spec : {M : Type 1} → statement M
 write-whole-spec =

@@ -8,13 +8,13 @@ ordered-in-requires : tie.Need-ordered-in-requires
 ordered-in-requires c κs = search needs
 
 returns : tie.Need-returns
-returns c = search (needs, made-1)
+returns c = search made-1
 
 make-in-requires : tie.Need-make-in-requires
 make-in-requires c κs = search needs
 
 returns-2 : tie.Need-returns-2
-returns-2 c = search (needs, made-made)
+returns-2 c = search made-made
 
 pub make-spec : {M : Type 1} → statement M
 make-spec = tie.close (tie.spec ordered-in-requires returns make-in-requires returns-2)

@@ -8,13 +8,13 @@ ordered-in-requires : tie.Need-ordered-in-requires
 ordered-in-requires c κs = search needs
 
 returns : tie.Need-returns
-returns c = search (needs, replied-1)
+returns c = search replied-1
 
 reply-in-requires : tie.Need-reply-in-requires
 reply-in-requires c κs = search needs
 
 returns-2 : tie.Need-returns-2
-returns-2 c = search (needs, replied-told)
+returns-2 c = search replied-told
 
 pub reply-spec : {M : Type 1} → statement M
 reply-spec = tie.close (tie.spec ordered-in-requires returns reply-in-requires returns-2)

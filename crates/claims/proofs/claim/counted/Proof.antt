@@ -5,13 +5,13 @@ use Rattle.claims.proofs.claim.counted.Statement.{statement}
 use Rattle.claims.proofs.claim.counted.Tie as tie
 
 returns : tie.Need-returns
-returns c = search (needs, counts-none)
+returns c = search counts-none
 
 cast-result : tie.Need-cast-result
 cast-result c = search needs
 
 returns-2 : tie.Need-returns-2
-returns-2 c = search (needs, counts-some)
+returns-2 c = search counts-some
 
 pub counted-spec : {M : Type 1} → statement M
 counted-spec = tie.close (tie.spec returns cast-result returns-2)

@@ -5,28 +5,28 @@ use Rattle.claims.proofs.claim.judge.Statement.{statement}
 use Rattle.claims.proofs.claim.judge.Tie as tie
 
 returns : tie.Need-returns
-returns c = search (needs, judged-2)
+returns c = search judged-2
 
 counted-requires : tie.Need-counted-requires
 counted-requires c κs = search needs
 
 returns-2 : tie.Need-returns-2
-returns-2 c = search (needs, judged-3)
+returns-2 c = search judged-3
 
 spanned-requires : tie.Need-spanned-requires
 spanned-requires c κs = search needs
 
 returns-3 : tie.Need-returns-3
-returns-3 c = search (needs, judged-4)
+returns-3 c = search judged-4
 
 summed-requires : tie.Need-summed-requires
 summed-requires c κs = search needs
 
 returns-4 : tie.Need-returns-4
-returns-4 c = search (needs, judged-5)
+returns-4 c = search judged-5
 
 returns-5 : tie.Need-returns-5
-returns-5 c = search (needs, judged-0)
+returns-5 c = search judged-0
 
 pub judge-spec : {M : Type 1} → statement M
 judge-spec =

@@ -14,13 +14,13 @@ within-requires : tie.Need-within-requires
 within-requires c κs = search needs
 
 returns : tie.Need-returns
-returns c = search (needs, answerIn-not)
+returns c = search answerIn-not
 
 answer-at-requires : tie.Need-answer-at-requires
-answer-at-requires c κs = search (needs, within-positions)
+answer-at-requires c κs = search within-positions
 
 returns-2 : tie.Need-returns-2
-returns-2 c = search (needs, answerIn-at)
+returns-2 c = search answerIn-at
 
 pub answer-in-spec : {M : Type 1} → statement M
 answer-in-spec =

@@ -26,7 +26,7 @@ cast-cnt : tie.Need-cast-cnt
 cast-cnt c = search needs
 
 returns : tie.Need-returns
-returns c = search (needs, claim-summed)
+returns c = search claim-summed
 
 pub claim-with-spec : {M : Type 1} → statement M
 claim-with-spec = tie.close (tie.spec mul-lo shared-slice-read-lo mul-hi shared-slice-read-hi sub-cnt add-cnt cast-cnt returns)

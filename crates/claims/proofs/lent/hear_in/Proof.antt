@@ -11,7 +11,7 @@ not-heard-requires : tie.Need-not-heard-requires
 not-heard-requires c κs = search needs
 
 returns : tie.Need-returns
-returns c = search (needs, heard-judged)
+returns c = search heard-judged
 
 add-both-in-requires : tie.Need-add-both-in-requires
 add-both-in-requires c κs = search needs
@@ -20,10 +20,10 @@ not-heard-requires-2 : tie.Need-not-heard-requires-2
 not-heard-requires-2 c κs = search needs
 
 returns-2 : tie.Need-returns-2
-returns-2 c = search (needs, heard-unfit)
+returns-2 c = search heard-unfit
 
 returns-3 : tie.Need-returns-3
-returns-3 c = search (needs, heard-added)
+returns-3 c = search heard-added
 
 pub hear-in-spec : {M : Type 1} → statement M
 hear-in-spec =

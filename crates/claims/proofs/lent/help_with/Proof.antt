@@ -1,8 +1,6 @@
 -- `claims::lent::help_with` meets its contract. Assumes nothing.
-use native.Mathlib.Omega.{arith}
 use borrow.Author.Needs.{needs}
-use denote.Ref.{now}
-use Rattle.claims.proofs.LentLaws.{middle-lt, one-sum, left-sum, right-sum}
+use Rattle.claims.proofs.LentLaws.{one-places, one-sum, left-places, left-sum, right-places, right-sum}
 use Rattle.claims.proofs.LentPaths.{help-none, help-one, help-two}
 use Rattle.claims.proofs.lent.help_with.Statement.{statement}
 use Rattle.claims.proofs.lent.help_with.Tie as tie
@@ -11,7 +9,7 @@ add-if1 : tie.Need-add-if1
 add-if1 c = search needs
 
 returns : tie.Need-returns
-returns c = search (needs, help-none)
+returns c = search help-none
 
 add-a : tie.Need-add-a
 add-a c = search needs
@@ -35,16 +33,10 @@ sub-if2 : tie.Need-sub-if2
 sub-if2 c = search needs
 
 claim-with-requires : tie.Need-claim-with-requires
-claim-with-requires c κs =
-    let apart = c .before .before .before in
-    let s = apart .before .before in
-    let places = s .pre .places in (
-      record { rise = omega (arith, apart .if1 .left); short = omega arith; inside = omega arith },
-      one-sum (now (s .args .keys)) (s .args .first) (s .args .last) (s .args .left) (s .args .right) (s .pre) (apart .if1 .left),
-    )
+claim-with-requires c κs = search (one-places, one-sum)
 
 returns-2 : tie.Need-returns-2
-returns-2 c = search (needs, help-one)
+returns-2 c = search help-one
 
 add-mid : tie.Need-add-mid
 add-mid c = search needs
@@ -62,13 +54,13 @@ sub-claim-with : tie.Need-sub-claim-with
 sub-claim-with c = search needs
 
 claim-with-requires-2 : tie.Need-claim-with-requires-2
-claim-with-requires-2 c κs = search (needs, left-sum)
+claim-with-requires-2 c κs = search (left-places, left-sum)
 
 claim-with-requires-3 : tie.Need-claim-with-requires-3
-claim-with-requires-3 c κs = search (needs, right-sum, middle-lt)
+claim-with-requires-3 c κs = search (right-places, right-sum)
 
 returns-3 : tie.Need-returns-3
-returns-3 c = search (needs, help-two)
+returns-3 c = search help-two
 
 pub help-with-spec : {M : Type 1} → statement M
 help-with-spec =

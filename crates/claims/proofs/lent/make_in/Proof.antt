@@ -8,13 +8,13 @@ within-requires : tie.Need-within-requires
 within-requires c κs = search needs
 
 returns : tie.Need-returns
-returns c = search (needs, makeIn-not)
+returns c = search makeIn-not
 
 claim-at-requires : tie.Need-claim-at-requires
-claim-at-requires c κs = search (needs, within-positions)
+claim-at-requires c κs = search within-positions
 
 returns-2 : tie.Need-returns-2
-returns-2 c = search (needs, makeIn-claim)
+returns-2 c = search makeIn-claim
 
 pub make-in-spec : {M : Type 1} → statement M
 make-in-spec = tie.close (tie.spec within-requires returns claim-at-requires returns-2)

@@ -35,7 +35,7 @@ loop-again : tie.Need-loop-again Inv-loop μ-loop
 loop-again c = search (needs, xor-on)
 
 returns : tie.Need-returns Inv-loop μ-loop
-returns c = search (needs, xor-all)
+returns c = search xor-all
 
 pub xor-all-spec : {M : Type 1} → statement M
 xor-all-spec =

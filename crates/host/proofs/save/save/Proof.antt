@@ -15,19 +15,19 @@ abbrev asked : tie.After-write-image-in → tie.Else1
 asked w = w .before .before .before .before
 
 shaped : (e : tie.Else1) → Shaped (nodeHeld (given e .args .keys .now) (given e .args .node))
-shaped e = record { keys = given e .pre .long; pending = search (needs, length-mapped) }
+shaped e = record { keys = given e .pre .long; pending = search length-mapped }
 
 minus-requires : tie.Need-minus-requires
 minus-requires c κs = search needs
 
 returns : tie.Need-returns
-returns c = search (needs, saved-refused)
+returns c = search saved-refused
 
 minus-requires-2 : tie.Need-minus-requires-2
 minus-requires-2 c κs = search needs
 
 returns-2 : tie.Need-returns-2
-returns-2 c = search (needs, saved-15)
+returns-2 c = search saved-15
 
 write-image-in-requires : tie.Need-write-image-in-requires
 write-image-in-requires c κs = search needs

@@ -51,7 +51,7 @@ abbrev beaten : tie.After-write-image-in → tie.After-beat-in
 beaten w = w .before .before .before .before
 
 shaped : (c : tie.After-write-image-in-arg) → Shaped (left (c .before .before .before))
-shaped c = record { keys = given (c .before .before .before) .pre .long; pending = search (needs, length-mapped) }
+shaped c = record { keys = given (c .before .before .before) .pre .long; pending = search length-mapped }
 
 slice-aggregate-beat-in : tie.Need-slice-aggregate-beat-in
 slice-aggregate-beat-in c = search needs

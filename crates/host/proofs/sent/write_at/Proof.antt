@@ -8,7 +8,7 @@ use Rattle.host.proofs.sent.write_at.Statement.{statement}
 use Rattle.host.proofs.sent.write_at.Tie as tie
 
 long : (c : tie.After-write-frame) → c .write-frame .result .length ≡ frameLength (c .before .before .before .args .n)
-long c = search (needs, frame-length)
+long c = search frame-length
 
 sub-write-frame : tie.Need-sub-write-frame
 sub-write-frame c = search needs
@@ -31,7 +31,7 @@ same-length c = search needs
 returns : tie.Need-returns
 returns c =
     let e = long (c .before .before .before) in
-    (omega arith, search (needs, frame-put))
+    (omega arith, search frame-put)
 
 pub write-at-spec : {M : Type 1} → statement M
 write-at-spec =

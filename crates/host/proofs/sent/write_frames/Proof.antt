@@ -101,7 +101,7 @@ same-length : tie.Need-same-length Inv-loop μ-loop
 same-length c = search needs
 
 returns : tie.Need-returns Inv-loop μ-loop
-returns c = search (needs, written-all, many)
+returns c = search (written-all, many)
 
 pub write-frames-spec : {M : Type 1} → statement M
 write-frames-spec =

@@ -39,7 +39,7 @@ given s = take (s .args .n) (s .args .t5)
 
 counted : (s : tie.Start Inv-loop μ-loop) → length (given s) ≡ s .args .n
 counted s =
-    let e : length (s .args .t5) ≡ 4 = search (needs, length-mapped) in
+    let e : length (s .args .t5) ≡ 4 = search length-mapped in
     length-take-le (s .args .n) (s .args .t5) (omega (arith, s .pre .few))
 
 -- the turn of a claim, from the test on
@@ -60,10 +60,10 @@ turn c =
     }
 
 places-next : (c : tie.After-struct-known Inv-loop μ-loop) → length (c .before .take-in .result .table) ≡ tableLimit
-places-next c = search (needs, length-mapped)
+places-next c = search length-mapped
 
 loop-holds : tie.Need-loop-holds Inv-loop μ-loop
-loop-holds c = (search needs, record { keys = c .pre .long; pending = search (needs, length-mapped) }, c .pre .ordered, refl, refl)
+loop-holds c = (search needs, record { keys = c .pre .long; pending = search length-mapped }, c .pre .ordered, refl, refl)
 
 mul-take-in : tie.Need-mul-take-in Inv-loop μ-loop
 mul-take-in c = search needs

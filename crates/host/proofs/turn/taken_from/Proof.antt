@@ -24,7 +24,7 @@ load-requires : tie.Need-load-requires
 load-requires c κs = search needs
 
 returns : tie.Need-returns
-returns c = search (needs, loaded-refused)
+returns c = search loaded-refused
 
 read-frame-requires : tie.Need-read-frame-requires
 read-frame-requires c κs = search needs

@@ -20,7 +20,7 @@ add-result : tie.Need-add-result
 add-result c = search needs
 
 returns : tie.Need-returns
-returns c = search (needs, step-on)
+returns c = search step-on
 
 pub step-spec : {M : Type 1} → statement M
 step-spec =

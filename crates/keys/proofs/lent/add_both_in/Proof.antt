@@ -8,7 +8,7 @@ add-in-requires : tie.Need-add-in-requires
 add-in-requires c κs = search needs
 
 returns : tie.Need-returns
-returns c = search (needs, both-one)
+returns c = search both-one
 
 place-in-requires : tie.Need-place-in-requires
 place-in-requires c κs = search needs
@@ -17,10 +17,10 @@ place-in-requires-2 : tie.Need-place-in-requires-2
 place-in-requires-2 c κs = search needs
 
 add-two-requires : tie.Need-add-two-requires
-add-two-requires c κs = search (needs, place-le)
+add-two-requires c κs = search place-le
 
 returns-2 : tie.Need-returns-2
-returns-2 c = search (needs, both-two)
+returns-2 c = search both-two
 
 pub add-both-in-spec : {M : Type 1} → statement M
 add-both-in-spec =

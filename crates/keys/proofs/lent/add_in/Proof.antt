@@ -17,7 +17,7 @@ no-room-requires : tie.Need-no-room-requires
 no-room-requires c κs = search needs
 
 returns : tie.Need-returns
-returns c = search (needs, add-full)
+returns c = search add-full
 
 put-in-requires : tie.Need-put-in-requires
 put-in-requires c κs = search (needs, place-le)
@@ -26,7 +26,7 @@ add-total : tie.Need-add-total
 add-total c = search needs
 
 returns-2 : tie.Need-returns-2
-returns-2 c = search (needs, add-room)
+returns-2 c = search add-room
 
 pub add-in-spec : {M : Type 1} → statement M
 add-in-spec =

@@ -20,13 +20,13 @@ no-room-requires : tie.Need-no-room-requires
 no-room-requires c κs = search needs
 
 returns : tie.Need-returns
-returns c = search (needs, two-full)
+returns c = search two-full
 
 no-room-requires-2 : tie.Need-no-room-requires-2
 no-room-requires-2 c κs = search needs
 
 returns-2 : tie.Need-returns-2
-returns-2 c = search (needs, two-fall)
+returns-2 c = search two-fall
 
 put-two-requires : tie.Need-put-two-requires
 put-two-requires c κs = search needs
@@ -41,7 +41,7 @@ add-total-2 : tie.Need-add-total-2
 add-total-2 c = search needs
 
 returns-3 : tie.Need-returns-3
-returns-3 c = search (needs, two-room)
+returns-3 c = search two-room
 
 pub add-two-spec : {M : Type 1} → statement M
 add-two-spec =

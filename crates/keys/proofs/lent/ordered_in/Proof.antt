@@ -7,19 +7,19 @@ use Rattle.keys.proofs.lent.ordered_in.Statement.{statement}
 use Rattle.keys.proofs.lent.ordered_in.Tie as tie
 
 returns : tie.Need-returns
-returns c = search (needs, ordered-long)
+returns c = search ordered-long
 
 returns-2 : tie.Need-returns-2
-returns-2 c = search (needs, ordered-short)
+returns-2 c = search ordered-short
 
 slice-aggregate-rising : tie.Need-slice-aggregate-rising
-slice-aggregate-rising c = sym (search (needs, length-take-le))
+slice-aggregate-rising c = sym (search length-take-le)
 
 rising-requires : tie.Need-rising-requires
 rising-requires c κs = search needs
 
 returns-3 : tie.Need-returns-3
-returns-3 c = search (needs, ordered-not)
+returns-3 c = search ordered-not
 
 mul-all-zero : tie.Need-mul-all-zero
 mul-all-zero c = search needs
@@ -37,7 +37,7 @@ all-zero-requires : tie.Need-all-zero-requires
 all-zero-requires c κs = search needs
 
 returns-4 : tie.Need-returns-4
-returns-4 c = search (needs, ordered-all-zero)
+returns-4 c = search ordered-all-zero
 
 pub ordered-in-spec : {M : Type 1} → statement M
 ordered-in-spec =

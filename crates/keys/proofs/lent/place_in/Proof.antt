@@ -11,13 +11,13 @@ given c = c .before .before .before .before
 
 -- the place found is below the count
 found-lt : (c : tie.After-quartered) → c .quartered .result < given c .args .count
-found-lt c = search (needs, place-lt)
+found-lt c = search place-lt
 
 returns : tie.Need-returns
-returns c = search (needs, place-none)
+returns c = search place-none
 
 returns-2 : tie.Need-returns-2
-returns-2 c = search (needs, place-short)
+returns-2 c = search place-short
 
 quartered-requires : tie.Need-quartered-requires
 quartered-requires c κs = search needs
@@ -32,10 +32,10 @@ add-next : tie.Need-add-next
 add-next c = let h = found-lt (c .before .before) in search needs
 
 returns-3 : tie.Need-returns-3
-returns-3 c = search (needs, place-after)
+returns-3 c = search place-after
 
 returns-4 : tie.Need-returns-4
-returns-4 c = search (needs, place-at)
+returns-4 c = search place-at
 
 pub place-in-spec : {M : Type 1} → statement M
 place-in-spec =

@@ -8,19 +8,19 @@ put-in-requires : tie.Need-put-in-requires
 put-in-requires c κs = search needs
 
 returns : tie.Need-returns
-returns c = search (needs, two-lower-held)
+returns c = search two-lower-held
 
 put-in-requires-2 : tie.Need-put-in-requires-2
 put-in-requires-2 c κs = search needs
 
 returns-2 : tie.Need-returns-2
-returns-2 c = search (needs, two-upper-held)
+returns-2 c = search two-upper-held
 
 put-both-requires : tie.Need-put-both-requires
-put-both-requires c κs = search (needs, two-fits)
+put-both-requires c κs = search two-fits
 
 returns-3 : tie.Need-returns-3
-returns-3 c = search (needs, two-missing)
+returns-3 c = search two-missing
 
 pub put-two-spec : {M : Type 1} → statement M
 put-two-spec =

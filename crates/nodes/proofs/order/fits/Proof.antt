@@ -8,19 +8,19 @@ judge-requires : tie.Need-judge-requires
 judge-requires c κs = search needs
 
 returns : tie.Need-returns
-returns c = search (needs, fits-judged)
+returns c = search fits-judged
 
 place-in-requires : tie.Need-place-in-requires
 place-in-requires c κs = search needs
 
 returns-2 : tie.Need-returns-2
-returns-2 c = search (needs, fits-lo)
+returns-2 c = search fits-lo
 
 place-in-requires-2 : tie.Need-place-in-requires-2
 place-in-requires-2 c κs = search needs
 
 returns-3 : tie.Need-returns-3
-returns-3 c = search (needs, fits-hi)
+returns-3 c = search fits-hi
 
 pub fits-spec : {M : Type 1} → statement M
 fits-spec =

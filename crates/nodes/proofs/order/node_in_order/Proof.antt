@@ -8,22 +8,22 @@ ordered-in-requires : tie.Need-ordered-in-requires
 ordered-in-requires c κs = search needs
 
 returns : tie.Need-returns
-returns c = search (needs, ordered-store)
+returns c = search ordered-store
 
 returns-2 : tie.Need-returns-2
-returns-2 c = search (needs, ordered-count)
+returns-2 c = search ordered-count
 
 pending-requires : tie.Need-pending-requires
-pending-requires c κs = search (needs, tested-yes)
+pending-requires c κs = search tested-yes
 
 returns-3 : tie.Need-returns-3
-returns-3 c = search (needs, ordered-pending)
+returns-3 c = search ordered-pending
 
 all-unused-requires : tie.Need-all-unused-requires
 all-unused-requires c κs = search needs
 
 returns-4 : tie.Need-returns-4
-returns-4 c = search (needs, ordered-unused)
+returns-4 c = search ordered-unused
 
 pub node-in-order-spec : {M : Type 1} → statement M
 node-in-order-spec =

@@ -14,7 +14,7 @@ enlist-at-requires : tie.Need-enlist-at-requires
 enlist-at-requires c κs = search needs
 
 returns : tie.Need-returns
-returns c = search (needs, enlisted-found)
+returns c = search enlisted-found
 
 pub enlist-spec : {M : Type 1} → statement M
 enlist-spec = tie.close (tie.spec capped-requires place-among-requires enlist-at-requires returns)

@@ -8,10 +8,10 @@ is-at-requires : tie.Need-is-at-requires
 is-at-requires c κs = search needs
 
 returns : tie.Need-returns
-returns c = search (needs, enlisted-held)
+returns c = search enlisted-held
 
 returns-2 : tie.Need-returns-2
-returns-2 c = search (needs, enlisted-last)
+returns-2 c = search enlisted-last
 
 sub-capped : tie.Need-sub-capped
 sub-capped c = search needs
@@ -26,7 +26,7 @@ add-total : tie.Need-add-total
 add-total c = search needs
 
 returns-3 : tie.Need-returns-3
-returns-3 c = search (needs, enlisted-put)
+returns-3 c = search enlisted-put
 
 pub enlist-at-spec : {M : Type 1} → statement M
 enlist-at-spec =

@@ -9,13 +9,13 @@ ordered-requires : tie.Need-ordered-requires
 ordered-requires c κs = search needs
 
 returns : tie.Need-returns
-returns c = search (needs, taken-1)
+returns c = search taken-1
 
 take-in-requires : tie.Need-take-in-requires
 take-in-requires c κs = search needs
 
 returns-2 : tie.Need-returns-2
-returns-2 c = search (needs, taken-in, length-mapped)
+returns-2 c = search (taken-in, length-mapped)
 
 pub take-spec : {M : Type 1} → statement M
 take-spec = tie.close (tie.spec ordered-requires returns take-in-requires returns-2)

@@ -24,7 +24,7 @@ loop-holds : tie.Need-loop-holds Inv-loop μ-loop
 loop-holds c = search needs
 
 sub-i : tie.Need-sub-i Inv-loop μ-loop
-sub-i c = search (needs, some-digit)
+sub-i c = search some-digit
 
 cast-out : tie.Need-cast-out Inv-loop μ-loop
 cast-out c = search needs

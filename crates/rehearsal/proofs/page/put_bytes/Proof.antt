@@ -42,7 +42,7 @@ same-length : tie.Need-same-length Inv-loop μ-loop
 same-length c = search needs
 
 returns : tie.Need-returns Inv-loop μ-loop
-returns c = search (needs, bytes-all)
+returns c = search bytes-all
 
 pub put-bytes-spec : {M : Type 1} → statement M
 put-bytes-spec =

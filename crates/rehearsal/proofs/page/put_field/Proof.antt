@@ -20,7 +20,7 @@ same-length : tie.Need-same-length
 same-length c = c .before .before .put-decimal .kept .0 ∙ simp length-set
 
 returns : tie.Need-returns
-returns c = search (needs, field-put)
+returns c = search field-put
 
 pub put-field-spec : {M : Type 1} → statement M
 put-field-spec =

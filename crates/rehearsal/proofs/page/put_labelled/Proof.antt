@@ -14,7 +14,7 @@ same-length : tie.Need-same-length
 same-length c = search needs
 
 returns : tie.Need-returns
-returns c = search (needs, labelled-put)
+returns c = search labelled-put
 
 pub put-labelled-spec : {M : Type 1} → statement M
 put-labelled-spec = tie.close (tie.spec put-bytes-requires put-field-requires same-length returns)

@@ -38,7 +38,7 @@ same-length : tie.Need-same-length
 same-length c = simp length-set (c .before .before .put-four .kept .0 ∙ simp length-set)
 
 returns : tie.Need-returns
-returns c = search (needs, row-put)
+returns c = search row-put
 
 pub put-line-spec : {M : Type 1} → statement M
 put-line-spec =

@@ -38,7 +38,7 @@ same-length : tie.Need-same-length Inv-loop μ-loop
 same-length c = search needs
 
 returns : tie.Need-returns Inv-loop μ-loop
-returns c = search (needs, rows-all)
+returns c = search rows-all
 
 pub put-lines-spec : {M : Type 1} → statement M
 put-lines-spec =

@@ -20,7 +20,7 @@ same-length : tie.Need-same-length
 same-length c = search needs
 
 returns : tie.Need-returns
-returns c = search (needs, refused-put)
+returns c = search refused-put
 
 pub put-refused-spec : {M : Type 1} → statement M
 put-refused-spec =

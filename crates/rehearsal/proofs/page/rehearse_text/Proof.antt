@@ -20,14 +20,14 @@ put-refused-requires : tie.Need-put-refused-requires
 put-refused-requires c κs = search needs
 
 returns : tie.Need-returns
-returns c = search (needs, text-refused)
+returns c = search text-refused
 
 slice-aggregate-put-lines : tie.Need-slice-aggregate-put-lines
 slice-aggregate-put-lines c = search needs
 
 -- the deliveries fit the lent records
 fits : (c : tie.Else1) → c .before .before .before .rehearse .result .deliveries ≤ lentRecords
-fits c = search (needs, told-fits)
+fits c = search told-fits
 
 put-lines-requires : tie.Need-put-lines-requires
 put-lines-requires c κs =
@@ -41,7 +41,7 @@ put-last-requires c κs =
     omega arith
 
 returns-2 : tie.Need-returns-2
-returns-2 c = search (needs, text-told)
+returns-2 c = search text-told
 
 pub rehearse-text-spec : {M : Type 1} → statement M
 rehearse-text-spec =

@@ -12,7 +12,7 @@ no-rehearsal-requires : tie.Need-no-rehearsal-requires
 no-rehearsal-requires c κs = search needs
 
 returns : tie.Need-returns
-returns c = search (needs, front-refused)
+returns c = search front-refused
 
 sub-read-image : tie.Need-sub-read-image
 sub-read-image c = search (needs, front-fits)
@@ -21,7 +21,7 @@ part-read-image-start : tie.Need-part-read-image-start
 part-read-image-start c = search (needs, front-fits)
 
 part-read-image-end : tie.Need-part-read-image-end
-part-read-image-end c = search (needs, front-fits)
+part-read-image-end c = search front-fits
 
 read-image-requires : tie.Need-read-image-requires
 read-image-requires c κs = search needs
@@ -30,13 +30,13 @@ no-rehearsal-requires-2 : tie.Need-no-rehearsal-requires-2
 no-rehearsal-requires-2 c κs = search needs
 
 returns-2 : tie.Need-returns-2
-returns-2 c = search (needs, first-refused)
+returns-2 c = search first-refused
 
 sub-with-second : tie.Need-sub-with-second
-sub-with-second c = search (needs, front-fits)
+sub-with-second c = search front-fits
 
 part-with-second-start : tie.Need-part-with-second-start
-part-with-second-start c = search (needs, front-fits)
+part-with-second-start c = search front-fits
 
 part-with-second-end : tie.Need-part-with-second-end
 part-with-second-end c = search (needs, front-fits)
@@ -48,7 +48,7 @@ same-length : tie.Need-same-length
 same-length c = search needs
 
 returns-3 : tie.Need-returns-3
-returns-3 c = search (needs, first-read)
+returns-3 c = search first-read
 
 pub rehearse-spec : {M : Type 1} → statement M
 rehearse-spec =

@@ -11,7 +11,7 @@ no-rehearsal-requires : tie.Need-no-rehearsal-requires
 no-rehearsal-requires c κs = search needs
 
 returns : tie.Need-returns
-returns c = search (needs, second-refused)
+returns c = search second-refused
 
 round-words-requires : tie.Need-round-words-requires
 round-words-requires c κs = search needs
@@ -23,13 +23,13 @@ same-length : tie.Need-same-length
 same-length c = search needs
 
 returns-2 : tie.Need-returns-2
-returns-2 c = search (needs, round-refused)
+returns-2 c = search round-refused
 
 same-length-2 : tie.Need-same-length-2
 same-length-2 c = search needs
 
 returns-3 : tie.Need-returns-3
-returns-3 c = search (needs, round-told)
+returns-3 c = search round-told
 
 pub with-second-spec : {M : Type 1} → statement M
 with-second-spec =

@@ -1,6 +1,5 @@
 -- `rounds::log::delivery_in` meets its contract. Assumes nothing.
 use borrow.Author.Needs.{needs}
-use denote.Ref.{now}
 use Rattle.rounds.proofs.LogLaws.{deliveryIn-some, deliveryIn-none}
 use Rattle.rounds.proofs.log.delivery_in.Statement.{statement}
 use Rattle.rounds.proofs.log.delivery_in.Tie as tie
@@ -21,10 +20,10 @@ cast-t12 : tie.Need-cast-t12
 cast-t12 c = search needs
 
 returns : tie.Need-returns
-returns c = search (needs, deliveryIn-some)
+returns c = search deliveryIn-some
 
 returns-2 : tie.Need-returns-2
-returns-2 c = search (needs, deliveryIn-none)
+returns-2 c = search deliveryIn-none
 
 pub delivery-in-spec : {M : Type 1} → statement M
 delivery-in-spec =

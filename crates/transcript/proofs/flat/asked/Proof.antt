@@ -8,34 +8,34 @@ ordered-in-requires : tie.Need-ordered-in-requires
 ordered-in-requires c κs = search needs
 
 returns : tie.Need-returns
-returns c = search (needs, asked-left)
+returns c = search asked-left
 
 ordered-in-requires-2 : tie.Need-ordered-in-requires-2
 ordered-in-requires-2 c κs = search needs
 
 returns-2 : tie.Need-returns-2
-returns-2 c = search (needs, asked-right)
+returns-2 c = search asked-right
 
 slice-aggregate-union-count : tie.Need-slice-aggregate-union-count
-slice-aggregate-union-count c = search (needs, found-long)
+slice-aggregate-union-count c = search found-long
 
 slice-aggregate-union-count-2 : tie.Need-slice-aggregate-union-count-2
-slice-aggregate-union-count-2 c = search (needs, found-long)
+slice-aggregate-union-count-2 c = search found-long
 
 union-count-requires : tie.Need-union-count-requires
-union-count-requires c κs = search (needs, found-rising, found-short)
+union-count-requires c κs = search (found-rising, found-short)
 
 returns-3 : tie.Need-returns-3
-returns-3 c = search (needs, asked-8)
+returns-3 c = search asked-8
 
 mul-if4 : tie.Need-mul-if4
 mul-if4 c = search needs
 
 returns-4 : tie.Need-returns-4
-returns-4 c = search (needs, asked-9)
+returns-4 c = search asked-9
 
 returns-5 : tie.Need-returns-5
-returns-5 c = search (needs, asked-0)
+returns-5 c = search asked-0
 
 pub asked-spec : {M : Type 1} → statement M
 asked-spec =

@@ -29,7 +29,7 @@ same-length : tie.Need-same-length
 same-length c = search needs
 
 returns : tie.Need-returns
-returns c = search (needs, step-right)
+returns c = search step-right
 
 reply-in-requires-2 : tie.Need-reply-in-requires-2
 reply-in-requires-2 c κs = search needs
@@ -41,7 +41,7 @@ same-length-2 : tie.Need-same-length-2
 same-length-2 c = search needs
 
 returns-2 : tie.Need-returns-2
-returns-2 c = search (needs, step-left)
+returns-2 c = search step-left
 
 pub deliver-spec : {M : Type 1} → statement M
 deliver-spec =

@@ -37,13 +37,13 @@ loop-less : tie.Need-loop-less Inv-loop μ-loop
 loop-less c = search (needs, turn-less)
 
 loop-again : tie.Need-loop-again Inv-loop μ-loop
-loop-again c = (search (needs, turn-fits), search (needs, turn-same), search (needs, turn-on))
+loop-again c = (search turn-fits, search turn-same, search turn-on)
 
 same-length : tie.Need-same-length Inv-loop μ-loop
 same-length c = search needs
 
 returns : tie.Need-returns Inv-loop μ-loop
-returns c = search (needs, stopped)
+returns c = search stopped
 
 pub deliver-all-spec : {M : Type 1} → statement M
 deliver-all-spec =

@@ -14,7 +14,7 @@ same-length : tie.Need-same-length
 same-length c = search needs
 
 returns : tie.Need-returns
-returns c = search (needs, left-half)
+returns c = search left-half
 
 pub left-half-spec : {M : Type 1} → statement M
 left-half-spec = tie.close (tie.spec put-whole-requires deliver-all-requires same-length returns)

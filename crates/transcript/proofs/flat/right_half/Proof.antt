@@ -8,13 +8,13 @@ put-whole-requires : tie.Need-put-whole-requires
 put-whole-requires c κs = search needs
 
 deliver-all-requires : tie.Need-deliver-all-requires
-deliver-all-requires c κs = search (needs, whole-fits)
+deliver-all-requires c κs = search whole-fits
 
 same-length : tie.Need-same-length
 same-length c = search needs
 
 returns : tie.Need-returns
-returns c = search (needs, right-half)
+returns c = search right-half
 
 pub right-half-spec : {M : Type 1} → statement M
 right-half-spec = tie.close (tie.spec put-whole-requires deliver-all-requires same-length returns)

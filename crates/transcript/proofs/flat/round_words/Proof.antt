@@ -8,7 +8,7 @@ asked-requires : tie.Need-asked-requires
 asked-requires c κs = search needs
 
 returns : tie.Need-returns
-returns c = search (needs, met-not, words-not)
+returns c = search (met-not, words-not)
 
 both-halves-requires : tie.Need-both-halves-requires
 both-halves-requires c κs = search needs
@@ -17,7 +17,7 @@ same-length : tie.Need-same-length
 same-length c = search needs
 
 returns-2 : tie.Need-returns-2
-returns-2 c = search (needs, met-round, words-round)
+returns-2 c = search (met-round, words-round)
 
 pub round-words-spec : {M : Type 1} → statement M
 round-words-spec =

@@ -29,7 +29,7 @@ turn-of c = c .before .before .before .before .before
 moved : (c : tie.Joined2 Inv-loop μ-loop) → let s = turn-of c in
     Passed (now (s .before .args .left)) (now (s .before .args .right)) (s .loop .i) (s .loop .j) (s .loop .n) (c .if2 .i) (c .if2 .j)
 moved c =
-    ⊎-elim (λ w. search (needs, count-both)) (⊎-elim (λ w. search (needs, count-less)) (λ w. search (needs, count-more))) (c .if2 .came)
+    ⊎-elim (λ w. search count-both) (⊎-elim (λ w. search count-less) (λ w. search count-more)) (c .if2 .came)
 
 loop-holds : tie.Need-loop-holds Inv-loop μ-loop
 loop-holds c = search needs
@@ -80,7 +80,7 @@ add-result-2 : tie.Need-add-result-2 Inv-loop μ-loop
 add-result-2 c = search needs
 
 returns : tie.Need-returns Inv-loop μ-loop
-returns c = ⊎-elim (λ w. search (needs, count-end-right)) (λ w. search (needs, count-end-left)) (c .loop-test .came)
+returns c = ⊎-elim (λ w. search count-end-right) (λ w. search count-end-left) (c .loop-test .came)
 
 pub union-count-spec : {M : Type 1} → statement M
 union-count-spec =

@@ -17,7 +17,7 @@ returns : tie.Need-returns
 returns c = search needs
 
 returns-2 : tie.Need-returns-2
-returns-2 c = search (needs, claimIn-none)
+returns-2 c = search claimIn-none
 
 pub claim-in-spec : {M : Type 1} → statement M
 claim-in-spec = tie.close (tie.spec mul-claim-at add-claim-at claim-at-requires returns returns-2)

@@ -35,25 +35,25 @@ same-length : tie.Need-same-length
 same-length c = search needs
 
 returns : tie.Need-returns
-returns c = search (needs, put-ask)
+returns c = search put-ask
 
 same-length-2 : tie.Need-same-length-2
 same-length-2 c = search needs
 
 returns-2 : tie.Need-returns-2
-returns-2 c = search (needs, put-one)
+returns-2 c = search put-one
 
 same-length-3 : tie.Need-same-length-3
 same-length-3 c = search needs
 
 returns-3 : tie.Need-returns-3
-returns-3 c = search (needs, put-two)
+returns-3 c = search put-two
 
 returns-4 : tie.Need-returns-4
-returns-4 c = search (needs, put-match)
+returns-4 c = search put-match
 
 returns-5 : tie.Need-returns-5
-returns-5 c = search (needs, put-refused)
+returns-5 c = search put-refused
 
 pub put-answer-spec : {M : Type 1} → statement M
 put-answer-spec =

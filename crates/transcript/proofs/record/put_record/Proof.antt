@@ -28,10 +28,10 @@ same-length : tie.Need-same-length
 same-length c = c .before .before .put-claim .kept .0 ∙ simp length-set
 
 returns : tie.Need-returns
-returns c = search (needs, put-some)
+returns c = search put-some
 
 returns-2 : tie.Need-returns-2
-returns-2 c = search (needs, put-past)
+returns-2 c = search put-past
 
 pub put-record-spec : {M : Type 1} → statement M
 put-record-spec =

@@ -51,7 +51,7 @@ cast-t12 c =
     omega (arith, c .read4 .ensures)
 
 returns : tie.Need-returns
-returns c = search (needs, claimFrom-at)
+returns c = search claimFrom-at
 
 pub read-spec : {M : Type 1} → statement M
 read-spec =

@@ -38,7 +38,7 @@ same-length : tie.Need-same-length
 same-length c = search needs
 
 returns : tie.Need-returns
-returns c = search (needs, putAt-claimBytes)
+returns c = search putAt-claimBytes
 
 pub write-spec : {M : Type 1} → statement M
 write-spec =

@@ -18,7 +18,7 @@ abbrev μ-loop : tie.MeasureT-loop
 
 -- there are so many claims
 fits : (s : tie.Start Inv-loop μ-loop) → s .args .n ≤ length (s .args .t1)
-fits s = let e : length (s .args .t1) ≡ frameLimit = search (needs, length-mapped) in omega arith
+fits s = let e : length (s .args .t1) ≡ frameLimit = search length-mapped in omega arith
 
 loop-holds : tie.Need-loop-holds Inv-loop μ-loop
 loop-holds c = search needs
@@ -33,7 +33,7 @@ judge-requires : tie.Need-judge-requires Inv-loop μ-loop
 judge-requires c κs = search needs
 
 returns : tie.Need-returns Inv-loop μ-loop
-returns c = search (needs, fits, allPass-no)
+returns c = search (fits, allPass-no)
 
 add-i : tie.Need-add-i Inv-loop μ-loop
 add-i c = search needs
@@ -45,7 +45,7 @@ loop-again : tie.Need-loop-again Inv-loop μ-loop
 loop-again c = search (needs, fits, allPass-turn)
 
 returns-2 : tie.Need-returns-2 Inv-loop μ-loop
-returns-2 c = search (needs, allPass-end)
+returns-2 c = search allPass-end
 
 pub all-pass-spec : {M : Type 1} → statement M
 all-pass-spec =

@@ -6,25 +6,25 @@ use Rattle.wire.proofs.frame.contents.Statement.{statement}
 use Rattle.wire.proofs.frame.contents.Tie as tie
 
 shared-slice-read-n : tie.Need-shared-slice-read-n
-shared-slice-read-n c = search (needs, head-count)
+shared-slice-read-n c = search head-count
 
 cast-n : tie.Need-cast-n
 cast-n c = omega (arith, c .shared-slice-known2 .given 3)
 
 four-requires : tie.Need-four-requires
-four-requires c κs = search (needs, head-few, head-room)
+four-requires c κs = search (head-few, head-room)
 
 all-pass-requires : tie.Need-all-pass-requires
-all-pass-requires c κs = search (needs, head-few)
+all-pass-requires c κs = search head-few
 
 no-frame-requires : tie.Need-no-frame-requires
 no-frame-requires c κs = search needs
 
 returns : tie.Need-returns
-returns c = search (needs, contents-13)
+returns c = search contents-13
 
 returns-2 : tie.Need-returns-2
-returns-2 c = search (needs, contents-0)
+returns-2 c = search contents-0
 
 pub contents-spec : {M : Type 1} → statement M
 contents-spec =

@@ -50,7 +50,7 @@ loop-again c =
     (search needs, set-readRun claim _ _ headSize _ (rw (length-blanks frameLimit) (search needs)) (c .before .before .loop .inv .1) (c .read .ensures))
 
 returns : tie.Need-returns Inv-loop μ-loop
-returns c = search (needs, four-end)
+returns c = search four-end
 
 pub four-spec : {M : Type 1} → statement M
 four-spec =

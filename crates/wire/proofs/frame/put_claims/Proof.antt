@@ -25,7 +25,7 @@ abbrev turn : tie.After-write Inv-loop μ-loop → tie.At-loop Inv-loop μ-loop
 turn w = let entered = w .before .before .before in entered .before
 
 more : (w : tie.After-write Inv-loop μ-loop) → turn w .loop .i < length (turn w .before .before .args .t2)
-more w = let long : length (turn w .before .before .args .t2) ≡ frameLimit = search (needs, length-mapped) in omega arith
+more w = let long : length (turn w .before .before .args .t2) ≡ frameLimit = search length-mapped in omega arith
 
 loop-holds : tie.Need-loop-holds Inv-loop μ-loop
 loop-holds c = (search needs, search needs, sym (putAt-nil _ headSize))

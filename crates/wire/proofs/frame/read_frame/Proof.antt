@@ -11,7 +11,7 @@ no-frame-requires : tie.Need-no-frame-requires
 no-frame-requires c κs = search needs
 
 returns : tie.Need-returns
-returns c = search (needs, readFrame-head)
+returns c = search readFrame-head
 
 contents-requires : tie.Need-contents-requires
 contents-requires c κs = search needs

@@ -15,7 +15,7 @@ countable-requires : tie.Need-countable-requires
 countable-requires c κs = search needs
 
 returns : tie.Need-returns
-returns c = search (needs, sized-count)
+returns c = search sized-count
 
 mul-result : tie.Need-mul-result
 mul-result c = omega (arith, c .before .before .shared-slice-known2 .given 3)
@@ -24,7 +24,7 @@ add-result : tie.Need-add-result
 add-result c = omega (arith, c .before .before .shared-slice-known2 .given 3)
 
 returns-2 : tie.Need-returns-2
-returns-2 c = search (needs, sized-length)
+returns-2 c = search sized-length
 
 pub sized-spec : {M : Type 1} → statement M
 sized-spec =

@@ -8,13 +8,13 @@ countable-requires : tie.Need-countable-requires
 countable-requires c κs = search needs
 
 returns : tie.Need-returns
-returns c = search (needs, writable-12)
+returns c = search writable-12
 
 all-pass-requires : tie.Need-all-pass-requires
-all-pass-requires c κs = search (needs, countable-few)
+all-pass-requires c κs = search countable-few
 
 returns-2 : tie.Need-returns-2
-returns-2 c = search (needs, writable-13)
+returns-2 c = search writable-13
 
 mul-if3 : tie.Need-mul-if3
 mul-if3 c = let few = countable-few _ (c .before .before .before .countable .ensures) (c .before .before .if1 .left) in search needs
@@ -23,10 +23,10 @@ add-if3 : tie.Need-add-if3
 add-if3 c = let few = countable-few _ (c .before .before .before .countable .ensures) (c .before .before .if1 .left) in search needs
 
 returns-3 : tie.Need-returns-3
-returns-3 c = search (needs, writable-15)
+returns-3 c = search writable-15
 
 returns-4 : tie.Need-returns-4
-returns-4 c = search (needs, writable-done)
+returns-4 c = search writable-done
 
 pub writable-spec : {M : Type 1} → statement M
 writable-spec =

@@ -27,7 +27,7 @@ room : (e : tie.Else1) → frameLength (given e .args .n) ≤ length (given e .a
 room e = write-room _ _ _ (e .before .writable .ensures) (e .if1 .left)
 
 all : (s : tie.Start) → length (s .args .claims) ≡ frameLimit
-all s = search (needs, length-mapped)
+all s = search length-mapped
 
 writable-requires : tie.Need-writable-requires
 writable-requires c κs = search needs

@@ -20,7 +20,7 @@ read-claims-requires : tie.Need-read-claims-requires
 read-claims-requires c κs = search needs
 
 returns : tie.Need-returns
-returns c = search (needs, readImageIn-0, readImageInLent-0)
+returns c = search (readImageIn-0, readImageInLent-0)
 
 pub contents-spec : {M : Type 1} → statement M
 contents-spec =

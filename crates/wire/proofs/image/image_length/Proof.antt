@@ -8,13 +8,13 @@ sizes-of-requires : tie.Need-sizes-of-requires
 sizes-of-requires c κs = search needs
 
 returns : tie.Need-returns
-returns c = search (needs, imageLength-counts)
+returns c = search imageLength-counts
 
 returns-2 : tie.Need-returns-2
-returns-2 c = search (needs, imageLength-short)
+returns-2 c = search imageLength-short
 
 returns-3 : tie.Need-returns-3
-returns-3 c = search (needs, imageLength-0)
+returns-3 c = search imageLength-0
 
 pub image-length-spec : {M : Type 1} → statement M
 image-length-spec = tie.close (tie.spec sizes-of-requires returns returns-2 returns-3)

@@ -17,7 +17,7 @@ returns-2 : tie.Need-returns-2
 returns-2 c = search (needs, part-high)
 
 returns-3 : tie.Need-returns-3
-returns-3 c = search (needs, part-fits)
+returns-3 c = search part-fits
 
 pub part-at-spec : {M : Type 1} → statement M
 part-at-spec = tie.close (tie.spec add-if1 returns read-requires returns-2 returns-3)

@@ -29,7 +29,7 @@ same-length : tie.Need-same-length
 same-length c = search needs
 
 returns : tie.Need-returns
-returns c = search (needs, image-put)
+returns c = search image-put
 
 pub put-image-spec : {M : Type 1} → statement M
 put-image-spec =

@@ -51,7 +51,7 @@ loop-again c =
     (search needs, set-readRun claim _ _ _ _ (rw (length-blanks tableLimit) (search needs)) (c .before .before .loop .inv .1) (c .read .ensures))
 
 returns : tie.Need-returns Inv-loop μ-loop
-returns c = search (needs, end-readRun)
+returns c = search end-readRun
 
 pub read-claims-spec : {M : Type 1} → statement M
 read-claims-spec =

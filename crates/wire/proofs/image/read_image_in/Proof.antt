@@ -11,16 +11,16 @@ no-rest-requires : tie.Need-no-rest-requires
 no-rest-requires c κs = search needs
 
 returns : tie.Need-returns
-returns c = search (needs, readImageIn-counts, readImageInLent-counts)
+returns c = search (readImageIn-counts, readImageInLent-counts)
 
 no-rest-requires-2 : tie.Need-no-rest-requires-2
 no-rest-requires-2 c κs = search needs
 
 returns-2 : tie.Need-returns-2
-returns-2 c = search (needs, readImageIn-length, readImageInLent-length)
+returns-2 c = search (readImageIn-length, readImageInLent-length)
 
 contents-requires : tie.Need-contents-requires
-contents-requires c κs = search (needs, told-readable)
+contents-requires c κs = search told-readable
 
 returns-3 : tie.Need-returns-3
 returns-3 c = search needs

@@ -48,7 +48,7 @@ same-length : tie.Need-same-length Inv-loop μ-loop
 same-length c = search needs
 
 returns : tie.Need-returns Inv-loop μ-loop
-returns c = search (needs, end-readRun)
+returns c = search end-readRun
 
 pub read-keys-spec : {M : Type 1} → statement M
 read-keys-spec =

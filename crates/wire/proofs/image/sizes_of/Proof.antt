@@ -17,10 +17,10 @@ part-at-requires-2 : tie.Need-part-at-requires-2
 part-at-requires-2 c κs = search needs
 
 returns : tie.Need-returns
-returns c = search (needs, sizes-keys)
+returns c = search sizes-keys
 
 returns-2 : tie.Need-returns-2
-returns-2 c = search (needs, sizes-pending)
+returns-2 c = search sizes-pending
 
 add-t5 : tie.Need-add-t5
 add-t5 c = search needs
@@ -32,7 +32,7 @@ add-t8 : tie.Need-add-t8
 add-t8 c = search needs
 
 returns-3 : tie.Need-returns-3
-returns-3 c = search (needs, sizes-both)
+returns-3 c = search sizes-both
 
 pub sizes-of-spec : {M : Type 1} → statement M
 sizes-of-spec =

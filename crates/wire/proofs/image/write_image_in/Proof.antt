@@ -15,7 +15,7 @@ abbrev given : tie.Else1 → tie.Start
 given e = let asked = e .before in asked .before .before .before
 
 all : (s : tie.Start) → length (s .args .table) ≡ tableLimit
-all s = search (needs, length-mapped)
+all s = search length-mapped
 
 told : (e : tie.Else1) → (given e .args .held ≤ limit) × (given e .args .count ≤ tableLimit)
 told e = withinLimits-told (given e .args .keys .now) _ _ (e .before .within-limits .ensures) (e .if1 .left)

@@ -61,7 +61,7 @@ loop-again c =
     (search needs, numberAt-turn (a .s .now) (a .at) (l .i) (l .inv .1) (search needs) (c .wide .ensures))
 
 returns : tie.Need-returns Inv-loop μ-loop
-returns c = search (needs, numberAt-end)
+returns c = search numberAt-end
 
 pub read-spec : {M : Type 1} → statement M
 read-spec =

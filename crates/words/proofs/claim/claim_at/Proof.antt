@@ -5,13 +5,13 @@ use Rattle.words.proofs.claim.claim_at.Statement.{statement}
 use Rattle.words.proofs.claim.claim_at.Tie as tie
 
 returns : tie.Need-returns
-returns c = search (needs, read-few)
+returns c = search read-few
 
 sub-if2 : tie.Need-sub-if2
 sub-if2 c = search needs
 
 returns-2 : tie.Need-returns-2
-returns-2 c = search (needs, read-past)
+returns-2 c = search read-past
 
 mul-t3 : tie.Need-mul-t3
 mul-t3 c = search needs
@@ -50,7 +50,7 @@ cast-t20 : tie.Need-cast-t20
 cast-t20 c = search needs
 
 returns-3 : tie.Need-returns-3
-returns-3 c = search (needs, read-some)
+returns-3 c = search read-some
 
 pub claim-at-spec : {M : Type 1} → statement M
 claim-at-spec =

@@ -7,13 +7,13 @@ use Rattle.words.proofs.claim.put_claim.Statement.{statement}
 use Rattle.words.proofs.claim.put_claim.Tie as tie
 
 returns : tie.Need-returns
-returns c = search (needs, put-few)
+returns c = search put-few
 
 sub-if2 : tie.Need-sub-if2
 sub-if2 c = search needs
 
 returns-2 : tie.Need-returns-2
-returns-2 c = search (needs, put-past)
+returns-2 c = search put-past
 
 mul-words : tie.Need-mul-words
 mul-words c = search needs
@@ -55,7 +55,7 @@ same-length : tie.Need-same-length
 same-length c = search needs
 
 returns-3 : tie.Need-returns-3
-returns-3 c = search (needs, put-some)
+returns-3 c = search put-some
 
 pub put-claim-spec : {M : Type 1} → statement M
 put-claim-spec =
