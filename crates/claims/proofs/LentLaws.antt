@@ -300,11 +300,14 @@ module _ (keys : List ℕ) (first last left right : ℕ) (halves : Halves keys f
       rw (halves .right-sum, e, k) (rw f at a)
 
   -- where the claims that help stand
+  inner-places : (a b : ℕ) → a ≤ b → b ≤ last → Positions keys a b
+  inner-places a b h g = let places = halves .places in record { rise = h; short = omega arith; inside = omega arith }
+
   pub one-places : first + 1 < last → Positions keys (first + 1) (last - 1)
-  one-places h = let places = halves .places in record { rise = omega arith; short = omega arith; inside = omega arith }
+  one-places h = inner-places (first + 1) (last - 1) (omega arith) (omega arith)
 
   pub left-places : 3 ≤ last - 1 - (first + 1) → Positions keys (first + 1) (middle first last - 1)
-  left-places h = let places = halves .places in record { rise = omega arith; short = omega arith; inside = omega arith }
+  left-places h = inner-places (first + 1) (middle first last - 1) (omega arith) (omega arith)
 
   pub right-places : 3 ≤ last - 1 - (first + 1) → Positions keys (middle first last) (last - 1)
-  right-places h = let places = halves .places in record { rise = omega arith; short = omega arith; inside = omega arith }
+  right-places h = inner-places (middle first last) (last - 1) (omega arith) (omega arith)
