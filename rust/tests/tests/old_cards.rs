@@ -1,0 +1,199 @@
+//! Images and frames that earlier states wrote, each state's in a folder of
+//! `data`. Kiosks keep their cards when they get a new program, and hear
+//! others that haven't got it: so no state may read these otherwise than the
+//! one that wrote them.
+//!
+//! What every state owes to an old card is stated here. What a state's own
+//! rules make of it is compared between the archive and the second program.
+
+use std::fs;
+use std::path::Path;
+
+use minutefrost::{BEAT_FRAMES, IMAGE_MOST, Refusal, frames};
+use second::{Claim, host};
+use tests::draw::{frame_of, image_of};
+
+const DATA: &str = concat!(env!("CARGO_MANIFEST_DIR"), "/tests/data");
+
+/// An image and the frames that its beat sent, end to end; what it holds, as
+/// the README beside them tells it.
+struct Card {
+    name: String,
+    image: Vec<u8>,
+    sent: Vec<u8>,
+    /// How many keys, their XOR, and how many claims are pending.
+    holds: (usize, u64, usize),
+}
+
+impl Card {
+    /// The card of a row of the README's table.
+    fn of_row(folder: &Path, row: &str) -> Option<Card> {
+        let mut cells = row.strip_prefix("| ")?.split(" | ");
+        let file = folder.join(cells.next()?);
+        let mut number = || cells.next()?.parse::<u64>().ok();
+        let holds = (number()? as usize, number()?, number()? as usize);
+        let read = |kind| fs::read(file.with_extension(kind)).expect("the README names files");
+        Some(Card {
+            name: file.display().to_string(),
+            image: read("image"),
+            sent: read("frames"),
+            holds,
+        })
+    }
+}
+
+/// The cards of a folder. None lies there untold, for it would go untested.
+fn cards_of(folder: &Path) -> Vec<Card> {
+    let readme = fs::read_to_string(folder.join("README.md")).expect("each folder has one");
+    let cards = readme.lines().filter_map(|row| Card::of_row(folder, row));
+    let cards: Vec<Card> = cards.collect();
+    let files = fs::read_dir(folder).expect("a folder").count();
+    assert_eq!(files, 1 + 2 * cards.len(), "files in {}", folder.display());
+    cards
+}
+
+/// The cards of all states.
+fn cards() -> Vec<Card> {
+    let folders = fs::read_dir(DATA).expect("a folder");
+    let folders = folders.map(|folder| folder.expect("a folder").path());
+    folders.flat_map(|folder| cards_of(&folder)).collect()
+}
+
+/// The keys as they stand in an image, read by neither program: how many in 2
+/// bytes, then 8 bytes each.
+fn keys_in(image: &[u8]) -> Vec<u64> {
+    let count = usize::from(u16::from_be_bytes([image[0], image[1]]));
+    let (keys, _) = image[2..][..8 * count].as_chunks();
+    keys.iter().map(|key| u64::from_be_bytes(*key)).collect()
+}
+
+/// What a call leaves: its answer, the image it wrote, and the buffer for
+/// frames.
+type Left = (usize, Vec<u8>, Vec<u8>);
+
+/// One call by both programs, which must answer and write the same.
+fn same(
+    archive: impl FnOnce(&mut [u8], &mut [u8]) -> Result<usize, Refusal>,
+    second: impl FnOnce(&mut [u8], &mut [u8]) -> i64,
+) -> Result<Left, Refusal> {
+    let (mut image, mut frames) = (vec![0xA5; IMAGE_MOST], vec![0xA5; BEAT_FRAMES]);
+    let (mut other, mut other_frames) = (image.clone(), frames.clone());
+    let answer = archive(&mut image, &mut frames);
+    let number = answer.map_or_else(|no| -i64::from(no.number()), |length| length as i64);
+    assert_eq!(number, second(&mut other, &mut other_frames), "the answers");
+    assert!((&image, &frames) == (&other, &other_frames), "the buffers");
+    let answer = answer?;
+    image.truncate(second::image_length(&image).length);
+    Ok((answer, image, frames))
+}
+
+fn take(image: &[u8], frame: &[u8]) -> Result<Vec<u8>, Refusal> {
+    let (_, taken, _) = same(
+        |out, _| minutefrost::take_frame(image, frame, out),
+        |out, _| host::take_frame(image, frame, out),
+    )?;
+    Ok(taken)
+}
+
+fn enter(image: &[u8], key: u64) -> Result<Vec<u8>, Refusal> {
+    let (_, entered, _) = same(
+        |out, _| minutefrost::enter(image, key, out),
+        |out, _| host::enter(image, key, out),
+    )?;
+    Ok(entered)
+}
+
+/// The image after a beat, and the frames sent.
+fn beat(image: &[u8]) -> Result<(Vec<u8>, Vec<u8>), Refusal> {
+    let (length, beaten, mut sent) = same(
+        |out, frames| Ok(minutefrost::beat(image, out, frames)?.frames),
+        |out, frames| host::beat(image, out, frames),
+    )?;
+    sent.truncate(length);
+    Ok((beaten, sent))
+}
+
+#[test]
+fn images_hold_what_they_held() -> Result<(), Refusal> {
+    for card in cards() {
+        let keys = keys_in(&card.image);
+        let sum = keys.iter().fold(0, |sum, key| sum ^ key);
+        let read = second::read_image(&card.image);
+        let held = (keys.len(), sum, read.node.pending_count);
+        assert_eq!((read.number, held), (0, card.holds), "{}", card.name);
+        assert_eq!(read.node.store.held(), keys, "{}", card.name);
+        assert!(minutefrost::keys(&card.image)?.eq(keys), "{}", card.name);
+    }
+    Ok(())
+}
+
+/// By calls that have nothing to change: so all that an image holds is read,
+/// and a card is no worse for being used.
+#[test]
+fn images_are_written_again_as_the_same_bytes() -> Result<(), Refusal> {
+    for card in cards() {
+        for key in keys_in(&card.image) {
+            assert!(enter(&card.image, key)? == card.image, "{}", card.name);
+        }
+        let replies = card.holds.2 > 0;
+        assert!(replies || beat(&card.image)?.0 == card.image);
+    }
+    Ok(())
+}
+
+/// Every kiosk hears every other one, frame after frame. Only where there may
+/// be no room for its keys a frame is refused, by 6.
+#[test]
+fn frames_are_taken() {
+    let cards = cards();
+    let pairs = cards
+        .iter()
+        .flat_map(|it| cards.iter().map(move |by| (it, by)));
+    for (hearer, speaker) in pairs {
+        let told = format!("{} hears {}", hearer.name, speaker.name);
+        let walked: usize = frames(&speaker.sent).map(<[u8]>::len).sum();
+        assert_eq!(walked, speaker.sent.len(), "{told}: whole frames alone");
+        let mut image = hearer.image.clone();
+        for frame in frames(&speaker.sent) {
+            // Four claims have at most eight ends and four keys between them;
+            // the ends of its own claims the hearer has.
+            let room = keys_in(&image).len() + 12 <= 1_024;
+            let owed = room || hearer.name == speaker.name;
+            match take(&image, frame) {
+                Ok(taken) => image = taken,
+                Err(no) => assert!(!owed && no.number() == 6, "{told}: {no}"),
+            }
+        }
+    }
+}
+
+/// Until a request changes what a beat sends, an old image sends what it sent.
+#[test]
+fn beats_send_what_they_sent() -> Result<(), Refusal> {
+    for card in cards() {
+        let (image, sent) = beat(&card.image)?;
+        assert!(sent == card.sent, "{} sends something else", card.name);
+        assert_eq!(keys_in(&image), keys_in(&card.image), "{}", card.name);
+    }
+    Ok(())
+}
+
+/// The base left a claim of three pending with but its ends held. No beat adds
+/// the middle key, so the claim is asked about and kept. Whether hearing it
+/// once more adds that key is the state's own rule.
+#[test]
+fn a_pending_claim_of_three_is_asked_about() -> Result<(), Refusal> {
+    let base = cards_of(&Path::new(DATA).join("base"));
+    let [three, heard] = ["/three", "/heard_three"].map(|name| {
+        let found = base.iter().find(|card| card.name.ends_with(name));
+        found.expect("the base wrote it")
+    });
+    let [claim, own] = [Claim::new(1, 16, 19, 3), Claim::new(1, 16, 17, 2)];
+    assert_eq!(three.sent, frame_of(&[claim]));
+    assert_eq!(heard.image, image_of(&[1, 16], &[claim]));
+    let (image, sent) = beat(&heard.image)?;
+    assert_eq!((image, sent), (heard.image.clone(), frame_of(&[own, own])));
+    let keys = keys_in(&take(&heard.image, &three.sent)?);
+    assert!(keys == [1, 16] || keys == [1, 2, 16], "{keys:?}");
+    Ok(())
+}
