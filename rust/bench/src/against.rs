@@ -10,6 +10,7 @@ use std::io;
 use std::path::Path;
 
 use crate::cases::{self, Buffers, Case};
+use crate::deliveries::Deliveries;
 use crate::library::{Host, PLACES, TimedRound, own};
 use crate::round;
 use crate::timing::{Compared, compare, compare_beyond};
@@ -93,7 +94,7 @@ fn print_rounds(places: &[Two<TimedRound>]) {
     println!("|---:|---:|---:|{RULE}|");
     for (union, differing) in differences() {
         let cases = round::row(union, differing);
-        let deliveries = round::deliveries(&cases, &places[0][..1]);
+        let deliveries = Deliveries::agreed(&cases, places[0][0]).mean();
         let both = |program| [false, true].map(|refused| round::proved(&cases, program, refused));
         let times = at_all_places(places, |[now, before]| {
             compare_beyond(cases.len(), both(now), both(before))

@@ -7,6 +7,7 @@
 
 mod against;
 mod cases;
+mod deliveries;
 mod library;
 mod machine;
 mod round;
@@ -66,7 +67,7 @@ fn print_report() {
     print_full();
     print_calls();
     print_growth();
-    round::print_round();
+    round::print_rounds();
 }
 
 /// One call by both programs, in turns. Each gives its answer, and what it

@@ -9,13 +9,14 @@
 use std::hint::black_box;
 
 use crate::cases::{self, Pair, VARIANTS};
+use crate::deliveries::{self, Deliveries};
 use crate::library::{TimedRound, own};
 use crate::timing::compare_beyond;
 use crate::{CELLS, RULE, differences};
 use second::{Delivery, RawNode, RawStore};
 
 /// The words of a record: sender, lo, hi, sum, cnt.
-const RECORD: usize = 5;
+pub const RECORD: usize = 5;
 
 /// One round for every program.
 pub struct Case {
@@ -42,8 +43,16 @@ impl Case {
         }
     }
 
+    /// The deliveries by a proved program, as words.
+    pub fn made(&self, program: TimedRound) -> Vec<u64> {
+        let mut words = vec![0; RECORD * self.records];
+        let made = program.run(&self.images, &mut words);
+        words.truncate(RECORD * made);
+        words
+    }
+
     /// The deliveries by the second program, as words.
-    fn told(&self) -> Vec<u64> {
+    pub fn told(&self) -> Vec<u64> {
         let mut records = vec![Delivery::default(); self.records];
         let met = second::round(self.left.clone(), self.right.clone(), &mut records);
         assert_eq!(met.number, 0, "both stores are in order");
@@ -72,22 +81,6 @@ pub fn row(union: usize, differing: usize) -> Vec<Case> {
         .collect()
 }
 
-/// The deliveries of a round on average. Each program must make the same.
-pub fn deliveries(cases: &[Case], programs: &[TimedRound]) -> f64 {
-    let mut sum = 0;
-    for case in cases {
-        let told = case.told();
-        for program in programs {
-            let mut words = vec![0; RECORD * case.records];
-            let made = program.run(&case.images, &mut words);
-            let same = RECORD * made == told.len() && words[..told.len()] == told[..];
-            assert!(same, "the programs differ");
-        }
-        sum += told.len() / RECORD;
-    }
-    sum as f64 / cases.len() as f64
-}
-
 /// A proved program's rounds, one at each call, or those refused by 9.
 pub fn proved(cases: &[Case], program: TimedRound, refused: bool) -> impl FnMut() {
     let mut next = cases.iter().cycle();
@@ -113,15 +106,18 @@ fn plain(cases: &[Case], refused: bool) -> impl FnMut() {
     }
 }
 
-pub fn print_round() {
-    println!("## Rounds\n");
-    let program = match TimedRound::of(&own(), 0) {
-        Ok(program) => program,
-        Err(why) => {
-            println!("Not measured: {why}.");
-            return;
+pub fn print_rounds() {
+    match TimedRound::of(&own(), 0) {
+        Ok(program) => {
+            print_times(program);
+            deliveries::print(program);
         }
-    };
+        Err(why) => println!("## Rounds\n\nNot measured: {why}."),
+    }
+}
+
+fn print_times(program: TimedRound) {
+    println!("## Rounds\n");
     println!(
         "The daemon's archive has no call for a round; that of the crate `rehearsal` has one for measurements alone, which \
          rehearses two images. The time is what that took longer than the same refused by 9: all deliveries, without reading the \
@@ -131,7 +127,7 @@ pub fn print_round() {
     println!("|---:|---:|---:|{RULE}|");
     for (union, differing) in differences() {
         let cases = row(union, differing);
-        let deliveries = deliveries(&cases, &[program]);
+        let deliveries = Deliveries::agreed(&cases, program).mean();
         let times = compare_beyond(
             cases.len(),
             [
