@@ -4,19 +4,26 @@
 //!
 //! Where code happens to stand in memory moves a time by some hundredths. So
 //! each archive is loaded at four places, and the runs at all of them count.
+//!
+//! A change of the rules may make both give other bytes for the same case. That
+//! fails nothing here: each row says of how many of its cases it is so.
 
 use std::hint::black_box;
 use std::io;
 use std::path::Path;
 
 use crate::cases::{self, Buffers, Case};
-use crate::deliveries::Deliveries;
+use crate::deliveries::{self, COUNTS, COUNTS_RULE, Deliveries};
 use crate::library::{Host, PLACES, TimedRound, own};
 use crate::round;
 use crate::timing::{Compared, compare, compare_beyond};
 use crate::{RULE, TABLE, differences};
 
 const CELLS: &str = "now, ns | before, ns | ratio | spread";
+
+/// The last column, and its rule.
+const UNLIKE: &str = "other bytes";
+const UNLIKE_RULE: &str = "---:";
 
 /// A host call by its name, and how it is made.
 type Called = (&'static str, fn(Host, &Case, &mut Buffers) -> i64);
@@ -45,8 +52,27 @@ fn loaded<T>(before: &Path, of: fn(&Path, usize) -> io::Result<T>) -> io::Result
 
 pub fn print(before: &Path) -> io::Result<()> {
     print_host(&loaded(before, Host::of)?);
-    print_rounds(&loaded(before, TimedRound::of)?);
+    let rounds = loaded(before, TimedRound::of)?;
+    print_rounds(&rounds);
+    print_deliveries(rounds[0]);
     Ok(())
+}
+
+/// Of how many cases both give other bytes.
+fn unlike<C, B: PartialEq>(cases: &[C], now: impl Fn(&C) -> B, before: impl Fn(&C) -> B) -> String {
+    let unlike = cases.iter().filter(|case| now(case) != before(case));
+    match unlike.count() {
+        0 => "none".to_owned(),
+        count => format!("{count} of {}", cases.len()),
+    }
+}
+
+/// What a call leaves: its answer, and the buffers.
+fn left((_, call): Called, host: Host) -> impl Fn(&Case) -> (i64, Buffers) {
+    move |case| {
+        let mut out = Buffers::new();
+        (call(host, case, &mut out), out)
+    }
 }
 
 /// The measurements at all places, as one.
@@ -69,8 +95,9 @@ fn in_turns(cases: &[Case], (_, call): Called, hosts: Two<Host>) -> Compared {
 }
 
 fn print_host(places: &[Two<Host>]) {
-    println!("| Union | Differing | Pending | Call | {CELLS} |");
-    println!("|---:|---:|---:|---|{RULE}|");
+    println!("| Union | Differing | Pending | Call | {CELLS} | {UNLIKE} |");
+    println!("|---:|---:|---:|---|{RULE}|{UNLIKE_RULE}|");
+    let [now, before] = places[0];
     let all = places.iter().flatten().all(Host::has_enter_and_count);
     let calls = if all { 4 } else { 2 };
     for (union, differing) in differences() {
@@ -79,10 +106,9 @@ fn print_host(places: &[Two<Host>]) {
             let pending = cases[0].pending;
             for call in &CALLS[..calls] {
                 let times = at_all_places(places, |both| in_turns(&cases, *call, both));
-                println!(
-                    "| {union} | {differing} | {pending} | {} | {times} |",
-                    call.0
-                );
+                let unlike = unlike(&cases, left(*call, now), left(*call, before));
+                let name = call.0;
+                println!("| {union} | {differing} | {pending} | {name} | {times} | {unlike} |");
             }
         }
     }
@@ -90,15 +116,31 @@ fn print_host(places: &[Two<Host>]) {
 }
 
 fn print_rounds(places: &[Two<TimedRound>]) {
-    println!("| Union | Differing | Deliveries | {CELLS} |");
-    println!("|---:|---:|---:|{RULE}|");
+    println!("| Union | Differing | Deliveries | {CELLS} | {UNLIKE} |");
+    println!("|---:|---:|---:|{RULE}|{UNLIKE_RULE}|");
+    let [now, before] = places[0];
     for (union, differing) in differences() {
         let cases = round::row(union, differing);
-        let deliveries = Deliveries::agreed(&cases, places[0][0]).mean();
+        let deliveries = Deliveries::agreed(&cases, now).mean();
+        let unlike = unlike(&cases, |case| case.made(now), |case| case.made(before));
         let both = |program| [false, true].map(|refused| round::proved(&cases, program, refused));
         let times = at_all_places(places, |[now, before]| {
             compare_beyond(cases.len(), both(now), both(before))
         });
-        println!("| {union} | {differing} | {deliveries:.0} | {times} |");
+        println!("| {union} | {differing} | {deliveries:.0} | {times} | {unlike} |");
+    }
+    println!();
+}
+
+/// How many deliveries both make, and the ratio of the means.
+fn print_deliveries([now, before]: Two<TimedRound>) {
+    println!("| Union | Differing | now: {COUNTS} | before: {COUNTS} | ratio |");
+    println!("|---:|---:|{COUNTS_RULE}|{COUNTS_RULE}|---:|");
+    for (union, differing) in deliveries::rows() {
+        let cases = round::row(union, differing);
+        let now = Deliveries::agreed(&cases, now);
+        let before = Deliveries::of(&cases, before);
+        let ratio = now.mean() / before.mean();
+        println!("| {union} | {differing} | {now} | {before} | **{ratio:.2}** |");
     }
 }

@@ -8,14 +8,14 @@ use crate::library::TimedRound;
 use crate::round::{self, Case, RECORD};
 
 /// The columns of [`Deliveries`], and their rule.
-const COUNTS: &str = "mean | least | most";
-const COUNTS_RULE: &str = "---:|---:|---:";
+pub const COUNTS: &str = "mean | least | most";
+pub const COUNTS_RULE: &str = "---:|---:|---:";
 
 /// How many each round of a row makes.
 pub struct Deliveries(Vec<usize>);
 
 impl Deliveries {
-    fn of(cases: &[Case], program: TimedRound) -> Deliveries {
+    pub fn of(cases: &[Case], program: TimedRound) -> Deliveries {
         let made = cases.iter().map(|case| case.made(program).len() / RECORD);
         Deliveries(made.collect())
     }
@@ -41,7 +41,7 @@ impl fmt::Display for Deliveries {
 }
 
 /// The rows: where no key differs, each end just hears the other's whole claim.
-fn rows() -> impl Iterator<Item = (usize, usize)> {
+pub fn rows() -> impl Iterator<Item = (usize, usize)> {
     differences().filter(|(_, differing)| *differing > 0)
 }
 
