@@ -17,11 +17,10 @@ use Rattle.keys.proofs.PlaceLaws.{length-putAt, putAt-append}
 use Rattle.claims.specs.declared.claim.Claim.{Claim}
 use Rattle.claims.specs.Claim.{claimOf, wholeClaim}
 use Rattle.claims.specs.Question.{firstNo, settle}
-use Rattle.claims.specs.Reply.{answer, reply, claimsOf}
+use Rattle.claims.specs.Reply.{answer, claimsOf}
 use Rattle.claims.specs.Lent.{makeIn, answerIn}
 use Rattle.claims.specs.Words.{claimWidth, putClaim}
 use Rattle.claims.proofs.QuestionLaws.{passes, judged-firstNo, settle-kept}
-use Rattle.claims.proofs.ReplyLaws.{hear-held}
 use Rattle.claims.proofs.LentLaws.{makeIn-store, answerIn-store}
 use Rattle.claims.proofs.WordsLaws.{putClaim-fits}
 use Rattle.rule.specs.declared.node.Node.{Node}
@@ -84,18 +83,17 @@ wholeIn-store (k ∷ ks) h =
     rw (ne-eqb (storeOf (k ∷ ks) .count) 0 some, last, made)
 
 module _ (l : List ℕ) (rise : Rising l) (short : length l ≤ limit) where
-  -- a claim whose lo and hi are held adds nothing, so its answer is the reply
-  answerIn-reply : (c : Claim) → Fits c l → answerIn (storeOf l) c ≡ reply c l
-  answerIn-reply c f =
+  -- a claim whose lo and hi are held is answered by the keys as they are
+  answerIn-answer : (c : Claim) → Fits c l → answerIn (storeOf l) c ≡ answer c l
+  answerIn-answer c f =
       let held = f .held in
       let good = passes c (sym (judged-firstNo c) ∙ f .passes) in
       answerIn-store l short rise c good (held (c .lo) (List·Memᴰ·head refl)) (held (c .hi) (List·Memᴰ·tail (List·Memᴰ·head refl)))
-      ∙ ap (λ (m : List ℕ). answer c m) (sym (hear-held c l rise held))
 
   serveIn-store : (t : List Claim) → ((c : Claim) → List·Memᴰ c t → Fits c l) → serveIn (storeOf l) t ≡ serve l t
   serveIn-store [] f = refl
   serveIn-store (c ∷ cs) f =
-      let a : answerIn (storeOf l) c ≡ reply c l = answerIn-reply c (f c (List·Memᴰ·head refl)) in
+      let a : answerIn (storeOf l) c ≡ answer c l = answerIn-answer c (f c (List·Memᴰ·head refl)) in
       let r : serveIn (storeOf l) cs ≡ serve l cs = serveIn-store cs (λ d m. f d (List·Memᴰ·tail m)) in
       λ i. record { sent = claimsOf (a i) ++ r i .sent; kept = cond (remains (a i)) (c ∷ r i .kept) (r i .kept) }
 

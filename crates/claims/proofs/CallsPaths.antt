@@ -24,7 +24,7 @@ use Rattle.claims.specs.declared.claim.Claim.{Claim}
 use Rattle.claims.specs.declared.lent.Told.{Told}
 use Rattle.claims.specs.Claim.{claimOf, noClaim}
 use Rattle.claims.specs.Question.{firstNo, settle, question6, claimQuestions}
-use Rattle.claims.specs.Reply.{ends, hear, reply, numberOf}
+use Rattle.claims.specs.Reply.{ends, withEnds, hear, reply, numberOf}
 use Rattle.claims.specs.Call.{judged, entered, made, replyQuestions, replied, Replying}
 use Rattle.claims.specs.Lent.{makeIn, repliedWith, replyIn}
 use Rattle.claims.proofs.QuestionLaws.{Passes, passes, claimQuestions-numbered, firstNo-append-zero, firstNo-append-no}
@@ -147,14 +147,14 @@ module _ (s : Store) (long : length (s .keys) ≡ limit) (ordered : Bool) (teste
         unfolding judged
         only-6 = firstNo-append-zero (claimQuestions c) (question6 (ends c) (keysOf s) ∷ []) (claimQuestions-numbered c) pass
 
-        replied-fits : length (hear c (keysOf s)) ≤ limit → replyIn s c ≡ replied s c
+        replied-fits : length (withEnds c (keysOf s)) ≤ limit → replyIn s c ≡ replied s c
         unfolding replied
         replied-fits f =
             ap (λ (t : Store). replyIn t c) own-store
             ∙ (replyIn-fits (keysOf s) rise c good f
             ∙ rw (in-order, only-6, lt-ltb (length (insertAll (ends c) (keysOf s))) (limit + 1) (omega arith)))
 
-        replied-full : limit < length (hear c (keysOf s)) → replyIn s c ≡ replied s c
+        replied-full : limit < length (withEnds c (keysOf s)) → replyIn s c ≡ replied s c
         unfolding replied
         replied-full f =
             ap (λ (t : Store). replyIn t c) own-store
@@ -165,7 +165,7 @@ module _ (s : Store) (long : length (s .keys) ≡ limit) (ordered : Bool) (teste
       pub replyIn-replied : replyIn s c ≡ replied s c
       replyIn-replied = ⊎-elim {C = replyIn s c ≡ replied s c}
           (λ (pass : judged c ≡ 0).
-          ⊎-elim {C = replyIn s c ≡ replied s c} (replied-full pass) (replied-fits pass) (lt-or-le limit (length (hear c (keysOf s)))))
+          ⊎-elim {C = replyIn s c ≡ replied s c} (replied-full pass) (replied-fits pass) (lt-or-le limit (length (withEnds c (keysOf s)))))
           replied-judged (eq-or-ne (judged c) 0)
 
       pub replied-told : (t : Told) (after : List ℕ) → repliedWith after t ≡ replyIn s c → Replying s c (repliedWith after t)

@@ -1,5 +1,5 @@
--- The twelve lettered cases hold, as one table (`cases-hold`; the table is `table` of specs/Cases), by computing both columns. Then the table of refusals
--- on a lent run (`lent-cases-hold`), and two facts beside these: case k for every lo < hi and sum (`judged-count`), and case a seen from its sender
+-- The twelve lettered cases hold, as one table (`cases-hold`; the table is `table` of specs/Cases), by computing both columns. Then the tables of the middle
+-- key of three (`third-cases-hold`) and of refusals on a lent run (`lent-cases-hold`), and two facts beside these: case k for every lo < hi and sum (`judged-count`), and case a seen from its sender
 -- (`seven-matches`): a claim of one key matches, and not falsely. Assumes nothing.
 use Prim.Native.Nat.{ℕ, _<_}
 use mathlib.Core.List.{[], _∷_, map}
@@ -8,21 +8,26 @@ use mathlib.Core.Path.{_≡_, refl}
 use native.Mathlib.Omega.{arith}
 use borrow.Author.Tests.{le-leb}
 use Rattle.keys.specs.Store.{zeros, storeOf, emptyStore, inOrder}
-use Rattle.keys.specs.Lent.{placeIn, addBothIn}
+use Rattle.keys.specs.Lent.{placeIn, insertedAt, addIn, addBothIn}
 use Rattle.claims.specs.declared.answer.Answer.the-variants.{Match}
 use Rattle.claims.specs.Claim.{between}
-use Rattle.claims.specs.Reply.{answer, reply, falseMatch}
+use Rattle.claims.specs.Reply.{third, answer, reply, falseMatch}
 use Rattle.claims.specs.Call.{made, replied, judged}
 use Rattle.claims.specs.Lent.{hearIn, replyIn}
-use Rattle.claims.specs.Cases.{Row, table, lentTable, claim}
+use Rattle.claims.specs.Cases.{Row, table, thirdTable, lentTable, claim}
 
 pub cases-hold : map (λ (r : Row). r .gives) table ≡ map (λ (r : Row). r .wanted) table
-unfolding zeros storeOf emptyStore inOrder answer made replied judged
+unfolding zeros storeOf emptyStore inOrder third answer made replied judged
 cases-hold = refl
 
--- "A refusal returns .. the given store", on a lent run too
+-- the middle key of three
+pub third-cases-hold : map (λ (r : Row). r .gives) thirdTable ≡ map (λ (r : Row). r .wanted) thirdTable
+unfolding zeros storeOf inOrder third answer replied
+third-cases-hold = refl
+
+-- on a lent run: "A refusal returns .. the given store"; and a third key that does not fit is left out
 pub lent-cases-hold : map (λ (r : Row). r .gives) lentTable ≡ map (λ (r : Row). r .wanted) lentTable
-unfolding zeros storeOf placeIn addBothIn hearIn replyIn
+unfolding zeros storeOf placeIn insertedAt addIn addBothIn hearIn replyIn
 lent-cases-hold = refl
 
 -- "k. cnt 0 or 1,025 with lo < hi: 3."
@@ -34,5 +39,5 @@ judged-count lo hi sum h = rw (le-leb lo hi (omega arith)) (refl, refl)
 pub seven-matches : (made (storeOf (7 ∷ [])) 0 0 ≡ record { number = 0; claim = claim 7 7 7 1 })
     × (reply (claim 7 7 7 1) [] ≡ Match)
     × (falseMatch (between 7 7 (7 ∷ [])) (claim 7 7 7 1) [] ≡ false)
-unfolding zeros storeOf inOrder answer made
+unfolding zeros storeOf inOrder third answer made
 seven-matches = (refl, refl, refl)

@@ -1,11 +1,11 @@
 -- Claims as claims of spans: `claimOf`, `wholeClaim` of Claim and `same` of Reply. In order: two claims are equal by their fields, which is what
 -- `same` tests; the claim of a list of keys (`spanClaim`), which is the claim for positions i to j of its store; it passes questions 2 to 5; the
--- whole claim; the claim of the keys from lo to hi (`rangeClaim`).
+-- middle key that the claim of three tells; the whole claim; the claim of the keys from lo to hi (`rangeClaim`).
 -- Not here: what the questions say of a claim (QuestionLaws). Assumes nothing.
 use Prim.Native.Nat.{ℕ, _+_, _-_, _≤_, _<_}
 use mathlib.Core.Bool.{true, _&&_}
-use mathlib.Core.List.{List, [], _∷_, List·Memᴰ}
-use mathlib.Core.Path.{_≡_, refl, sym, ap, _∙_}
+use mathlib.Core.List.{List, [], _∷_, List·Memᴰ, List·Memᴰ·head, List·Memᴰ·tail}
+use mathlib.Core.Path.{_≡_, refl, sym, ap, _∙_, subst}
 use native.Mathlib.Nat.{not-suc-le-zero}
 use native.Mathlib.Omega.{arith}
 use borrow.Author.Tests.{eqb-true, eq-eqb}
@@ -16,10 +16,10 @@ use Rattle.keys.specs.Store.{limit}
 use Rattle.keys.proofs.Tests.{and-left, and-right, and-both}
 use Rattle.keys.proofs.Rising.{Rising}
 use Rattle.claims.specs.declared.claim.Claim.{Claim}
-use Rattle.claims.specs.Claim.{span, xorAll, claimOf, wholeClaim, between}
+use Rattle.claims.specs.Claim.{span, xorAll, claimOf, wholeClaim, between, middleKey}
 use Rattle.claims.specs.Question.{firstNo, claimQuestions}
 use Rattle.claims.specs.Reply.{same}
-use Rattle.claims.proofs.Xor.{xorAll-one, xorAll-two}
+use Rattle.claims.proofs.Xor.{xorAll-one, xorAll-two, xorAll-three}
 use Rattle.claims.proofs.Between.{length-rising-range}
 use Rattle.claims.proofs.Span.{first, last, first-le, le-last, first-le-last, first-lt-last, one-key, two-keys, first-between, last-between}
 use Rattle.claims.proofs.Span.{length-span, first-span, last-span, span-rising, span-between}
@@ -98,6 +98,19 @@ claimOf-passes i j l r f h g =
 
 pub claimOf-firstNo : (i j : ℕ) (l : List ℕ) → Rising l → length l ≤ limit → i ≤ j → j < length l → firstNo (claimQuestions (claimOf i j l)) ≡ 0
 claimOf-firstNo i j l r f h g = passes-firstNo (claimOf i j l) (claimOf-passes i j l r f h g)
+
+-- ---- the middle key of three
+
+-- the key that the claim of three keys tells is the one between
+pub three-keys : (l : List ℕ) → length l ≡ 3 → l ≡ first l ∷ middleKey (spanClaim l) ∷ last l ∷ []
+three-keys [] e = absurd (omega arith)
+three-keys (j ∷ []) e = absurd (omega arith)
+three-keys (j ∷ (k ∷ [])) e = absurd (omega arith)
+three-keys (j ∷ (k ∷ (m ∷ []))) e = ap (λ (x : ℕ). j ∷ x ∷ m ∷ []) (sym (xorAll-three j k m))
+three-keys (j ∷ (k ∷ (m ∷ (x ∷ xs)))) e = absurd (omega arith)
+
+pub middleKey-span : (l : List ℕ) → length l ≡ 3 → List·Memᴰ (middleKey (spanClaim l)) l
+middleKey-span l e = subst (List·Memᴰ (middleKey (spanClaim l))) (sym (three-keys l e)) (List·Memᴰ·tail (List·Memᴰ·head refl))
 
 -- ---- the whole claim
 

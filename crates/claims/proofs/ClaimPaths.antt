@@ -3,11 +3,12 @@ use mathlib.Core.Path.{_≡_, refl}
 use mathlib.Core.Bool.{Bool, true, false, not}
 use Prim.Native.Nat.{ℕ, _+_, _-_, _≤_, _<_}
 use native.Mathlib.Omega.{arith}
-use borrow.Author.Tests.{le-leb, lt-leb, leb-true, leb-false, eq-eqb, ne-eqb, not-true, not-false}
+use borrow.Author.Tests.{lt-ltb, le-ltb, le-leb, lt-leb, leb-true, leb-false, eq-eqb, ne-eqb, not-true, not-false}
 use lib.Bits.{bitXor}
-use lib.Dec.{leb, eqb}
+use lib.Dec.{ltb, leb, eqb}
 use Rattle.keys.specs.Store.{limit}
 use Rattle.claims.specs.declared.claim.Claim.{Claim}
+use Rattle.claims.specs.Claim.{middleKey, middleInside}
 use Rattle.claims.specs.Question.{question3, question4, question5}
 use Rattle.claims.specs.Reply.{same}
 use Rattle.claims.specs.Call.{judged}
@@ -86,3 +87,11 @@ module _ (c d : Claim) where
 
   pub same-cnt : c .lo ≡ d .lo → c .hi ≡ d .hi → c .sum ≡ d .sum → eqb (c .cnt) (d .cnt) ≡ same c d
   same-cnt e g f = rw (eq-eqb (c .lo) (d .lo) e, eq-eqb (c .hi) (d .hi) g, eq-eqb (c .sum) (d .sum) f)
+
+-- strictly between lo and hi
+module _ (c : Claim) (middle : ℕ) (told : middle ≡ middleKey c) where
+  pub inside-below : middle ≤ c .lo → false ≡ middleInside c
+  inside-below h = rw (← told, le-ltb (c .lo) middle h)
+
+  pub inside-above : c .lo < middle → ltb middle (c .hi) ≡ middleInside c
+  inside-above h = rw (← told, lt-ltb (c .lo) middle h)

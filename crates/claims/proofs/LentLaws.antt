@@ -1,45 +1,65 @@
 -- What the calls on a lent run mean (specs/Lent against specs/Claim and Reply): of any store, what a refusal leaves; and of a store in order, `storeOf l`
 -- for rising keys l, the rule. The crates above prove their loops from these. In order: a claim heard; a claim made; the answer; the reply; the
 -- sums of both halves of a span. Assumes nothing.
-use mathlib.Core.Path.{_≡_, refl, sym, _∙_, ap, ap₂}
+use mathlib.Core.Path.{_≡_, refl, sym, _∙_, ap, ap₂, subst}
 use mathlib.Core.Logic.{⊎-elim}
 use mathlib.Core.Bool.{Bool, true, false, cond, _&&_, and-true}
 use mathlib.Core.List.{List, [], _∷_, _++_, List·Memᴰ}
 use Prim.Native.Nat.{ℕ, suc, _+_, _-_, _≤_, _<_}
 use native.Mathlib.Numerals.{add-one}
 use native.Mathlib.Omega.{arith}
-use borrow.Author.Tests.{lt-ltb, le-leb, leb-true, ltb-true, ltb-false, ne-eqb}
+use borrow.Author.Tests.{lt-ltb, le-leb, leb-true, ltb-true, ltb-false, eq-eqb, ne-eqb}
 use lib.Bits.{bitXor, xor-comm, xor-self, xor-zero-r}
-use lib.Dec.{ltb, leb}
+use lib.Dec.{ltb, leb, eqb}
 use lib.ListN.{length, take, drop, getD, length-drop, List·getD-append}
 use lib.Seq.{take-append-le, drop-append-le, take-add, drop-drop, take-suc, drop-cons, getD-drop}
 use Rattle.keys.specs.declared.lent.Place.{Place}
 use Rattle.keys.specs.declared.store.Store.{Store}
-use Rattle.keys.specs.Store.{limit, zeros, storeOf, position}
-use Rattle.keys.specs.Lent.{placeIn, Grown, grown, addBothIn}
+use Rattle.keys.specs.Store.{limit, zeros, storeOf, position, insert, insertAll}
+use Rattle.keys.specs.Lent.{placeIn, Grown, grown, addIn, addBothIn}
 use Rattle.keys.proofs.Tests.{and-left, and-right, and-both, eq-or-ne}
 use Rattle.keys.proofs.Rising.{Rising}
-use Rattle.keys.proofs.Position.{position-mono, getD-position}
+use Rattle.keys.proofs.Insert.{length-insert-missing, insertAll-rising}
+use Rattle.keys.proofs.Position.{position-mono, getD-position, position-insert-le, position-insert-missing}
 use Rattle.keys.proofs.StoreLaws.{keys-storeOf, count-storeOf, length-keys-storeOf}
-use Rattle.keys.proofs.LentLaws.{placeIn-store, addBothIn-fits, addBothIn-full, Laid, addBothIn-laid}
+use Rattle.keys.proofs.LentLaws.{placeIn-store, addIn-fits, addIn-full, addBothIn-fits, addBothIn-full, addIn-count, Laid, addBothIn-laid}
 use Rattle.claims.specs.declared.answer.Answer.{Answer}
 use Rattle.claims.specs.declared.answer.Answer.the-variants.{Refused, Match, Ask, One, Two}
 use Rattle.claims.specs.declared.answer.Made.{Made}
 use Rattle.claims.specs.declared.answer.Replied.{Replied}
 use Rattle.claims.specs.declared.claim.Claim.{Claim}
-use Rattle.claims.specs.Claim.{span, xorAll, claimOf, noClaim}
+use Rattle.claims.specs.Claim.{span, xorAll, claimOf, noClaim, middleKey, middleInside}
 use Rattle.claims.specs.Question.{question, firstNo, claimQuestions}
+use Rattle.claims.specs.Reply.{ends, withEnds, wantsMiddle, hasSpace, third}
 use Rattle.claims.specs.Reply.{hear, own, same, decide, zOf, help, answer, reply, numberOf}
 use Rattle.claims.specs.Call.{judged}
-use Rattle.claims.specs.Lent.{hearQuestions, Hearing, heard, unheard, hearIn, within, makeIn}
+use Rattle.claims.specs.Lent.{hearQuestions, Hearing, tellsThird, endsHeard, thirdHeard, heard, unheard, hearIn, within, makeIn}
 use Rattle.claims.specs.Lent.{middle, Positions, Halves, helpIn, answerAt, answerIn, replyIn}
 use Rattle.claims.proofs.Xor.{xor-assoc, xorAll-append, xorAll-snoc}
 use Rattle.claims.proofs.QuestionLaws.{Passes, passes-firstNo, judged-firstNo}
 use Rattle.claims.proofs.QuestionLaws.{firstNo-append-zero, firstNo-append-no, settle-kept, claimQuestions-numbered}
 use Rattle.claims.proofs.ClaimLaws.{claim-ext}
-use Rattle.claims.proofs.ReplyLaws.{numberOf-help, numberOf-decide, hear-rising, hear-lo, hear-hi, helper-positions}
+use Rattle.claims.proofs.ReplyLaws.{Wanted, wanted, hear-fits, numberOf-help, numberOf-decide, hear-rising, hear-lo, hear-hi, helper-positions}
+use Rattle.claims.proofs.ThirdLaws.{wanted-missing}
 
 -- ---- a claim heard, by any store
+
+-- where lo and hi stand, and in what
+abbrev pub standing : Hearing → Grown
+standing h = grown (h .store) (h .first) (h .last)
+
+-- once the ends stand at positions of the store, they do so after the third key too
+heard-laid : (c : Claim) (g : Grown) → Laid g → Laid (standing (heard c g))
+heard-laid c g l = go (tellsThird (g .first) (g .last) c)
+  where
+    t : Grown
+    t = addIn (g .store) (middleKey c)
+
+    go : (told : Bool) → Laid (standing (cond told (thirdHeard g t) (endsHeard g)))
+    go true =
+        let more = addIn-count (g .store) (middleKey c) in
+        record { rise = omega (arith, l .rise); inside = omega (arith, l .inside, more .0); short = more .2 (l .short) }
+    go false = record { rise = l .rise; inside = l .inside; short = l .short }
 
 module _ (s : Store) (c : Claim) where
   pub hearIn-judged : (judged c ≡ 0 → ⊥) → hearIn s c ≡ unheard s (judged c)
@@ -56,45 +76,108 @@ module _ (s : Store) (c : Claim) where
     unfolding hearIn
     hearIn-unfit e = let six : firstNo (hearQuestions s c) ≡ 6 = only-6 ∙ rw e in rw six
 
-    pub hearIn-fit : addBothIn s (c .lo) (c .hi) .fits ≡ true → hearIn s c ≡ heard (addBothIn s (c .lo) (c .hi))
+    pub hearIn-fit : addBothIn s (c .lo) (c .hi) .fits ≡ true → hearIn s c ≡ heard c (addBothIn s (c .lo) (c .hi))
     unfolding hearIn
     hearIn-fit e = let none : firstNo (hearQuestions s c) ≡ 0 = only-6 ∙ rw e in rw none
 
   -- refused: the store is what it was
   pub hearIn-kept : (hearIn s c .number ≡ 0 → ⊥) → hearIn s c .store ≡ s
   unfolding hearIn
-  hearIn-kept = settle-kept (λ (h : Hearing). h .number) (λ (h : Hearing). h .store) (heard (addBothIn s (c .lo) (c .hi))) (unheard s) refl (λ n. refl)
-      (firstNo (hearQuestions s c))
+  hearIn-kept = settle-kept (λ (h : Hearing). h .number) (λ (h : Hearing). h .store) (heard c g) (unheard s) (none (tellsThird (g .first) (g .last) c))
+      (λ n. refl) (firstNo (hearQuestions s c))
+    where
+      g : Grown
+      g = addBothIn s (c .lo) (c .hi)
+
+      none : (t : Bool) → cond t (thirdHeard g (addIn (g .store) (middleKey c))) (endsHeard g) .number ≡ 0
+      none true = refl
+      none false = refl
 
   -- not refused: lo and hi stand at positions of the store
-  pub hearIn-laid : hearIn s c .number ≡ 0 → Laid (record { fits = true; store = hearIn s c .store; first = hearIn s c .first; last = hearIn s c .last })
-  hearIn-laid e = ⊎-elim
-      {C = Laid (record { fits = true; store = hearIn s c .store; first = hearIn s c .first; last = hearIn s c .last })}
+  pub hearIn-laid : hearIn s c .number ≡ 0 → Laid (standing (hearIn s c))
+  hearIn-laid e = ⊎-elim {C = Laid (standing (hearIn s c))}
       (λ (pass : judged c ≡ 0). fitting pass (addBothIn s (c .lo) (c .hi) .fits) refl)
       (λ f. absurd (f (sym (ap (λ (h : Hearing). h .number) (hearIn-judged f)) ∙ e)))
       (eq-or-ne (judged c) 0)
     where
-      fitting : judged c ≡ 0 → (t : Bool) → addBothIn s (c .lo) (c .hi) .fits ≡ t
-          → Laid (record { fits = true; store = hearIn s c .store; first = hearIn s c .first; last = hearIn s c .last })
-      fitting pass true f =
-          let h = hearIn-fit pass f in
-          let l = addBothIn-laid s (c .lo) (c .hi) f in
-          rw h (record { rise = l .rise; inside = l .inside; short = l .short })
+      fitting : judged c ≡ 0 → (t : Bool) → addBothIn s (c .lo) (c .hi) .fits ≡ t → Laid (standing (hearIn s c))
+      fitting pass true f = subst (λ (h : Hearing). Laid (standing h)) (sym (hearIn-fit pass f))
+          (heard-laid c (addBothIn s (c .lo) (c .hi)) (addBothIn-laid s (c .lo) (c .hi) f))
       fitting pass false f = absurd (let z : 6 ≡ 0 = sym (ap (λ (h : Hearing). h .number) (hearIn-unfit pass f)) ∙ e in omega arith)
 
 -- ---- a claim heard, by a store in order
+
+-- lo and hi where they stand among the keys l
+abbrev pub standingIn : Claim → List ℕ → Grown
+standingIn c l = grown (storeOf l) (position (c .lo) l) (position (c .hi) l)
+
+-- The third key, once the ends are added: it is told where it is wanted, and added where there is space.
+module _ (l : List ℕ) (rise : Rising l) (c : Claim) (ordered : c .lo ≤ c .hi) where
+  abbrev both : List ℕ
+  both = withEnds c l
+
+  both-rise : Rising both
+  both-rise = insertAll-rising (ends c) l rise
+
+  -- own has two keys where the ends stand side by side
+  two-places : (n : ℕ) → eqb n 1 ≡ eqb (n + 1) 2
+  two-places n = ⊎-elim {C = eqb n 1 ≡ eqb (n + 1) 2}
+      (λ (e : n ≡ 1). eq-eqb n 1 e ∙ sym (eq-eqb (n + 1) 2 (omega arith)))
+      (λ (f : n ≡ 1 → ⊥). ne-eqb n 1 f ∙ sym (ne-eqb (n + 1) 2 (λ (e : n + 1 ≡ 2). f (omega arith))))
+      (eq-or-ne n 1)
+
+  tells-wanted : tellsThird (position (c .lo) both) (position (c .hi) both) c ≡ wantsMiddle c both
+  tells-wanted = ap (λ (t : Bool). eqb (c .cnt) 3 && (t && middleInside c)) (two-places (position (c .hi) both - position (c .lo) both))
+
+  module _ (w : Wanted c (withEnds c l)) where
+    missing : List·Memᴰ (middleKey c) both → ⊥
+    missing = wanted-missing c l rise ordered w
+
+    one-more : length (insert (middleKey c) both) ≡ suc (length both)
+    one-more = length-insert-missing (middleKey c) both missing
+
+    third-fits : length both < limit
+        → thirdHeard (standingIn c both) (addIn (storeOf both) (middleKey c)) ≡ endsHeard (standingIn c (insert (middleKey c) both))
+    third-fits h =
+        let first : position (c .lo) both ≡ position (c .lo) (insert (middleKey c) both) =
+        sym (position-insert-le (c .lo) (middleKey c) both (omega (arith, w .above))) in
+        let last : position (c .hi) both + (storeOf (insert (middleKey c) both) .count - storeOf both .count) ≡ position (c .hi) (insert (middleKey c) both) =
+        rw (count-storeOf (insert (middleKey c) both), count-storeOf both)
+        (omega (arith, one-more, position-insert-missing (c .hi) (middleKey c) both (w .below) missing)) in
+        rw (addIn-fits both both-rise (middleKey c) (omega (arith, one-more)))
+        (λ i. record { number = 0; store = storeOf (insert (middleKey c) both); first = first i; last = last i })
+
+    third-full : limit ≤ length both → thirdHeard (standingIn c both) (addIn (storeOf both) (middleKey c)) ≡ endsHeard (standingIn c both)
+    third-full h =
+        let last : position (c .hi) both + (storeOf both .count - storeOf both .count) ≡ position (c .hi) both = omega arith in
+        rw (addIn-full both both-rise (middleKey c) (omega (arith, one-more)))
+        (λ i. record { number = 0; store = storeOf both; first = position (c .lo) both; last = last i })
+
+  heard-store : length (withEnds c l) ≤ limit → heard c (standingIn c (withEnds c l)) ≡ endsHeard (standingIn c (hear c l))
+  unfolding third
+  heard-store h = rw tells-wanted (go (wantsMiddle c both) refl)
+    where
+      space : (t : Bool) → hasSpace both ≡ t → Wanted c both
+          → thirdHeard (standingIn c both) (addIn (storeOf both) (middleKey c)) ≡ endsHeard (standingIn c (insertAll (cond t (middleKey c ∷ []) []) both))
+      space true e w = third-fits w (ltb-true (length both) limit e)
+      space false e w = third-full w (ltb-false (length both) limit e)
+
+      go : (t : Bool) → wantsMiddle c both ≡ t
+          → cond t (thirdHeard (standingIn c both) (addIn (storeOf both) (middleKey c))) (endsHeard (standingIn c both))
+          ≡ endsHeard (standingIn c (insertAll (cond (t && hasSpace both) (middleKey c ∷ []) []) both))
+      go true e = space (hasSpace both) refl (wanted c both e)
+      go false e = refl
 
 module _ (l : List ℕ) (rise : Rising l) (c : Claim) (good : Passes c) where
   passed : judged c ≡ 0
   passed = judged-firstNo c ∙ passes-firstNo c good
 
-  pub hearIn-fits : length (hear c l) ≤ limit
-      → hearIn (storeOf l) c ≡ heard (grown (storeOf (hear c l)) (position (c .lo) (hear c l)) (position (c .hi) (hear c l)))
+  pub hearIn-fits : length (withEnds c l) ≤ limit → hearIn (storeOf l) c ≡ endsHeard (standingIn c (hear c l))
   hearIn-fits h =
       let g = addBothIn-fits l rise (c .lo) (c .hi) (good .ordered) h in
-      hearIn-fit (storeOf l) c passed (ap (λ (x : Grown). x .fits) g) ∙ ap heard g
+      hearIn-fit (storeOf l) c passed (ap (λ (x : Grown). x .fits) g) ∙ (ap (heard c) g ∙ heard-store l rise c (good .ordered) h)
 
-  pub hearIn-full : limit < length (hear c l) → hearIn (storeOf l) c ≡ unheard (storeOf l) 6
+  pub hearIn-full : limit < length (withEnds c l) → hearIn (storeOf l) c ≡ unheard (storeOf l) 6
   hearIn-full h = hearIn-unfit (storeOf l) c passed (ap (λ (x : Grown). x .fits) (addBothIn-full l rise (c .lo) (c .hi) (good .ordered) h))
 
 -- ---- a claim made
@@ -207,14 +290,14 @@ module _ (s : Store) (c : Claim) where
   replyIn-judged f = rw (hearIn-judged s c f, ne-eqb (judged c) 0 f)
 
 module _ (l : List ℕ) (rise : Rising l) (c : Claim) (good : Passes c) where
-  pub replyIn-fits : length (hear c l) ≤ limit → replyIn (storeOf l) c ≡ record { store = storeOf (hear c l); answer = reply c l }
+  pub replyIn-fits : length (withEnds c l) ≤ limit → replyIn (storeOf l) c ≡ record { store = storeOf (hear c l); answer = reply c l }
   unfolding replyIn
   replyIn-fits h =
       rw (hearIn-fits l rise c good h)
       (ap (λ (a : Answer). record { store = storeOf (hear c l); answer = a })
-      (answerAt-store (hear c l) h (hear-rising c l rise) c good (hear-lo c l) (hear-hi c l)))
+      (answerAt-store (hear c l) (hear-fits c l h) (hear-rising c l rise) c good (hear-lo c l) (hear-hi c l)))
 
-  pub replyIn-full : limit < length (hear c l) → replyIn (storeOf l) c ≡ record { store = storeOf l; answer = Refused 6 }
+  pub replyIn-full : limit < length (withEnds c l) → replyIn (storeOf l) c ≡ record { store = storeOf l; answer = Refused 6 }
   unfolding replyIn
   replyIn-full h = rw (hearIn-full l rise c good h)
 

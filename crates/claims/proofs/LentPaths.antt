@@ -1,30 +1,42 @@
 -- The calls on a lent run (src/lent.rt): one law for each way that the code goes, over the definitions of specs/Lent. What these mean where the run is
 -- a store in order is in LentLaws. Assumes nothing.
-use mathlib.Core.Path.{_≡_, sym, _∙_, ap, ap₂}
+use mathlib.Core.Path.{_≡_, sym, _∙_, ap, ap₂, subst}
 use mathlib.Core.Bool.{Bool, true, false, not, _&&_}
 use mathlib.Core.List.{List}
-use Prim.Native.Nat.{ℕ, _+_, _-_, _≤_, _<_}
+use Prim.Native.Nat.{ℕ, _+_, _-_, _^_, _≤_, _<_}
 use native.Mathlib.Omega.{arith}
 use borrow.Author.Tests.{lt-ltb, le-ltb, le-leb, lt-leb, eq-eqb, ne-eqb, ltb-true, leb-true, not-true, not-false}
-use lib.Dec.{leb, ltb}
+use lib.Dec.{leb, ltb, eqb}
 use lib.ListN.{length, getD}
 use Rattle.keys.specs.declared.lent.Added.{Added}
 use Rattle.keys.specs.declared.lent.Place.{Place}
 use Rattle.keys.specs.declared.store.Store.{Store}
 use Rattle.keys.specs.Store.{limit}
-use Rattle.keys.specs.Lent.{placeIn, storeWith, Grown, grownWith, addBothIn}
+use Rattle.keys.specs.Lent.{placeIn, storeWith, Grown, grownWith, addIn, addBothIn}
 use Rattle.keys.proofs.Tests.{and-left, and-right}
-use Rattle.keys.proofs.LentLaws.{addBothIn-unfit}
+use Rattle.keys.proofs.LentLaws.{addIn-count, Laid, addBothIn-laid, addBothIn-unfit}
 use Rattle.claims.specs.declared.answer.Answer.{Answer}
 use Rattle.claims.specs.declared.answer.Answer.the-variants.{Refused, Match, Ask, One, Two}
 use Rattle.claims.specs.declared.claim.Claim.{Claim}
 use Rattle.claims.specs.declared.lent.Heard.{Heard}
-use Rattle.claims.specs.Claim.{xorAll, span, claimOf, noClaim}
+use Rattle.claims.specs.Claim.{xorAll, span, claimOf, noClaim, middleKey, middleInside}
 use Rattle.claims.specs.Reply.{same, zOf, decide}
 use Rattle.claims.specs.Call.{judged}
-use Rattle.claims.specs.Lent.{Hearing, hearingWith, heard, unheard, notHeard, hearIn}
+use Rattle.claims.specs.Lent.{Hearing, hearingWith, tellsThird, thirdHeard, heard, unheard, notHeard, hearIn}
 use Rattle.claims.specs.Lent.{within, Positions, makeIn, middle, helpIn, answerAt, answerIn, repliedWith, replyIn}
 use Rattle.claims.proofs.LentLaws.{hearIn-judged, hearIn-unfit, hearIn-fit, hearIn-kept, hearIn-laid, part, middle-zOf}
+
+-- `tells_third`
+
+module _ (first last : ℕ) (c : Claim) where
+  pub tells-count : (c .cnt ≡ 3 → ⊥) → false ≡ tellsThird first last c
+  tells-count f = rw (ne-eqb (c .cnt) 3 f)
+
+  pub tells-others : c .cnt ≡ 3 → (last - first ≡ 1 → ⊥) → false ≡ tellsThird first last c
+  tells-others e f = rw (eq-eqb (c .cnt) 3 e, ne-eqb (last - first) 1 f)
+
+  pub tells-inside : c .cnt ≡ 3 → last - first ≡ 1 → (b : Bool) → b ≡ middleInside c → b ≡ tellsThird first last c
+  tells-inside e f b g = g ∙ rw (eq-eqb (c .cnt) 3 e, eq-eqb (last - first) 1 f)
 
 -- `hear_in`
 
@@ -46,9 +58,43 @@ module _ (keys : List ℕ) (count : ℕ) (c : Claim) where
         ap (λ (g : Grown). g .store .keys) added ∙ ap (λ (s : Store). s .keys) (addBothIn-unfit (storeWith keys count) (c .lo) (c .hi) no) in
         ap₂ hearingWith kept told ∙ sym (hearIn-unfit (storeWith keys count) c (sym asked ∙ pass) no)
 
-    pub heard-added : not (a .fits) ≡ false
-        → hearingWith after (record { number = 0; count = a .count; first = a .first; last = a .last }) ≡ hearIn (storeWith keys count) c
-    heard-added f = ap heard added ∙ sym (hearIn-fit (storeWith keys count) c (sym asked ∙ pass) (sym fits-is ∙ not-false (a .fits) f))
+    -- the ends fit
+    module _ (f : not (a .fits) ≡ false) where
+      fit : addBothIn (storeWith keys count) (c .lo) (c .hi) .fits ≡ true
+      fit = sym fits-is ∙ not-false (a .fits) f
+
+      laid : Laid (grownWith after a)
+      laid = subst Laid (sym added) (addBothIn-laid (storeWith keys count) (c .lo) (c .hi) fit)
+
+      heard-is : hearIn (storeWith keys count) c ≡ heard c (grownWith after a)
+      heard-is = hearIn-fit (storeWith keys count) c (sym asked ∙ pass) fit ∙ ap (heard c) (sym added)
+
+      pub ends-rise : a .first ≤ a .last
+      ends-rise = laid .rise
+
+      module _ (told : Bool) (tells : told ≡ tellsThird (a .first) (a .last) c) where
+        pub heard-ends : not told ≡ true
+            → hearingWith after (record { number = 0; count = a .count; first = a .first; last = a .last }) ≡ hearIn (storeWith keys count) c
+        heard-ends e = sym (heard-is ∙ rw (← tells, not-true told e))
+
+        -- the third key, by what adding it told
+        module _ (e : not told ≡ false) (k : ℕ) (middle : k ≡ middleKey c) (t : Added) (last : List ℕ)
+            (grew : grownWith last t ≡ addIn (storeWith after (a .count)) k) where
+          third-is : grownWith last t ≡ addIn (storeWith after (a .count)) (middleKey c)
+          third-is = grew ∙ ap (addIn (storeWith after (a .count))) middle
+
+          count-is : t .count ≡ addIn (storeWith after (a .count)) (middleKey c) .store .count
+          count-is = ap (λ (g : Grown). g .store .count) third-is
+
+          pub third-grows : a .count ≤ t .count
+          third-grows = omega (arith, count-is, addIn-count (storeWith after (a .count)) (middleKey c) .0)
+
+          pub third-room : a .last + (t .count - a .count) < 2 ^ 64
+          third-room = omega (arith, count-is, addIn-count (storeWith after (a .count)) (middleKey c) .1, laid .inside, laid .short)
+
+          pub heard-third : hearingWith last (record { number = 0; count = t .count; first = a .first; last = a .last + (t .count - a .count) })
+              ≡ hearIn (storeWith keys count) c
+          heard-third = ap (thirdHeard (grownWith after a)) third-is ∙ sym (heard-is ∙ rw (← tells, not-false told e))
 
 -- `within`
 

@@ -6,6 +6,7 @@
 --   QuestionLaws  the first question answered no; a claim that passes 2 to 5
 --   ClaimLaws     claims of spans
 --   ReplyLaws     what a reply says; a match that is not false
+--   ThirdLaws     the middle key of three: where it is added the reply is a match
 --   Cases         the twelve lettered cases
 --   LentLaws      what the calls on a lent run mean; the sums of both halves of a span
 --   WordsLaws     what it means to read and to write a claim in words
@@ -20,6 +21,7 @@ pub mod Span
 pub mod QuestionLaws
 pub mod ClaimLaws
 pub mod ReplyLaws
+pub mod ThirdLaws
 pub mod Cases
 pub mod LentLaws
 pub mod WordsLaws

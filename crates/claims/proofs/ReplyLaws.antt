@@ -1,8 +1,9 @@
--- The reply to one claim: `hear`, `own`, `answer`, `reply` and `falseMatch` of Reply, over rising keys and without positions. In order: the keys after
--- hearing; own is the claim of the keys from lo to hi; the helper has something to tell; the view of an answer (`Answered`), one constructor a case with
+-- The reply to one claim: `hear`, `own`, `answer`, `reply` and `falseMatch` of Reply, over rising keys and without positions. In order: the middle key of
+-- three; the keys after hearing; own is the claim of the keys from lo to hi; the helper has something to tell; the view of an answer (`Answered`), one constructor a case with
 -- its facts in terms of spans; every claim of a reply is the claim of a span of the store; a match that is not false; an answer by the
 -- keys from lo to hi alone.
--- What is added is spoken of as `adding`, save in `adding-mem` and the two laws before it. Assumes nothing.
+-- What is added is spoken of as `adding`, save in `adding-mem` and the laws before it. What follows from a middle key that is added is in ThirdLaws.
+-- Assumes nothing.
 use Prim.Native.Nat.{ℕ, _+_, _-_, _/_, _≤_, _<_}
 use mathlib.Core.Bool.{Bool, true, false, cond, not, _&&_, false≢true, true≢false}
 use mathlib.Core.List.{List, [], _∷_, _++_, List·Memᴰ, List·Memᴰ·head, List·Memᴰ·tail, List·Memᴰ·not-nil, List·Memᴰ·cases-cons, List·Memᴰ·eq-of-singleton}
@@ -10,28 +11,78 @@ use mathlib.Core.List.{Memᴰ·cast}
 use mathlib.Core.Logic.{_⊎_, inl, inr, ⊎-elim}
 use mathlib.Core.Path.{_≡_, refl, sym, ap, ap₂, _∙_, subst}
 use native.Mathlib.Omega.{arith}
-use borrow.Author.Tests.{ltb-true, ltb-false, eqb-true, eq-eqb}
+use borrow.Author.Tests.{lt-ltb, ltb-true, ltb-false, eqb-true, eq-eqb}
 use lib.Dec.{ltb, eqb}
 use lib.ListN.{length, take, drop, getD}
 use lib.Seq.{take-at, drop-at}
-use Rattle.keys.specs.Store.{position}
+use Rattle.keys.specs.Store.{limit, position, insertAll}
 use Rattle.keys.proofs.Tests.{and-left, and-right, and-both, Order, less, equal, greater, order}
-use Rattle.keys.proofs.Rising.{Rising, Sub, mem-length, rising-getD, rising-length}
-use Rattle.keys.proofs.Insert.{mem-insertAll-old, mem-insertAll-new, insertAll-mem, insertAll-sub}
+use Rattle.keys.proofs.Rising.{Rising, Sub, sub-trans, sub-append-left, mem-length, rising-getD, rising-length}
+use Rattle.keys.proofs.Insert.{length-insert-le, mem-insertAll-old, mem-insertAll-new, insertAll-mem, insertAll-sub}
 use Rattle.keys.proofs.Insert.{insertAll-rising, insertAll-held, insertAll-same, length-insertAll-ge}
 use Rattle.keys.proofs.Position.{getD-position, position-mono}
 use Rattle.claims.specs.declared.claim.Claim.{Claim}
 use Rattle.claims.specs.declared.answer.Answer.{Answer}
 use Rattle.claims.specs.declared.answer.Answer.the-variants.{Refused, Match, Ask, One, Two}
-use Rattle.claims.specs.Claim.{span, xorAll, claimOf, between}
-use Rattle.claims.specs.Reply.{adding, hear, own, same, zOf, help, decide, answer, reply, numberOf, claimsOf, matches, sameKeys, falseMatch}
+use Rattle.claims.specs.Claim.{span, xorAll, claimOf, between, middleKey, middleInside}
+use Rattle.claims.specs.Reply.{ends, withEnds, wantsMiddle, hasSpace, third, adding, hear}
+use Rattle.claims.specs.Reply.{own, same, zOf, help, decide, answer, reply, numberOf, claimsOf, matches, sameKeys, falseMatch}
 use Rattle.claims.proofs.Xor.{xorAll-one, xorAll-two}
 use Rattle.claims.proofs.Between.{inside, mem-between, between-one, between-inside, length-between-inside, between-rising, between-sub}
-use Rattle.claims.proofs.Span.{first, last, first-between, last-between, first-span, last-span, length-span, span-join, between-span, span-inside}
+use Rattle.claims.proofs.Span.{first, last, mem-first, mem-last, first-between, last-between, first-span, last-span, length-span, span-join, between-span, span-inside}
 use Rattle.claims.proofs.QuestionLaws.{Passes}
-use Rattle.claims.proofs.ClaimLaws.{spanClaim, claim-ext, same-claim, claim-same, claimOf-span, claimOf-between, rangeClaim, spanClaim-range}
+use Rattle.claims.proofs.ClaimLaws.{spanClaim, middleKey-span, claim-ext, same-claim, claim-same, claimOf-span, claimOf-between, rangeClaim, spanClaim-range}
+
+-- ---- the middle key of three
+
+-- it is wanted by keys l, which have lo and hi
+pub record Wanted (c : Claim) (l : List ℕ) : Type 0 where
+  pub three : c .cnt ≡ 3
+  pub two : own c l .cnt ≡ 2
+  pub above : c .lo < middleKey c
+  pub below : middleKey c < c .hi
+
+pub wanted : (c : Claim) (l : List ℕ) → wantsMiddle c l ≡ true → Wanted c l
+wanted c l e =
+    let rest : (eqb (own c l .cnt) 2 && middleInside c) ≡ true = and-right (eqb (c .cnt) 3) (eqb (own c l .cnt) 2 && middleInside c) e in
+    let lies : middleInside c ≡ true = and-right (eqb (own c l .cnt) 2) (middleInside c) rest in
+    record {
+      three = eqb-true (c .cnt) 3 (and-left (eqb (c .cnt) 3) (eqb (own c l .cnt) 2 && middleInside c) e);
+      two = eqb-true (own c l .cnt) 2 (and-left (eqb (own c l .cnt) 2) (middleInside c) rest);
+      above = ltb-true (c .lo) (middleKey c) (and-left (ltb (c .lo) (middleKey c)) (ltb (middleKey c) (c .hi)) lies);
+      below = ltb-true (middleKey c) (c .hi) (and-right (ltb (c .lo) (middleKey c)) (ltb (middleKey c) (c .hi)) lies);
+    }
+
+-- what `third` adds: nothing, or that key
+pub data Third (c : Claim) (l : List ℕ) : List ℕ → Type 0 where
+  left-out : Third c l []
+  put-in : Wanted c l → length l < limit → Third c l (middleKey c ∷ [])
+
+pub third-cases : (c : Claim) (l : List ℕ) → Third c l (third c l)
+unfolding third
+third-cases c l = go (wantsMiddle c l && hasSpace l) refl
+  where
+    go : (t : Bool) → (wantsMiddle c l && hasSpace l) ≡ t → Third c l (cond t (middleKey c ∷ []) [])
+    go true e = put-in (wanted c l (and-left (wantsMiddle c l) (hasSpace l) e)) (ltb-true (length l) limit (and-right (wantsMiddle c l) (hasSpace l) e))
+    go false e = left-out
+
+third-mem : (c : Claim) (l : List ℕ) (k : ℕ) {t : List ℕ} → Third c l t → List·Memᴰ k t → (k ≡ middleKey c) × Wanted c l
+third-mem c l k left-out m = absurd (List·Memᴰ·not-nil m)
+third-mem c l k (put-in w s) m = (List·Memᴰ·eq-of-singleton m, w)
+
+-- where there is space for it, whether it is wanted decides
+pub third-wanted : (c : Claim) (l : List ℕ) → (wantsMiddle c l ≡ true → length l < limit) → third c l ≡ cond (wantsMiddle c l) (middleKey c ∷ []) []
+unfolding third
+third-wanted c l f = go (wantsMiddle c l) refl
+  where
+    go : (t : Bool) → wantsMiddle c l ≡ t → cond (wantsMiddle c l && hasSpace l) (middleKey c ∷ []) [] ≡ cond t (middleKey c ∷ []) []
+    go true e = rw (e, lt-ltb (length l) limit (f e))
+    go false e = rw e
 
 -- ---- the keys after hearing
+
+pub adding-ends : (c : Claim) (l : List ℕ) → Sub (ends c) (adding c l)
+adding-ends c l = sub-append-left (ends c) (third c (withEnds c l))
 
 pub mem-adding-lo : (c : Claim) (l : List ℕ) → List·Memᴰ (c .lo) (adding c l)
 mem-adding-lo c l = List·Memᴰ·head refl
@@ -39,13 +90,29 @@ mem-adding-lo c l = List·Memᴰ·head refl
 pub mem-adding-hi : (c : Claim) (l : List ℕ) → List·Memᴰ (c .hi) (adding c l)
 mem-adding-hi c l = List·Memᴰ·tail (List·Memᴰ·head refl)
 
-pub adding-mem : (c : Claim) (l : List ℕ) (k : ℕ) → List·Memᴰ k (adding c l) → (k ≡ c .lo) ⊎ (k ≡ c .hi)
+pub adding-mem : (c : Claim) (l : List ℕ) (k : ℕ) → List·Memᴰ k (adding c l)
+    → (k ≡ c .lo) ⊎ ((k ≡ c .hi) ⊎ ((k ≡ middleKey c) × Wanted c (withEnds c l)))
 adding-mem c l k (List·Memᴰ·head e) = inl e
-adding-mem c l k (List·Memᴰ·tail (List·Memᴰ·head e)) = inr e
-adding-mem c l k (List·Memᴰ·tail (List·Memᴰ·tail m)) = absurd (List·Memᴰ·not-nil m)
+adding-mem c l k (List·Memᴰ·tail (List·Memᴰ·head e)) = inr (inl e)
+adding-mem c l k (List·Memᴰ·tail (List·Memᴰ·tail m)) = inr (inr (third-mem c (withEnds c l) k (third-cases c (withEnds c l)) m))
 
-pub adding-sub : (c : Claim) (l m : List ℕ) → List·Memᴰ (c .lo) m → List·Memᴰ (c .hi) m → Sub (adding c l) m
-adding-sub c l m lo hi k i = ⊎-elim {C = List·Memᴰ k m} (λ (e : k ≡ c .lo). Memᴰ·cast e lo) (λ (e : k ≡ c .hi). Memᴰ·cast e hi) (adding-mem c l k i)
+-- it lies from lo to hi
+pub adding-range : (c : Claim) (l : List ℕ) → c .lo ≤ c .hi → (k : ℕ) → List·Memᴰ k (adding c l) → (c .lo ≤ k) × (k ≤ c .hi)
+adding-range c l h k m = go (adding-mem c l k m)
+  where
+    go : (k ≡ c .lo) ⊎ ((k ≡ c .hi) ⊎ ((k ≡ middleKey c) × Wanted c (withEnds c l))) → (c .lo ≤ k) × (k ≤ c .hi)
+    go (inl e) = (omega arith, omega arith)
+    go (inr (inl e)) = (omega arith, omega arith)
+    go (inr (inr (e, w))) = (omega (arith, w .above), omega (arith, w .below))
+
+-- The claim of some keys adds none but these, to whatever store: so what claims that were made add was entered.
+pub adding-span : (keys l : List ℕ) → 0 < length keys → Sub (adding (spanClaim keys) l) keys
+adding-span keys l h k m = go (adding-mem (spanClaim keys) l k m)
+  where
+    go : (k ≡ first keys) ⊎ ((k ≡ last keys) ⊎ ((k ≡ middleKey (spanClaim keys)) × Wanted (spanClaim keys) (withEnds (spanClaim keys) l))) → List·Memᴰ k keys
+    go (inl e) = Memᴰ·cast e (mem-first keys h)
+    go (inr (inl e)) = Memᴰ·cast e (mem-last keys h)
+    go (inr (inr (e, w))) = Memᴰ·cast e (middleKey-span keys (w .three))
 
 pub hear-old : (c : Claim) (l : List ℕ) → Sub l (hear c l)
 hear-old c l = mem-insertAll-old (adding c l) l
@@ -64,6 +131,20 @@ hear-lo c l = hear-new c l (c .lo) (mem-adding-lo c l)
 
 pub hear-hi : (c : Claim) (l : List ℕ) → List·Memᴰ (c .hi) (hear c l)
 hear-hi c l = hear-new c l (c .hi) (mem-adding-hi c l)
+
+pub hear-ends : (c : Claim) (l : List ℕ) → Sub (ends c) (hear c l)
+hear-ends c l = sub-trans (ends c) (adding c l) (hear c l) (adding-ends c l) (hear-new c l)
+
+pub length-ends-hear : (c : Claim) (l : List ℕ) → length (withEnds c l) ≤ length (hear c l)
+length-ends-hear c l = length-insertAll-ge (third c (withEnds c l)) (withEnds c l)
+
+-- where the ends fit, which is what question 6 counts, all of it fits
+pub hear-fits : (c : Claim) (l : List ℕ) → length (withEnds c l) ≤ limit → length (hear c l) ≤ limit
+hear-fits c l h = go (third-cases c (withEnds c l))
+  where
+    go : {t : List ℕ} → Third c (withEnds c l) t → length (insertAll t (withEnds c l)) ≤ limit
+    go left-out = h
+    go (put-in w s) = omega (arith, length-insert-le (middleKey c) (withEnds c l))
 
 pub hear-rising : (c : Claim) (l : List ℕ) → Rising l → Rising (hear c l)
 hear-rising c l r = insertAll-rising (adding c l) l r
@@ -288,8 +369,12 @@ answered-spanned c l r h m n (helped-two {d = y} {e = z} a b f g e i j p q k) d 
     (λ (w : List·Memᴰ d (z ∷ [])). part-spanned (c .lo) (c .hi) l b d (List·Memᴰ·eq-of-singleton w ∙ i) q)
     (List·Memᴰ·cases-cons x)
 
+pub answer-spanned : (c : Claim) (l : List ℕ) → Rising l → Passes c → List·Memᴰ (c .lo) l → List·Memᴰ (c .hi) l
+    → (d : Claim) → List·Memᴰ d (claimsOf (answer c l)) → Spanned l d
+answer-spanned c l r p m n = answered-spanned c l r (p .ordered) m n (answered c l r p m n)
+
 pub reply-spanned : (c : Claim) (l : List ℕ) → Rising l → Passes c → (d : Claim) → List·Memᴰ d (claimsOf (reply c l)) → Spanned (hear c l) d
-reply-spanned c l r p d x = answered-spanned c (hear c l) (hear-rising c l r) (p .ordered) (hear-lo c l) (hear-hi c l) (reply-answered c l r p) d x
+reply-spanned c l r p = answer-spanned c (hear c l) (hear-rising c l r) p (hear-lo c l) (hear-hi c l)
 
 -- ---- a match that is not false
 

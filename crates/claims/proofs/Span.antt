@@ -76,6 +76,10 @@ first-lt-last [] r h = absurd (not-suc-le-zero h)
 first-lt-last (x ∷ []) r h = absurd (omega arith)
 first-lt-last (x ∷ (y ∷ ys)) r h = above-mem x (y ∷ ys) (r .0) (last (y ∷ ys)) (mem-last (y ∷ ys) (omega arith))
 
+pub no-keys : (l : List ℕ) → length l ≡ 0 → l ≡ []
+no-keys [] e = refl
+no-keys (x ∷ xs) e = absurd (omega arith)
+
 pub one-key : (l : List ℕ) → length l ≡ 1 → l ≡ first l ∷ []
 one-key [] e = absurd (omega arith)
 one-key (x ∷ []) e = refl

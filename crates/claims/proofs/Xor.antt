@@ -1,11 +1,11 @@
 -- The XOR of all numbers of a list: `xorAll` of Claim. In order: `bitXor` is associative, by its lowest bit and then half of each number;
--- the sum of a join, of one key and of two; a sum of keys of w bits has w bits.
+-- the sum of a join, of one key, of two and of three; a sum of keys of w bits has w bits.
 -- Not here: `xor-comm`, `xor-self`, `xor-zero-l`, `xor-zero-r`, `xor-lt` (lib.Bits). Assumes nothing.
 use Prim.Native.Nat.{ℕ, zero, suc, _≤_, _<_, _/_, _%_, _^_}
 use mathlib.Core.List.{List, [], _∷_, _++_, List·Memᴰ, List·Memᴰ·head, List·Memᴰ·tail}
 use mathlib.Core.Path.{_≡_, refl, sym, ap, _∙_}
 use native.Mathlib.Omega.{arith}
-use lib.Bits.{bitXor, xor-zero-l, xor-zero-r, xor-lt, xor-shr, xor-mod}
+use lib.Bits.{bitXor, xor-comm, xor-self, xor-zero-l, xor-zero-r, xor-lt, xor-shr, xor-mod}
 use lib.Pow.{pow-pos}
 use Rattle.claims.specs.Claim.{xorAll}
 
@@ -58,6 +58,21 @@ xorAll-one k = xor-zero-r k
 
 pub xorAll-two : (j k : ℕ) → xorAll (j ∷ k ∷ []) ≡ bitXor j k
 xorAll-two j k = ap (bitXor j) (xor-zero-r k)
+
+-- a key twice is no key
+pub xor-twice : (a b : ℕ) → bitXor (bitXor a b) b ≡ a
+xor-twice a b = xor-assoc a b b ∙ (ap (bitXor a) (xor-self b) ∙ xor-zero-r a)
+
+-- the sum of three keys without the first and the last is the one between, ..
+pub xorAll-three : (j k m : ℕ) → bitXor (bitXor (xorAll (j ∷ k ∷ m ∷ [])) j) m ≡ k
+xorAll-three j k m =
+    let e : xorAll (j ∷ k ∷ m ∷ []) ≡ bitXor (bitXor k m) j = ap (bitXor j) (xorAll-two k m) ∙ xor-comm j (bitXor k m) in
+    ap (λ (x : ℕ). bitXor (bitXor x j) m) e ∙ (ap (λ (x : ℕ). bitXor x m) (xor-twice (bitXor k m) j) ∙ xor-twice k m)
+
+-- .. and with that key between the two, the sum is what it was
+pub xorAll-told : (s j m : ℕ) → xorAll (j ∷ bitXor (bitXor s j) m ∷ m ∷ []) ≡ s
+xorAll-told s j m =
+    ap (bitXor j) (xorAll-two (bitXor (bitXor s j) m) m ∙ xor-twice (bitXor s j) m) ∙ (xor-comm j (bitXor s j) ∙ xor-twice s j)
 
 -- one more key at the end: what a loop that goes up adds
 pub xorAll-snoc : (l : List ℕ) (k : ℕ) → xorAll (l ++ (k ∷ [])) ≡ bitXor (xorAll l) k

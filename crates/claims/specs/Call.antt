@@ -38,7 +38,7 @@ made s i j =
     (record { number = 0; claim = claimOf i j (keysOf s) })
     (λ n. record { number = n; claim = noClaim })
 
--- `reply` asks 1, 2 to 5 and 6.
+-- `reply` asks 1, 2 to 5 and 6: "6 doesn't count the middle one" (document 02, slip 1).
 abbrev pub replyQuestions : Store → Claim → List Question
 replyQuestions s c = question1 s ∷ (claimQuestions c ++ (question6 (ends c) (keysOf s) ∷ []))
 

@@ -1,6 +1,6 @@
--- Slips from the desk drawer (document 01, the section of that name): the twelve lettered cases, as one table over the call definitions.
--- That each row gives what is wanted is one law, `cases-hold` of proofs/Cases. Assumes nothing.
-use Prim.Native.Nat.{ℕ}
+-- Slips from the desk drawer (document 01, the section of that name): the twelve lettered cases, as one table over the call definitions; then rows for the
+-- middle key of three, and for replies on a lent run. That each row gives what is wanted is one law for each table, in proofs/Cases. Assumes nothing.
+use Prim.Native.Nat.{ℕ, zero, suc, _-_}
 use mathlib.Core.Bool.{Bool, true}
 use mathlib.Core.List.{List, [], _∷_}
 use Rattle.keys.specs.declared.store.Store.{Store}
@@ -51,8 +51,8 @@ abbrev pub table : List Row
 table =
     -- a. {} hears (7, 7, 7, 1): {7}, match.
     hears emptyStore (claim 7 7 7 1) (storeOf (7 ∷ [])) Match
-    -- b. {} hears (1, 16, 19, 3): {1, 16}, ask (1, 16, 17, 2).
-    ∷ hears emptyStore (claim 1 16 19 3) (storeOf (1 ∷ 16 ∷ [])) (Ask (claim 1 16 17 2))
+    -- b. {} hears (1, 16, 19, 3): "Case b becomes {1, 2, 16} and match." (document 02, slip 1)
+    ∷ hears emptyStore (claim 1 16 19 3) (storeOf (1 ∷ 2 ∷ 16 ∷ [])) Match
     -- c. {1, 4, 16} hears (1, 16, 19, 3): one (4, 4, 4, 1).
     ∷ keeps (1 ∷ 4 ∷ 16 ∷ []) (claim 1 16 19 3) (One (claim 4 4 4 1))
     -- d. {1, 2, 4, 8, 16} hears (1, 16, 17, 2): one (2, 8, 14, 3).
@@ -78,11 +78,41 @@ table =
     ∷ refuses (claim 9 5 12 2) 2
     ∷ []
 
--- ---- a refusal never writes: the reply on a lent run, of any content
+-- ---- the middle key of three (document 02, slip 1)
 
--- a store hears a claim, is refused with the number n, and is what it was
+-- the n numbers from k on
+abbrev pub upFrom : ℕ → ℕ → List ℕ
+upFrom k zero = []
+upFrom k (suc n) = k ∷ upFrom (suc k) n
+
+abbrev pub thirdTable : List Row
+thirdTable =
+    -- whichever of the ends is held
+    hears (storeOf (1 ∷ [])) (claim 1 16 19 3) (storeOf (1 ∷ 2 ∷ 16 ∷ [])) Match
+    ∷ hears (storeOf (16 ∷ [])) (claim 1 16 19 3) (storeOf (1 ∷ 2 ∷ 16 ∷ [])) Match
+    ∷ hears (storeOf (1 ∷ 16 ∷ [])) (claim 1 16 19 3) (storeOf (1 ∷ 2 ∷ 16 ∷ [])) Match
+    -- it would be lo, hi or beyond: "only if it lies strictly between lo and hi"
+    ∷ keeps (1 ∷ 16 ∷ []) (claim 1 16 16 3) (Ask (claim 1 16 17 2))
+    ∷ keeps (1 ∷ 16 ∷ []) (claim 1 16 1 3) (Ask (claim 1 16 17 2))
+    ∷ keeps (1 ∷ 16 ∷ []) (claim 1 16 5 3) (Ask (claim 1 16 17 2))
+    -- own has another key beside lo and hi (case c), or the claim is of four
+    ∷ keeps (1 ∷ 4 ∷ 16 ∷ []) (claim 1 16 19 3) (One (claim 4 4 4 1))
+    ∷ keeps (1 ∷ 16 ∷ []) (claim 1 16 19 4) (Ask (claim 1 16 17 2))
+    -- "and the store has space", after lo and hi were added: with three places left all three fit, with two lo and hi do, with one it is 6
+    ∷ hears (storeOf (upFrom 20 (limit - 3))) (claim 1 16 19 3) (storeOf (1 ∷ 2 ∷ 16 ∷ upFrom 20 (limit - 3))) Match
+    ∷ hears (storeOf (upFrom 20 (limit - 2))) (claim 1 16 19 3) (storeOf (1 ∷ 16 ∷ upFrom 20 (limit - 2))) (Ask (claim 1 16 17 2))
+    ∷ keeps (upFrom 20 (limit - 1)) (claim 1 16 19 3) (Refused 6)
+    ∷ []
+
+-- ---- the reply on a lent run, of any content
+
+-- a store hears a claim: the store afterwards, and the answer
+abbrev pub hearsLent : Store → Claim → Store → Answer → Row
+hearsLent s c t a = record { gives = reply-is (replyIn s c); wanted = reply-is (record { store = t; answer = a }) }
+
+-- a refusal never writes: with the number n, the store is what it was
 abbrev pub unmoved : Store → Claim → ℕ → Row
-unmoved s c n = record { gives = reply-is (replyIn s c); wanted = reply-is (record { store = s; answer = Refused n }) }
+unmoved s c n = hearsLent s c s (Refused n)
 
 abbrev pub lentTable : List Row
 lentTable =
@@ -92,4 +122,8 @@ lentTable =
     ∷ unmoved (storeOf (3 ∷ 5 ∷ 9 ∷ [])) (claim 9 5 12 2) 2
     -- a run that is out of order and full
     ∷ unmoved (storeWith (zeros limit) limit) (claim 4 7 0 3) 6
+    -- a full store that has both ends hears a claim of three: 6 is not answered no, and the third key is left out
+    ∷ hearsLent (storeOf (1 ∷ upFrom 16 (limit - 1))) (claim 1 16 19 3) (storeOf (1 ∷ upFrom 16 (limit - 1))) (Ask (claim 1 16 17 2))
+    -- with a place left it comes in
+    ∷ hearsLent (storeOf (1 ∷ upFrom 16 (limit - 2))) (claim 1 16 19 3) (storeOf (1 ∷ 2 ∷ upFrom 16 (limit - 2))) Match
     ∷ []

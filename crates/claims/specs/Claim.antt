@@ -1,10 +1,10 @@
--- Claims (document 01, the section of that name; the paper, 3.1): what the claim for positions i to j of a store is.
+-- Claims (document 01, the section of that name; the paper, 3.1): what the claim for positions i to j of a store is, and the key that one of three tells.
 -- Not here: which claims are refused (Question), how one is replied to (Reply). Assumes nothing.
 use Prim.Native.Nat.{ℕ, _+_, _-_}
-use mathlib.Core.Bool.{cond, _&&_}
+use mathlib.Core.Bool.{Bool, cond, _&&_}
 use mathlib.Core.List.{List, [], _∷_}
 use lib.Bits.{bitXor}
-use lib.Dec.{leb}
+use lib.Dec.{ltb, leb}
 use lib.ListN.{length, take, drop, getD}
 use Rattle.claims.specs.declared.claim.Claim.{Claim}
 
@@ -35,3 +35,11 @@ wholeClaim (k ∷ ks) = claimOf 0 (length ks) (k ∷ ks) ∷ []
 abbrev pub between : ℕ → ℕ → List ℕ → List ℕ
 between lo hi [] = []
 between lo hi (k ∷ ks) = cond (leb lo k && leb k hi) (k ∷ between lo hi ks) (between lo hi ks)
+
+-- the key that a claim of three tells beside lo and hi: "the key sum XOR lo XOR hi" (document 02, slip 1)
+abbrev pub middleKey : Claim → ℕ
+middleKey c = bitXor (bitXor (c .sum) (c .lo)) (c .hi)
+
+-- "it lies strictly between lo and hi" (document 02, slip 1)
+abbrev pub middleInside : Claim → Bool
+middleInside c = ltb (c .lo) (middleKey c) && ltb (middleKey c) (c .hi)

@@ -6,11 +6,11 @@ use mathlib.Core.Path.{_≡_}
 use Prim.Native.Nat.{ℕ, _+_, _-_, _/_, _≤_, _<_}
 use mathlib.Core.Bool.{Bool, cond, _&&_}
 use mathlib.Core.List.{List, [], _∷_, _++_}
-use lib.Dec.{ltb, leb}
+use lib.Dec.{ltb, leb, eqb}
 use lib.ListN.{length, take, drop}
 use Rattle.keys.specs.declared.store.Store.{Store}
 use Rattle.keys.specs.Store.{limit}
-use Rattle.keys.specs.Lent.{placeIn, storeWith, Grown, addBothIn}
+use Rattle.keys.specs.Lent.{placeIn, storeWith, Grown, addIn, addBothIn}
 use Rattle.claims.specs.declared.claim.Claim.{Claim}
 use Rattle.claims.specs.declared.answer.Answer.{Answer}
 use Rattle.claims.specs.declared.answer.Answer.the-variants.{Refused, Match}
@@ -18,7 +18,7 @@ use Rattle.claims.specs.declared.answer.Made.{Made}
 use Rattle.claims.specs.declared.answer.Replied.{Replied}
 use Rattle.claims.specs.declared.lent.Heard.{Heard}
 use Rattle.claims.specs.declared.lent.Told.{Told}
-use Rattle.claims.specs.Claim.{claimOf, noClaim, xorAll}
+use Rattle.claims.specs.Claim.{claimOf, noClaim, xorAll, middleKey, middleInside}
 use Rattle.claims.specs.Question.{Question, question, firstNo, settle, claimQuestions}
 use Rattle.claims.specs.Reply.{decide, help}
 
@@ -39,8 +39,21 @@ pub record Hearing : Type 0 where
 abbrev pub hearingWith : List ℕ → Heard → Hearing
 hearingWith keys h = record { number = h .number; store = storeWith keys (h .count); first = h .first; last = h .last }
 
-abbrev pub heard : Grown → Hearing
-heard g = record { number = 0; store = g .store; first = g .first; last = g .last }
+-- Does the claim tell a third key to be added? It is of three keys, the ends stand side by side at first and last, and the key lies between them.
+abbrev pub tellsThird : ℕ → ℕ → Claim → Bool
+tellsThird first last c = eqb (c .cnt) 3 && (eqb (last - first) 1 && middleInside c)
+
+-- the ends as they were added, ..
+abbrev pub endsHeard : Grown → Hearing
+endsHeard g = record { number = 0; store = g .store; first = g .first; last = g .last }
+
+-- .. and the third key after them: hi stands as many places further on as keys were added
+abbrev pub thirdHeard : Grown → Grown → Hearing
+thirdHeard g t = record { number = 0; store = t .store; first = g .first; last = g .last + (t .store .count - g .store .count) }
+
+-- what hearing gives once the ends are added: a third key that does not fit is left out, and no number says so
+abbrev pub heard : Claim → Grown → Hearing
+heard c g = cond (tellsThird (g .first) (g .last) c) (thirdHeard g (addIn (g .store) (middleKey c))) (endsHeard g)
 
 abbrev pub unheard : Store → ℕ → Hearing
 unheard s n = record { number = n; store = s; first = 0; last = 0 }
@@ -49,9 +62,9 @@ unheard s n = record { number = n; store = s; first = 0; last = 0 }
 abbrev pub notHeard : ℕ → ℕ → Heard
 notHeard n count = record { number = n; count = count; first = 0; last = 0 }
 
--- `hear_in`: what hearing a claim adds, its ends
+-- `hear_in`: what hearing a claim adds, its ends and the middle key of three
 unfoldable pub hearIn : Store → Claim → Hearing
-hearIn s c = settle (firstNo (hearQuestions s c)) (heard (addBothIn s (c .lo) (c .hi))) (unheard s)
+hearIn s c = settle (firstNo (hearQuestions s c)) (heard c (addBothIn s (c .lo) (c .hi))) (unheard s)
 
 -- ---- a claim made
 

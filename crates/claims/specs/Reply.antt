@@ -1,31 +1,49 @@
--- The reply to one claim (document 01, the section of that name; the paper's Algorithm 1, lines 12 to 14 and 20 to 35), over the keys of a store.
+-- The reply to one claim (document 01, the section of that name; the paper's Algorithm 1, lines 12 to 14 and 20 to 35), over the keys of a store,
+-- with the middle key of three (document 02, slip 1): "Replies are compared with this rule from now on".
 -- Not here: the questions put before it (Question), what the call returns (Call). Assumes nothing.
 use Prim.Native.Nat.{ℕ, _+_, _-_, _/_}
 use mathlib.Core.Bool.{Bool, true, false, cond, not, _&&_}
-use mathlib.Core.List.{List, [], _∷_}
+use mathlib.Core.List.{List, [], _∷_, _++_}
 use lib.Dec.{ltb, eqb}
-use Rattle.keys.specs.Store.{position, insertAll}
+use lib.ListN.{length}
+use Rattle.keys.specs.Store.{limit, position, insertAll}
 use Rattle.claims.specs.declared.claim.Claim.{Claim}
 use Rattle.claims.specs.declared.answer.Answer.{Answer}
 use Rattle.claims.specs.declared.answer.Answer.the-variants.{Refused, Match, Ask, One, Two}
-use Rattle.claims.specs.Claim.{claimOf, between}
+use Rattle.claims.specs.Claim.{claimOf, between, middleKey, middleInside}
 
--- the ends of a claim, which question 6 counts where they are missing
+-- the ends of a claim, which question 6 counts where they are missing: "6 doesn't count the middle one" (document 02, slip 1)
 abbrev pub ends : Claim → List ℕ
 ends c = c .lo ∷ c .hi ∷ []
 
--- What hearing a claim adds to a store with the keys l where it is missing: "Add lo and hi where missing." Lines 12 to 14.
--- Today that is the claim's ends, whatever is held.
-abbrev pub adding : Claim → List ℕ → List ℕ
-adding c l = ends c
-
--- the keys held once the claim is heard
-abbrev pub hear : Claim → List ℕ → List ℕ
-hear c l = insertAll (adding c l) l
+-- "Add lo and hi where missing." Lines 12 to 14.
+abbrev pub withEnds : Claim → List ℕ → List ℕ
+withEnds c l = insertAll (ends c) l
 
 -- "“Own” is then the claim of this store from lo to hi." Line 21.
 abbrev pub own : Claim → List ℕ → Claim
 own c l = claimOf (position (c .lo) l) (position (c .hi) l) l
+
+-- "Branches on weak radio want a round trip fewer. When a claim has cnt 3 and own is just lo and hi after they were added, the key sum XOR lo XOR hi is
+-- added as well (the paper, 5.2). It is added only if it lies strictly between lo and hi .." (document 02, slip 1). Of keys l that have lo and hi.
+abbrev pub wantsMiddle : Claim → List ℕ → Bool
+wantsMiddle c l = eqb (c .cnt) 3 && (eqb (own c l .cnt) 2 && middleInside c)
+
+-- ".. and the store has space" (document 02, slip 1)
+abbrev pub hasSpace : List ℕ → Bool
+hasSpace l = ltb (length l) limit
+
+-- the middle key, where it is added to keys l that have lo and hi; none elsewhere
+unfoldable pub third : Claim → List ℕ → List ℕ
+third c l = cond (wantsMiddle c l && hasSpace l) (middleKey c ∷ []) []
+
+-- What hearing a claim adds to a store with the keys l where it is missing: its ends, then the middle key of three.
+abbrev pub adding : Claim → List ℕ → List ℕ
+adding c l = ends c ++ third c (withEnds c l)
+
+-- the keys held once the claim is heard
+abbrev pub hear : Claim → List ℕ → List ℕ
+hear c l = insertAll (adding c l) l
 
 -- "Own equals the claim in all four fields"
 abbrev pub same : Claim → Claim → Bool
@@ -49,7 +67,7 @@ decide mine c helped = cond (same mine c) Match (cond (ltb (mine .cnt) (c .cnt))
 unfoldable pub answer : Claim → List ℕ → Answer
 answer c l = decide (own c l) c (help (position (c .lo) l + 1) (position (c .hi) l - 1) l)
 
--- The reply of a store with the keys l: lo and hi are added first.
+-- The reply of a store with the keys l: what hearing adds is added first. "Own is then worked out again and the reply goes by it." (document 02, slip 1)
 abbrev pub reply : Claim → List ℕ → Answer
 reply c l = answer c (hear c l)
 

@@ -1,6 +1,7 @@
 // Claims.
 ghost use mathlib.Core.Path.{_≡_};
 ghost use Prim.Native.Nat.{_≤_};
+ghost use Rattle.claims.specs.Claim.{middleKey, middleInside};
 ghost use Rattle.claims.specs.Question.{question3, question4, question5};
 ghost use Rattle.claims.specs.Reply.{same};
 ghost use Rattle.claims.specs.Call.{judged};
@@ -97,4 +98,22 @@ pub(crate) fn same(one: Claim, other: Claim) -> bool
         return false;
     }
     one.cnt == other.cnt
+}
+
+// The key between lo and hi that a claim of three keys tells.
+pub(crate) fn middle_key(claim: Claim) -> u64
+    ensures { λ r. ⌜ r ≡ middleKey claim ⌝ }
+{
+    claim.sum ^ claim.lo ^ claim.hi
+}
+
+// Whether that key lies strictly between lo and hi.
+pub(crate) fn middle_inside(claim: Claim) -> bool
+    ensures { λ r. ⌜ r ≡ middleInside claim ⌝ }
+{
+    let middle = middle_key(claim);
+    if middle <= claim.lo {
+        return false;
+    }
+    middle < claim.hi
 }

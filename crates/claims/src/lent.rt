@@ -4,16 +4,20 @@ use crate::answer::Answer;
 use crate::answer::Made;
 use crate::claim::Claim;
 use crate::claim::judge;
+use crate::claim::middle_inside;
+use crate::claim::middle_key;
 use crate::claim::same;
 use crate::sums::sums_of;
 use crate::sums::xor_all;
 use keys::Store;
 use keys::add_both_in;
+use keys::add_in;
 use keys::place_in;
 ghost use mathlib.Core.Path.{_≡_};
+ghost use Prim.Native.Nat.{_≤_};
 ghost use Rattle.claims.specs.Claim.{span, xorAll, claimOf};
 ghost use Rattle.keys.specs.Lent.{storeWith};
-ghost use Rattle.claims.specs.Lent.{hearingWith, notHeard, hearIn, within, Positions, makeIn, Halves, helpIn, answerAt, answerIn, repliedWith, replyIn};
+ghost use Rattle.claims.specs.Lent.{hearingWith, notHeard, tellsThird, hearIn, within, Positions, makeIn, Halves, helpIn, answerAt, answerIn, repliedWith, replyIn};
 
 // A claim heard: the count then, and where its lo and hi stand; or the number of the first question answered no, and the count as it was.
 pub struct Heard {
@@ -41,6 +45,21 @@ fn not_heard(number: u8, count: usize) -> Heard
     }
 }
 
+// Whether the claim tells a third key to be added: it is of three keys, its ends stand side by side at first and last, and the key lies between them.
+fn tells_third(first: usize, last: usize, claim: Claim) -> bool
+    requires { ⌜ first ≤ last ⌝ }
+    ensures { λ r. ⌜ r ≡ tellsThird first last claim ⌝ }
+{
+    if claim.cnt != 3 {
+        return false;
+    }
+    let apart = last - first;
+    if apart != 1 {
+        return false;
+    }
+    middle_inside(claim)
+}
+
 // Adds what hearing a claim adds, and says where its lo and hi stand then. Asks 2 to 5 and 6.
 pub fn hear_in(keys: &mut [u64; Store::LIMIT], count: usize, claim: Claim) -> Heard
     ensures { λ r. ⌜ hearingWith (now (keys .exit)) r ≡ hearIn (storeWith (now (keys .entry)) count) claim ⌝ }
@@ -53,11 +72,22 @@ pub fn hear_in(keys: &mut [u64; Store::LIMIT], count: usize, claim: Claim) -> He
     if !added.fits {
         return not_heard(6, count);
     }
+    if !tells_third(added.first, added.last, claim) {
+        return Heard {
+            number: 0,
+            count: added.count,
+            first: added.first,
+            last: added.last,
+        };
+    }
+    let third = add_in(keys, added.count, middle_key(claim));
+    let more = third.count - added.count;
+    let last = added.last + more;
     Heard {
         number: 0,
-        count: added.count,
+        count: third.count,
         first: added.first,
-        last: added.last,
+        last,
     }
 }
 

@@ -3,8 +3,9 @@
 use Prim.Native.Nat.{ℕ, _-_, _^_, _≤_, _<_}
 use native.Mathlib.Omega.{arith}
 use mathlib.Core.List.{List, [], _∷_, List·Memᴰ}
-use mathlib.Core.Logic.{⊎-elim}
+use mathlib.Core.Logic.{_⊎_, inl, inr, ⊎-elim}
 use mathlib.Core.Path.{_≡_, sym, subst}
+use lib.Bits.{bitXor, xor-lt}
 use lib.ListN.{length, drop, length-append, length-replicate}
 use Rattle.keys.specs.Store.{limit, zeros, storeOf}
 use Rattle.keys.proofs.Tests.{eq-or-ne}
@@ -12,10 +13,10 @@ use Rattle.keys.proofs.Insert.{insert-mem}
 use Rattle.keys.proofs.StoreLaws.{keys-storeOf, keysOf-storeOf, length-keys-storeOf, inOrder-rising}
 use Rattle.keys.proofs.Rising.{Rising}
 use Rattle.claims.specs.declared.claim.Claim.{Claim}
-use Rattle.claims.specs.Claim.{noClaim}
+use Rattle.claims.specs.Claim.{noClaim, middleKey}
 use Rattle.claims.specs.Question.{firstNo}
-use Rattle.claims.specs.Reply.{ends, hear}
-use Rattle.claims.proofs.ReplyLaws.{hear-mem, Spanned, spanned-keys}
+use Rattle.claims.specs.Reply.{withEnds, adding, hear}
+use Rattle.claims.proofs.ReplyLaws.{Wanted, adding-mem, hear-mem, hear-fits, Spanned, spanned-keys}
 use Rattle.claims.proofs.Span.{mem-first, mem-last}
 use Rattle.claims.proofs.Xor.{xorAll-lt}
 use Rattle.rule.specs.declared.node.Node.{Node}
@@ -92,10 +93,18 @@ narrow-read image below done =
 
 -- ---- claims taken
 
+-- lo, hi, or a XOR of three numbers that fit
+adding-fits : (c : Claim) (l : List ℕ) → ClaimFits c → (k : ℕ) → List·Memᴰ k (adding c l) → KeyFits k
+adding-fits c l f k m = go (adding-mem c l k m)
+  where
+    go : (k ≡ c .lo) ⊎ ((k ≡ c .hi) ⊎ ((k ≡ middleKey c) × Wanted c (withEnds c l))) → KeyFits k
+    go (inl e) = subst KeyFits (sym e) (f .lo)
+    go (inr (inl e)) = subst KeyFits (sym e) (f .hi)
+    go (inr (inr (e, w))) = subst KeyFits (sym e) (xor-lt 64 (bitXor (c .sum) (c .lo)) (c .hi) (xor-lt 64 (c .sum) (c .lo) (f .sum) (f .lo)) (f .hi))
+
 each-hear : (c : Claim) (l : List ℕ) → ClaimFits c → Each KeyFits l → Each KeyFits (hear c l)
 each-hear c l f p =
-    each-mem KeyFits (hear c l) (λ k m.
-    ⊎-elim {C = KeyFits k} (mem-each KeyFits (ends c) (f .lo, (f .hi, tt)) k) (mem-each KeyFits l p k) (hear-mem c l k m))
+    each-mem KeyFits (hear c l) (λ k m. ⊎-elim {C = KeyFits k} (adding-fits c l f k) (mem-each KeyFits l p k) (hear-mem c l k m))
 
 each-tableWith : (c : Claim) (t : List Claim) → ClaimFits c → Each ClaimFits t → Each ClaimFits (tableWith c t)
 each-tableWith c t f p =
@@ -107,7 +116,7 @@ narrow-taken n c w f =
     ⊎-elim {C = Narrow (taken n c .node)}
     (λ (e : firstNo (takeQuestions n c) ≡ 0).
     subst (λ (r : Taken). Narrow (r .node)) (sym (taken-done n c e))
-    (narrow-nodeOf (hear c (nodeKeys n)) (tableWith c (pendingOf n)) (takeQuestions-yes n c e .room) (length-tableWith c (pendingOf n))
+    (narrow-nodeOf (hear c (nodeKeys n)) (tableWith c (pendingOf n)) (hear-fits c (nodeKeys n) (takeQuestions-yes n c e .room)) (length-tableWith c (pendingOf n))
     (each-hear c (nodeKeys n) f (w .keys)) (each-tableWith c (pendingOf n) f (w .pending))))
     (λ (g : firstNo (takeQuestions n c) ≡ 0 → ⊥). subst (λ (r : Taken). Narrow (r .node)) (sym (taken-refused n c g)) w)
     (eq-or-ne (firstNo (takeQuestions n c)) 0)

@@ -14,13 +14,13 @@ use Rattle.keys.proofs.Rising.{Rising}
 use Rattle.claims.specs.declared.claim.Claim.{Claim}
 use Rattle.claims.specs.Claim.{wholeClaim}
 use Rattle.claims.specs.Call.{judged}
-use Rattle.claims.proofs.QuestionLaws.{Passes, passes, passes-firstNo, judged-firstNo}
+use Rattle.claims.proofs.QuestionLaws.{Passes, passes-firstNo, judged-firstNo}
 use Rattle.claims.proofs.Span.{between-first-last}
 use Rattle.claims.proofs.ClaimLaws.{spanClaim, spanClaim-passes, wholeClaim-span}
-use Rattle.claims.proofs.ReplyLaws.{spanned-keys, hear-held, Spanned, reply-spanned}
+use Rattle.claims.proofs.ReplyLaws.{spanned-keys, Spanned}
 use Rattle.rule.specs.Table.{serve, sending}
 use Rattle.rule.proofs.TableLaws.{sent-mem}
-use Rattle.rule.proofs.NodeLaws.{Fits}
+use Rattle.rule.proofs.NodeLaws.{Fits, fits-spanned}
 use Rattle.wire.specs.Frame.{allPass}
 
 pub allPass-mem : (cs : List Claim) → ((c : Claim) → List·Memᴰ c cs → Passes c) → allPass cs ≡ true
@@ -29,7 +29,7 @@ allPass-mem (c ∷ cs) f =
     and-both (eqb (judged c) 0) (allPass cs) (eq-eqb (judged c) 0 (judged-firstNo c ∙ passes-firstNo c (f c (List·Memᴰ·head refl))))
     (allPass-mem cs (λ d m. f d (List·Memᴰ·tail m)))
 
--- the whole claim, and the claims of replies that add nothing, since the ends of a pending claim are held
+-- the whole claim, and the claims of answers by the store as it is, which has the ends of a pending claim
 pub sending-spanned : (l : List ℕ) → Rising l → (t : List Claim) → ((c : Claim) → List·Memᴰ c t → Fits c l)
     → (d : Claim) → List·Memᴰ d (sending l t) → Spanned l d
 sending-spanned l rise t f d m =
@@ -38,9 +38,7 @@ sending-spanned l rise t f d m =
     (whole l rise)
     (λ (n : List·Memᴰ d (serve l t .sent)).
     let (c, i, o) = sent-mem l t d n in
-    let g : Fits c l = f c i in
-    let pass : Passes c = passes c (sym (judged-firstNo c) ∙ g .passes) in
-    subst (λ (k : List ℕ). Spanned k d) (hear-held c l rise (g .held)) (reply-spanned c l rise pass d o))
+    fits-spanned c l rise (f c i) d o)
     (List·Memᴰ·append-cases (wholeClaim l) m)
   where
     whole : (k : List ℕ) → Rising k → List·Memᴰ d (wholeClaim k) → Spanned k d

@@ -20,6 +20,7 @@ use Rattle.claims.specs.Call.{judged}
 use Rattle.claims.specs.Question.{firstNo, question6}
 use Rattle.claims.specs.Reply.{ends, hear}
 use Rattle.claims.proofs.QuestionLaws.{Numbered, firstNo-yes, firstNo-no}
+use Rattle.claims.proofs.ReplyLaws.{hear-fits}
 use Rattle.rule.specs.declared.node.Node.{Node}
 use Rattle.rule.specs.declared.answer.Taken.{Taken}
 use Rattle.rule.specs.Node.{nodeInOrder, nodeKeys, pendingOf}
@@ -69,7 +70,7 @@ module _ {n : Node} {cs : List Claim} {i : ℕ} {r : Taken} (t : Turn n cs i r) 
       ⊎-elim {C = length (r .node .store .keys) ≡ limit}
       (λ (e : firstNo (takeQuestions n c) ≡ 0).
       rw (turn-taken ∙ taken-done n c e, store-nodeOf (hear c (nodeKeys n)) (tableWith c (pendingOf n)))
-      (length-keys-storeOf (hear c (nodeKeys n)) (takeQuestions-yes n c e .room)))
+      (length-keys-storeOf (hear c (nodeKeys n)) (hear-fits c (nodeKeys n) (takeQuestions-yes n c e .room))))
       (λ (f : firstNo (takeQuestions n c) ≡ 0 → ⊥). rw (turn-taken ∙ taken-refused n c f) (t .shaped .keys))
       (eq-or-ne (firstNo (takeQuestions n c)) 0)
 

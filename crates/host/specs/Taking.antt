@@ -11,7 +11,7 @@ use Rattle.rule.specs.declared.node.Node.{Node}
 use Rattle.rule.specs.declared.answer.Taken.{Taken}
 use Rattle.rule.specs.Call.{taken}
 
--- "In a frame, 6 is put claim by claim": each time of a store that has heard the claims before.
+-- "In a frame, 6 is put claim by claim": each time of a store that has heard the claims before, and has the middle key of three that one of them brought.
 abbrev pub questions6 : List Claim → List ℕ → List Question
 questions6 [] l = []
 questions6 (c ∷ cs) l = question6 (ends c) l ∷ questions6 cs (hear c l)

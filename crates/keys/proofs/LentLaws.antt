@@ -354,6 +354,23 @@ module _ (s : Store) where
       go true e = addOne-unfit p lo e
       go false e = addTwo-unfit p q lo hi e
 
+  -- one key more at most, and within the limit where the count was
+  addOne-count : (p : Place) (k : ℕ) → (s .count ≤ addOne p k s .store .count) × (addOne p k s .store .count ≤ s .count + 1)
+      × (s .count ≤ limit → addOne p k s .store .count ≤ limit)
+  addOne-count p k = go (room (s .count) (lacking p)) refl
+    where
+      after : Bool → ℕ
+      after t = cond t (grown (withKey p k s) (p .at) (p .at)) (unfit s) .store .count
+
+      go : (t : Bool) → room (s .count) (lacking p) ≡ t → (s .count ≤ after t) × (after t ≤ s .count + 1) × (s .count ≤ limit → after t ≤ limit)
+      go true e = (omega arith, omega (arith, lacking-le p), λ h. leb-true (s .count + lacking p) limit e)
+      go false e = (omega arith, omega arith, λ h. h)
+
+  pub addIn-count : (k : ℕ) → (s .count ≤ addIn s k .store .count) × (addIn s k .store .count ≤ s .count + 1)
+      × (s .count ≤ limit → addIn s k .store .count ≤ limit)
+  unfolding addIn
+  addIn-count k = addOne-count (placeIn (s .keys) (s .count) k) k
+
   addOne-laid : (p : Place) (k : ℕ) → p .at < s .count + lacking p → addOne p k s .fits ≡ true → Laid (addOne p k s)
   addOne-laid p k below = go (room (s .count) (lacking p)) refl
     where

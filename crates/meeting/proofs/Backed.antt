@@ -3,7 +3,7 @@
 -- the calls make are backed: of positions, of a reply, of a beat, of a round. Assumes nothing.
 use Prim.Native.Nat.{ℕ, zero, suc, _+_, _-_, _≤_, _<_}
 use mathlib.Core.List.{List, [], _∷_, _++_, List·Memᴰ, List·Memᴰ·head}
-use mathlib.Core.List.{List·Memᴰ·tail, List·Memᴰ·not-nil, List·Memᴰ·append-cases, List·Memᴰ·eq-of-singleton, Memᴰ·cast}
+use mathlib.Core.List.{List·Memᴰ·tail, List·Memᴰ·not-nil, List·Memᴰ·append-cases, List·Memᴰ·eq-of-singleton}
 use mathlib.Core.Logic.{⊎-elim}
 use mathlib.Core.Path.{_≡_, refl, sym, ap, _∙_, subst}
 use native.Mathlib.Omega.{arith}
@@ -12,15 +12,15 @@ use Rattle.keys.specs.Store.{limit}
 use Rattle.keys.proofs.Rising.{Rising, Sub, sub-trans, sub-take, sub-drop, rising-length}
 use Rattle.claims.specs.declared.claim.Claim.{Claim}
 use Rattle.claims.specs.Claim.{span, claimOf, wholeClaim}
-use Rattle.claims.specs.Reply.{adding, hear, reply, claimsOf}
-use Rattle.claims.proofs.Span.{first, last, mem-first, mem-last, length-span, span-rising}
-use Rattle.claims.proofs.QuestionLaws.{Passes, passes, judged-firstNo}
+use Rattle.claims.specs.Reply.{ends, adding, hear, reply, claimsOf}
+use Rattle.claims.proofs.Span.{length-span, span-rising}
+use Rattle.claims.proofs.QuestionLaws.{Passes}
 use Rattle.claims.proofs.ClaimLaws.{spanClaim, spanClaim-passes, claimOf-span, wholeClaim-span}
-use Rattle.claims.proofs.ReplyLaws.{spanned-keys, adding-sub, hear-rising, hear-held, Spanned, reply-spanned}
+use Rattle.claims.proofs.ReplyLaws.{spanned-keys, adding-ends, adding-span, hear-rising, Spanned, reply-spanned}
 use Rattle.rule.specs.Table.{serve, sending}
 use Rattle.rule.specs.Round.{union, End, leftEnd, rightEnd, Pair, pair, Entry, delivered, answers, Line, Run, run, half, roundOf}
 use Rattle.rule.proofs.TableLaws.{sent-mem}
-use Rattle.rule.proofs.NodeLaws.{Fits}
+use Rattle.rule.proofs.NodeLaws.{Fits, fits-spanned}
 use Rattle.rule.proofs.Pair.{Rises, rises-pair, unionOf}
 use Rattle.rule.proofs.Entry.{Sound, sound-within}
 use Rattle.rule.proofs.Half.{Fine, fine-step, opening, halfway-opening, half-run, half-fine, half-union}
@@ -44,9 +44,11 @@ backed-passes u c b = subst Passes (sym (b .claim)) (spanClaim-passes (b .keys) 
 
 pub backed-adding : (u : List ℕ) (c : Claim) (l : List ℕ) → Backed u c → Sub (adding c l) u
 backed-adding u c l b =
-    adding-sub c l u
-    (Memᴰ·cast (ap (λ (d : Claim). d .lo) (b .claim)) (b .within (first (b .keys)) (mem-first (b .keys) (b .some))))
-    (Memᴰ·cast (ap (λ (d : Claim). d .hi) (b .claim)) (b .within (last (b .keys)) (mem-last (b .keys) (b .some))))
+    subst (λ (d : Claim). Sub (adding d l) u) (sym (b .claim))
+    (sub-trans (adding (spanClaim (b .keys)) l) (b .keys) u (adding-span (b .keys) l (b .some)) (b .within))
+
+pub backed-ends : (u : List ℕ) (c : Claim) → Backed u c → Sub (ends c) u
+backed-ends u c b = sub-trans (ends c) (adding c []) u (adding-ends c []) (backed-adding u c [] b)
 
 -- ---- the claims that are made
 
@@ -82,7 +84,7 @@ pub reply-backed : (u l : List ℕ) (c : Claim) → Rising l → Passes c → le
     List·Memᴰ d (claimsOf (reply c l)) → Backed u d
 reply-backed u l c r p h s d m = spanned-backed u (hear c l) d (hear-rising c l r) h s (reply-spanned c l r p d m)
 
--- a beat's: of the whole store, or of a reply that adds nothing, since the ends of a pending claim are held
+-- a beat's: of the whole store, or of an answer by the store as it is, which has the ends of a pending claim
 pub sending-backed : (u l : List ℕ) (t : List Claim) → Rising l → length l ≤ limit → Sub l u → ((c : Claim) → List·Memᴰ c t → Fits c l) →
     (d : Claim) → List·Memᴰ d (sending l t) → Backed u d
 sending-backed u l t r h s f d m =
@@ -92,9 +94,7 @@ sending-backed u l t r h s f d m =
     (λ (n : List·Memᴰ d (serve l t .sent)).
     let (c, i, o) = sent-mem l t d n in
     let g : Fits c l = f c i in
-    let e : hear c l ≡ l = hear-held c l r (g .held) in
-    reply-backed u l c r (passes c (sym (judged-firstNo c) ∙ g .passes)) (subst (λ (x : List ℕ). length x ≤ limit) (sym e) h)
-    (subst (λ (x : List ℕ). Sub x u) (sym e) s) d o)
+    spanned-backed u l d r h s (fits-spanned c l r g d o))
     (List·Memᴰ·append-cases (wholeClaim l) m)
 
 -- ---- the claims of a round

@@ -35,7 +35,7 @@ use Rattle.meeting.specs.Event.{Event, To, enters, delivers, meets}
 use Rattle.meeting.specs.World.{World, start, outcome, after, afterAll, numbers, enteredBy, keysEntered}
 use Rattle.meeting.specs.Premise.{AllMeant}
 use Rattle.meeting.specs.Statement.{end, keysIn, enteredIn, different}
-use Rattle.meeting.proofs.Backed.{Backed, backed-passes, backed-adding}
+use Rattle.meeting.proofs.Backed.{Backed, backed-passes, backed-ends}
 use Rattle.meeting.proofs.WorldLaws.{numbered, enters-done, enters-refused, replies-done, takes-done, meets-done, meets-refused}
 use Rattle.meeting.proofs.Invariant.{Good}
 use Rattle.meeting.proofs.Theorem.{good-end}
@@ -138,7 +138,7 @@ good-room n w ks g h k c b =
     let l : List ℕ = insertAll (ends c) (keysIn w k) in
     let p : length l ≤ different ks
     = length-different l ks (insertAll-rising (ends c) (keysIn w k) (inOrder-rising (w .kiosks k .store) (g .ordered k .store)))
-    (insertAll-sub (ends c) (keysIn w k) ks (backed-adding ks c (keysIn w k) b) (g .within k)) in
+    (insertAll-sub (ends c) (keysIn w k) ks (backed-ends ks c b) (g .within k)) in
     lt-ltb (length l) (limit + 1) (omega arith)
 
 good-accepted : (n : ℕ) (w : World) (ks : List ℕ) → Good n w ks → different ks ≤ limit → (k : ℕ) (to : To) (c : Claim) → List·Memᴰ c (w .made) →

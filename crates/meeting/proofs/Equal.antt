@@ -17,7 +17,7 @@ use Rattle.claims.specs.Question.{firstNo}
 use Rattle.claims.specs.Reply.{hear, own, same, answer, reply, claimsOf}
 use Rattle.claims.proofs.Span.{mem-first, mem-last, first-le-last, between-first-last}
 use Rattle.claims.proofs.ClaimLaws.{spanClaim, claim-same, wholeClaim-span}
-use Rattle.claims.proofs.ReplyLaws.{adding-sub, hear-held, own-between}
+use Rattle.claims.proofs.ReplyLaws.{adding-span, hear-held, own-between}
 use Rattle.rule.specs.Round.{End, leftEnd, rightEnd, other, Pair, pair, keysAt, holding, Entry, entry}
 use Rattle.rule.specs.Round.{waits, delivered, answers, line, Run, noting, runAll, half, roundOf}
 use Rattle.rule.specs.Call.{roundQuestions, met}
@@ -32,7 +32,7 @@ answer-match c l h = rw h
 
 -- a store matches its own whole claim, and adds nothing
 whole-heard : (l : List ℕ) → Rising l → 0 < length l → hear (spanClaim l) l ≡ l
-whole-heard l r n = hear-held (spanClaim l) l r (adding-sub (spanClaim l) l l (mem-first l n) (mem-last l n))
+whole-heard l r n = hear-held (spanClaim l) l r (adding-span l l n)
 
 whole-match : (l : List ℕ) → Rising l → 0 < length l → reply (spanClaim l) l ≡ Match
 whole-match l r n =

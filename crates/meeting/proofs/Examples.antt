@@ -11,7 +11,7 @@ use lib.ListN.{length}
 use Rattle.keys.specs.Store.{limit, zeros, storeOf, emptyStore, inOrder, allZero}
 use Rattle.keys.specs.Place.{putAt}
 use Rattle.claims.specs.Cases.{claim}
-use Rattle.claims.specs.Reply.{answer}
+use Rattle.claims.specs.Reply.{third, answer}
 use Rattle.claims.specs.Call.{judged, entered, made, replied}
 use Rattle.rule.specs.Node.{blanks, nodeOf, emptyNode, nodeInOrder}
 use Rattle.rule.specs.Round.{leftEnd, Entry, run, runAll, half, roundOf}
@@ -20,13 +20,13 @@ use Rattle.rule.proofs.Half.{opening}
 use Rattle.meeting.specs.World.{start, outcome, afterAll, numbers}
 use Rattle.meeting.specs.Premise.{AllMeant}
 use Rattle.meeting.specs.Statement.{end, keysIn, enteredIn, different, apart, rounds, noneFalse, Demand3}
-use Rattle.meeting.specs.Examples.{crossing, passedOn, apartThree, threeTurns, threeAndNone}
+use Rattle.meeting.specs.Examples.{crossing, passedOn, apartThree, threeTurns, fourAndNone}
 use Rattle.meeting.proofs.Theorem.{every-list-meets}
 use Rattle.meeting.proofs.Meeting.{BothEnd}
 
 -- all that has to be opened to compute with the calls
 opened : Unit {0}
-unfolding zeros storeOf emptyStore inOrder putAt answer judged entered made replied blanks nodeOf emptyNode nodeInOrder
+unfolding zeros storeOf emptyStore inOrder putAt third answer judged entered made replied blanks nodeOf emptyNode nodeInOrder
     run runAll half roundOf taken beaten beatenLent met metLent outcome
 opened = tt
 
@@ -63,8 +63,8 @@ pub crossing-numbers : numbers crossing start ≡ 0 ∷ 0 ∷ 0 ∷ 0 ∷ 0 ∷ 
 unfolding opened
 crossing-numbers = refl
 
--- 9 came to kiosk 0 and 5 to kiosk 1 by the round, both to kiosk 2 by the beat and a delivery
-pub crossing-keys : map (keysIn (end crossing)) (0 ∷ 1 ∷ 2 ∷ []) ≡ (5 ∷ 7 ∷ 9 ∷ []) ∷ (5 ∷ 9 ∷ []) ∷ (5 ∷ 9 ∷ []) ∷ []
+-- 9 came to kiosk 0 and 5 to kiosk 1 by the round, both to kiosk 2 by the beat and a delivery, and with them 7, the middle key of three
+pub crossing-keys : map (keysIn (end crossing)) (0 ∷ 1 ∷ 2 ∷ []) ≡ (5 ∷ 7 ∷ 9 ∷ []) ∷ (5 ∷ 9 ∷ []) ∷ (5 ∷ 7 ∷ 9 ∷ []) ∷ []
 unfolding opened
 crossing-keys = refl
 
@@ -82,24 +82,24 @@ passedOn-meant =
     let made = inl (List·Memᴰ·head refl) in
     let asked = inl (List·Memᴰ·tail (List·Memᴰ·head refl)) in
     let helped = inl (List·Memᴰ·tail (List·Memᴰ·tail (List·Memᴰ·head refl))) in
-    (k0, (k0, (k0, (k0, (k2, ((k1, made), ((k2, k0, two-zero), ((k2, asked), (k2, ((k0, helped), tt))))))))))
+    (k0, (k0, (k0, (k0, (k0, (k2, ((k1, made), ((k2, k0, two-zero), ((k2, asked), (k2, ((k0, helped), tt)))))))))))
 
 pub passedOn-few : different (enteredIn passedOn) ≤ limit
 unfolding opened
 passedOn-few = lit≤ tt
 
 -- the round gets 9 and the beat 15
-pub passedOn-numbers : numbers passedOn start ≡ 0 ∷ 0 ∷ 0 ∷ 0 ∷ 0 ∷ 0 ∷ 9 ∷ 0 ∷ 15 ∷ 0 ∷ []
+pub passedOn-numbers : numbers passedOn start ≡ 0 ∷ 0 ∷ 0 ∷ 0 ∷ 0 ∷ 0 ∷ 0 ∷ 9 ∷ 0 ∷ 15 ∷ 0 ∷ []
 unfolding opened
 passedOn-numbers = refl
 
 -- the claims made: by making, by asking, by helping, and none by what was refused
-pub passedOn-made : end passedOn .made ≡ claim 1 16 21 3 ∷ claim 1 16 17 2 ∷ claim 8 8 8 1 ∷ []
+pub passedOn-made : end passedOn .made ≡ claim 1 16 16 4 ∷ claim 1 16 17 2 ∷ claim 8 8 8 1 ∷ []
 unfolding opened
 passedOn-made = refl
 
 -- 1 and 16 came to kiosk 2 from kiosk 0 by way of kiosk 1, and 8 back to kiosk 0
-pub passedOn-keys : map (keysIn (end passedOn)) (0 ∷ 1 ∷ 2 ∷ []) ≡ (1 ∷ 4 ∷ 8 ∷ 16 ∷ []) ∷ (1 ∷ 16 ∷ []) ∷ (1 ∷ 8 ∷ 16 ∷ []) ∷ []
+pub passedOn-keys : map (keysIn (end passedOn)) (0 ∷ 1 ∷ 2 ∷ []) ≡ (1 ∷ 4 ∷ 5 ∷ 8 ∷ 16 ∷ []) ∷ (1 ∷ 16 ∷ []) ∷ (1 ∷ 8 ∷ 16 ∷ []) ∷ []
 unfolding opened
 passedOn-keys = refl
 
@@ -142,11 +142,11 @@ apartThree-together =
 -- ---- deliveries until none waits
 
 -- the left one's whole claim is asked about, helped with and matched: after three deliveries none waits ..
-pub three-leave-none : half leftEnd threeAndNone .waiting ≡ []
+pub three-leave-none : half leftEnd fourAndNone .waiting ≡ []
 unfolding opened
 three-leave-none = refl
 
 -- .. and after two the last of them does
-pub two-leave-one : map (λ (e : Entry). e .claim) (run 2 threeAndNone (opening leftEnd threeAndNone) .waiting) ≡ claim 2 2 2 1 ∷ []
+pub two-leave-one : map (λ (e : Entry). e .claim) (run 2 fourAndNone (opening leftEnd fourAndNone) .waiting) ≡ claim 2 3 1 2 ∷ []
 unfolding opened
 two-leave-one = refl

@@ -20,7 +20,7 @@ use Rattle.claims.specs.Question.{firstNo}
 use Rattle.claims.specs.Reply.{hear, reply, claimsOf}
 use Rattle.claims.specs.Call.{enterQuestions, makeQuestions, replyQuestions}
 use Rattle.claims.proofs.QuestionLaws.{passes}
-use Rattle.claims.proofs.ReplyLaws.{hear-rising, hear-old, hear-sub}
+use Rattle.claims.proofs.ReplyLaws.{hear-rising, hear-old, hear-sub, hear-fits}
 use Rattle.rule.specs.declared.node.Node.{Node}
 use Rattle.rule.specs.declared.delivery.Delivery.{Delivery}
 use Rattle.rule.specs.Table.{serve, sending, tableWith}
@@ -237,8 +237,8 @@ module _ (n : ℕ) (w : World) (ks : List ℕ) (g : Good n w ks) where
           let r : Rising l = inOrder-rising s (y .store) in
           good-after n w ks (delivers k To.reply c) o i refl
           (good-next n w ks o g
-          (grew-one n w ks ks g (sub-refl ks) k b (grew-restored ks (w .kiosks k) (hear c l) (g .ordered k) (hear-rising c l r) (y .room) (hear-old c l) h))
-          (reply-backed ks l c r (y .passes) (y .room) h))
+          (grew-one n w ks ks g (sub-refl ks) k b (grew-restored ks (w .kiosks k) (hear c l) (g .ordered k) (hear-rising c l r) (hear-fits c l (y .room)) (hear-old c l) h))
+          (reply-backed ks l c r (y .passes) (hear-fits c l (y .room)) h))
 
   good-takes : (k : ℕ) (c : Claim) → List·Memᴰ c (w .made) ⊎ Refused (delivers k To.table c) w → GoodAfter n w ks (delivers k To.table c)
   good-takes k c d = good-settled n w ks (delivers k To.table c) (firstNo (takeQuestions a c)) g (takes-refused k c (w .kiosks)) done

@@ -15,7 +15,7 @@ use Rattle.claims.specs.Claim.{between, wholeClaim}
 use Rattle.claims.specs.Reply.{adding, hear, reply, claimsOf}
 use Rattle.claims.proofs.Span.{last}
 use Rattle.claims.proofs.QuestionLaws.{Passes}
-use Rattle.claims.proofs.ReplyLaws.{adding-mem, Answered, matched, asked, helped-one, helped-two, reply-answered}
+use Rattle.claims.proofs.ReplyLaws.{adding-range, Answered, matched, asked, helped-one, helped-two, reply-answered}
 use Rattle.rule.specs.Round.{End, Pair, keysAt, Entry, entry, waits, receiver, keysBefore, delivered, answers, Run, run, runAll}
 use Rattle.rule.proofs.Pair.{Rises, unionOf, holding-each}
 use Rattle.rule.proofs.Entry.{weight, weights, weights-append, weight-least}
@@ -105,14 +105,12 @@ separate-agree p e f q s =
     holding-each (λ (t : End) (l : List ℕ). between (f .claim .lo) (f .claim .hi) (keysAt t p) ≡ between (f .claim .lo) (f .claim .hi) l) (receiver e)
     (hear (e .claim) (keysBefore e p)) p
     (sym (between-insertAll-outside (f .claim .lo) (f .claim .hi) (adding (e .claim) (keysBefore e p)) (keysBefore e p)
-    (λ k m. outside k s (adding-mem (e .claim) (keysBefore e p) k m))))
+    (λ k m. outside k s (adding-range (e .claim) (keysBefore e p) (q .ordered) k m))))
     (λ t. refl)
   where
-    outside : (k : ℕ) → Separate e f → (k ≡ e .claim .lo) ⊎ (k ≡ e .claim .hi) → (k < f .claim .lo) ⊎ (f .claim .hi < k)
-    outside k (inl h) (inl i) = inl (omega (arith, q .ordered))
-    outside k (inl h) (inr i) = inl (omega arith)
-    outside k (inr h) (inl i) = inr (omega arith)
-    outside k (inr h) (inr i) = inr (omega (arith, q .ordered))
+    outside : (k : ℕ) → Separate e f → (e .claim .lo ≤ k) × (k ≤ e .claim .hi) → (k < f .claim .lo) ⊎ (f .claim .hi < k)
+    outside k (inl h) i = inl (omega (arith, i .1))
+    outside k (inr h) i = inr (omega (arith, i .0))
 
 -- ---- the sum
 

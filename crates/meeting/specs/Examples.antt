@@ -14,8 +14,8 @@ use Rattle.meeting.specs.Statement.{Turn, straight, turned}
 abbrev pub lentRecords : ℕ → List Delivery
 lentRecords n = replicate n stale
 
--- Three kiosks. The keys 5 and 9 cross by a round; by a beat and a delivery to the table they come to a third kiosk; the claim of 5, made first of all,
--- arrives late and twice; a claim that no store made is refused, and so is one made of positions that are not there.
+-- Three kiosks. The keys 5 and 9 cross by a round; by a beat and a delivery to the table they come to a third kiosk, and 7 between them; the claim of 5, made
+-- first of all, arrives late and twice; a claim that no store made is refused, and so is one made of positions that are not there.
 abbrev pub crossing : List Event
 crossing =
     enters 0 5
@@ -37,11 +37,12 @@ abbrev pub passedOn : List Event
 passedOn =
     enters 0 1
     ∷ enters 0 4
+    ∷ enters 0 5
     ∷ enters 0 16
-    ∷ makes 0 0 2
+    ∷ makes 0 0 3
     ∷ enters 2 8
-    ∷ delivers 1 To.reply (claim 1 16 21 3)
-    ∷ meets 2 0 (lentRecords 7)
+    ∷ delivers 1 To.reply (claim 1 16 16 4)
+    ∷ meets 2 0 (lentRecords 9)
     ∷ delivers 2 To.reply (claim 1 16 17 2)
     ∷ beats 2 (replicate 515 7)
     ∷ delivers 0 To.reply (claim 8 8 8 1)
@@ -55,6 +56,6 @@ apartThree = enters 0 0 ∷ enters 0 10 ∷ meets 0 1 (lentRecords 4) ∷ enters
 abbrev pub threeTurns : List Turn
 threeTurns = straight (lentRecords 10) ∷ turned (lentRecords 10) ∷ straight (lentRecords 12) ∷ []
 
--- two stores, in whose round one half takes as many deliveries as their union has keys: three
-abbrev pub threeAndNone : Pair
-threeAndNone = pair (1 ∷ 2 ∷ 3 ∷ []) []
+-- two stores, in whose round one half takes three deliveries; their union has four keys
+abbrev pub fourAndNone : Pair
+fourAndNone = pair (1 ∷ 2 ∷ 3 ∷ 4 ∷ []) []

@@ -70,7 +70,7 @@ pub record Demand3 (n : ℕ) (es : List Event) : Type 0 where
   pub rises : (k : ℕ) → k < n → rising (keysIn (end es) k) ≡ true
   -- .. and each node is in order, by the predicate of question 1
   pub ordered : (k : ℕ) → k < n → nodeInOrder (end es .kiosks k) ≡ true
-  -- a key is in some store exactly when it was entered
+  -- a key is in some store exactly when it was entered: "what a list of deliveries leaves is still made only of keys entered" (document 02, slip 1)
   pub exact : (x : ℕ) → InSome n x (end es) ↔ List·Memᴰ x (enteredIn es)
   -- a round at any time, in the list (some events before it, the others from it on) or after it (no others), with any records lent, returns a count
   -- of at most twice the keys in the union of its two stores, the union of question 8, ..

@@ -19,7 +19,7 @@ use Rattle.keys.proofs.Rising.{Rising}
 use Rattle.keys.proofs.StoreLaws.{inOrder-rising, storeOf-keysOf}
 use Rattle.claims.specs.declared.claim.Claim.{Claim}
 use Rattle.claims.specs.Claim.{noClaim}
-use Rattle.claims.specs.Reply.{same, ends, hear}
+use Rattle.claims.specs.Reply.{same, ends, withEnds, hear}
 use Rattle.claims.specs.Question.{firstNo, question6, claimQuestions}
 use Rattle.claims.specs.Call.{judged}
 use Rattle.claims.specs.Lent.{hearIn}
@@ -255,7 +255,7 @@ module _ (n : Node) (whole : length (n .pending) ≡ tableLimit) (o : Ordered n)
       rise : Rising (nodeKeys n)
       rise = inOrder-rising (n .store) (o .store)
 
-      take-fits : length (hear c (nodeKeys n)) ≤ limit → takeIn n c ≡ taken n c
+      take-fits : length (withEnds c (nodeKeys n)) ≤ limit → takeIn n c ≡ taken n c
       unfolding takeIn nodeOf
       take-fits f =
           let l = nodeKeys n in
@@ -267,7 +267,7 @@ module _ (n : Node) (whole : length (n .pending) ≡ tableLimit) (o : Ordered n)
           rw heard
           ((λ i. record { number = 0; node = record { store = storeOf (hear c l); pending = table-is i; count = many i } }) ∙ sym (taken-done n c yes))
 
-      take-full : limit < length (hear c (nodeKeys n)) → takeIn n c ≡ taken n c
+      take-full : limit < length (withEnds c (nodeKeys n)) → takeIn n c ≡ taken n c
       unfolding takeIn
       take-full f =
           let l = nodeKeys n in
@@ -281,7 +281,7 @@ module _ (n : Node) (whole : length (n .pending) ≡ tableLimit) (o : Ordered n)
     -- Taking a claim is `taken`, where the node is in order.
     pub takeIn-taken : takeIn n c ≡ taken n c
     takeIn-taken = ⊎-elim {C = takeIn n c ≡ taken n c}
-        (λ (pass : judged c ≡ 0). ⊎-elim {C = takeIn n c ≡ taken n c} (take-full pass) (take-fits pass) (lt-or-le limit (length (hear c (nodeKeys n)))))
+        (λ (pass : judged c ≡ 0). ⊎-elim {C = takeIn n c ≡ taken n c} (take-full pass) (take-fits pass) (lt-or-le limit (length (withEnds c (nodeKeys n)))))
         take-judged (eq-or-ne (judged c) 0)
 
     -- The node is then in order again, and the next claim may be taken.

@@ -1,4 +1,4 @@
-// Taking a claim: its ends are added to the store, and it goes into the table in its place.
+// Taking a claim: what hearing it adds is added to the store, and it goes into the table in its place.
 use crate::order::ordered;
 use crate::order::precedes;
 use claims::Claim;

@@ -21,7 +21,7 @@ use Rattle.claims.specs.Reply.{ends, hear}
 use Rattle.claims.specs.Call.{judged}
 use Rattle.claims.proofs.QuestionLaws.{firstNo-yes, firstNo-zero, firstNo-append-zero, firstNo-front, firstNo-rest, settle-done, settle-refused}
 use Rattle.claims.proofs.QuestionLaws.{claimQuestions-numbered, judged-firstNo}
-use Rattle.claims.proofs.ReplyLaws.{hear-rising, hear-old, hear-new}
+use Rattle.claims.proofs.ReplyLaws.{hear-rising, hear-old, hear-ends, hear-fits}
 use Rattle.rule.specs.declared.node.Node.{Node}
 use Rattle.rule.specs.declared.delivery.Delivery.{Delivery}
 use Rattle.rule.specs.declared.answer.Met.{Met}
@@ -161,12 +161,12 @@ metWords-refused s t lent f = settle-refused _ _ (λ x. lent) f
 pub ordered-taken : (n : Node) (c : Claim) → TakeYes n c → Ordered (nodeOf (hear c (nodeKeys n)) (tableWith c (pendingOf n)))
 ordered-taken n c y =
     let l : List ℕ = nodeKeys n in
-    ordered-nodeOf (hear c l) (tableWith c (pendingOf n)) (hear-rising c l (inOrder-rising (n .store) (y .node .store))) (y .room)
+    ordered-nodeOf (hear c l) (tableWith c (pendingOf n)) (hear-rising c l (inOrder-rising (n .store) (y .node .store))) (hear-fits c l (y .room))
     (length-tableWith c (pendingOf n)) (climbs-tableWith c (pendingOf n) (y .node .table))
     (λ d m.
     ⊎-elim
     {C = Fits d (hear c l)}
-    (λ (e : d ≡ c). subst (λ (x : Claim). Fits x (hear c l)) (sym e) (record { passes = y .judged; held = hear-new c l }))
+    (λ (e : d ≡ c). subst (λ (x : Claim). Fits x (hear c l)) (sym e) (record { passes = y .judged; held = hear-ends c l }))
     (λ (o : List·Memᴰ d (pendingOf n)). fits-sub d l (hear c l) (hear-old c l) (y .node .fit d o))
     (tableWith-mem c (pendingOf n) d m))
 

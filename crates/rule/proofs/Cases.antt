@@ -3,7 +3,7 @@ use mathlib.Core.List.{map}
 use mathlib.Core.Path.{_≡_, refl}
 use Rattle.keys.specs.Store.{zeros, storeOf, emptyStore, inOrder}
 use Rattle.keys.specs.Place.{putAt}
-use Rattle.claims.specs.Reply.{answer}
+use Rattle.claims.specs.Reply.{third, answer}
 use Rattle.claims.specs.Call.{judged}
 use Rattle.rule.specs.Node.{blanks, nodeOf, emptyNode, nodeInOrder}
 use Rattle.rule.specs.Round.{run, runAll, half, roundOf}
@@ -11,6 +11,6 @@ use Rattle.rule.specs.Call.{taken, beaten, beatenLent, met, metLent, met
 use Rattle.rule.specs.Cases.{Row, rows}
 
 pub cases-hold : map (λ (r : Row). r .gives) rows ≡ map (λ (r : Row). r .wanted) rows
-unfolding zeros storeOf emptyStore inOrder putAt answer judged blanks nodeOf emptyNode nodeInOrder
+unfolding zeros storeOf emptyStore inOrder putAt third answer judged blanks nodeOf emptyNode nodeInOrder
     run runAll half roundOf taken beaten beatenLent met metLent metWords
 cases-hold = refl

@@ -9,13 +9,13 @@ use Rattle.keys.specs.Store.{limit}
 use Rattle.keys.proofs.Rising.{Rising, Sub, sub-refl, rising-length}
 use Rattle.claims.specs.declared.claim.Claim.{Claim}
 use Rattle.claims.specs.declared.answer.Answer.{Answer}
-use Rattle.claims.specs.Claim.{between}
+use Rattle.claims.specs.Claim.{between, middleKey}
 use Rattle.claims.specs.Reply.{adding, hear, reply, claimsOf}
 use Rattle.claims.proofs.Between.{inside, between-rising, length-between-within, length-between-two, length-sub-between}
 use Rattle.claims.proofs.Span.{first, last}
 use Rattle.claims.proofs.QuestionLaws.{Passes}
-use Rattle.claims.proofs.ClaimLaws.{spanClaim, rangeClaim, spanClaim-range}
-use Rattle.claims.proofs.ReplyLaws.{adding-sub, hear-rising, hear-old, hear-lo, hear-hi, Answered, matched}
+use Rattle.claims.proofs.ClaimLaws.{spanClaim, middleKey-span, rangeClaim, spanClaim-range}
+use Rattle.claims.proofs.ReplyLaws.{adding-span, hear-rising, hear-old, hear-lo, hear-hi, Answered, matched}
 use Rattle.claims.proofs.ReplyLaws.{asked, helped-one, helped-two, reply-answered, Spanned, reply-spanned}
 use Rattle.rule.specs.Round.{End, other, Pair, keysAt, Entry, entry, waits, receiver, keysBefore, delivered, answers}
 use Rattle.rule.proofs.Pair.{Rises, Within, other-other, keysAt-receiver, keysAt-sender}
@@ -30,8 +30,17 @@ mem-lo u p e s w = sound-within u p e s w (e .claim .lo) (sound-ends p e s (e .c
 pub mem-hi : (u : List ℕ) (p : Pair) (e : Entry) → Sound p e → Within p u → List·Memᴰ (e .claim .hi) u
 mem-hi u p e s w = sound-within u p e s w (e .claim .hi) (sound-ends p e s (e .claim .hi) (List·Memᴰ·tail (List·Memᴰ·head refl)))
 
+-- all that a claim which waits adds, to whatever store, was held when it was made
+sound-adding : (p : Pair) (e : Entry) (l : List ℕ) → Sound p e → Sub (adding (e .claim) l) (e .claimed)
+sound-adding p e l s = subst (λ (c : Claim). Sub (adding c l) (e .claimed)) (sym (s .is)) (adding-span (e .claimed) l (s .some))
+
+-- .. and so was its middle key, whether it is added or not
+pub sound-middle : (p : Pair) (e : Entry) → Sound p e → e .claim .cnt ≡ 3 → List·Memᴰ (middleKey (e .claim)) (e .claimed)
+sound-middle p e s three =
+    subst (λ (c : Claim). List·Memᴰ (middleKey c) (e .claimed)) (sym (s .is)) (middleKey-span (e .claimed) (sym (sound-cnt p e s) ∙ three))
+
 pub adding-within : (u : List ℕ) (p : Pair) (e : Entry) → Sound p e → Within p u → Sub (adding (e .claim) (keysBefore e p)) u
-adding-within u p e s w = adding-sub (e .claim) (keysBefore e p) u (mem-lo u p e s w) (mem-hi u p e s w)
+adding-within u p e s w k m = sound-within u p e s w k (sound-adding p e (keysBefore e p) s k m)
 
 -- ---- the answers are sound
 

@@ -17,10 +17,12 @@ use Rattle.keys.proofs.Rising.{Rising, Sub, sub-trans, holds-mem, mem-holds}
 use Rattle.keys.proofs.StoreLaws.{keysOf-storeOf, storeOf-keysOf, inOrder-storeOf, emptyStore-storeOf}
 use Rattle.keys.proofs.PlaceLaws.{drop-replicate}
 use Rattle.claims.specs.declared.claim.Claim.{Claim}
-use Rattle.claims.specs.Reply.{ends, same}
+use Rattle.claims.specs.Reply.{ends, same, answer, claimsOf}
 use Rattle.claims.specs.Call.{judged}
 use Rattle.claims.specs.Claim.{noClaim}
+use Rattle.claims.proofs.QuestionLaws.{passes, judged-firstNo}
 use Rattle.claims.proofs.ClaimLaws.{same-claim}
+use Rattle.claims.proofs.ReplyLaws.{Spanned, answer-spanned}
 use Rattle.rule.specs.declared.node.Node.{Node}
 use Rattle.rule.specs.Table.{tableLimit, climbs}
 use Rattle.rule.specs.Node.{blanks, pendingOf, nodeKeys, nodeOf, emptyNode, holdsAll, allFit, allUnused, nodeInOrder}
@@ -43,6 +45,11 @@ pub record Fits (c : Claim) (l : List ℕ) : Type 0 where
 
 pub fits-sub : (c : Claim) (l m : List ℕ) → Sub l m → Fits c l → Fits c m
 fits-sub c l m s f = record { passes = f .passes; held = sub-trans (ends c) l m (f .held) s }
+
+-- the claims of the answer to such a claim are those of spans of l
+pub fits-spanned : (c : Claim) (l : List ℕ) → Rising l → Fits c l → (d : Claim) → List·Memᴰ d (claimsOf (answer c l)) → Spanned l d
+fits-spanned c l r f =
+    answer-spanned c l r (passes c (sym (judged-firstNo c) ∙ f .passes)) (f .held (c .lo) (List·Memᴰ·head refl)) (f .held (c .hi) (List·Memᴰ·tail (List·Memᴰ·head refl)))
 
 pub allFit-mem : (t : List Claim) (l : List ℕ) → allFit t l ≡ true → (c : Claim) → List·Memᴰ c t → Fits c l
 allFit-mem [] l h c m = absurd (List·Memᴰ·not-nil m)

@@ -1,5 +1,5 @@
--- Both stores of a round: `keysAt`, `holding` and `delivered` of Round. In order: one end's keys replaced; a delivery adds the ends of its claim at
--- the receiver and nothing else; pairs that rise, lie within keys, grow; how many keys both have. Assumes nothing.
+-- Both stores of a round: `keysAt`, `holding` and `delivered` of Round. In order: one end's keys replaced; a delivery adds what hearing its claim
+-- adds at the receiver and nothing else; pairs that rise, lie within keys, grow; how many keys both have. Assumes nothing.
 use Prim.Native.Nat.{ℕ, _+_, _≤_}
 use mathlib.Core.List.{List}
 use mathlib.Core.Path.{_≡_, refl, ap, _∙_}

@@ -14,7 +14,7 @@ use Rattle.claims.specs.declared.claim.Claim.{Claim}
 use Rattle.claims.specs.declared.answer.Answer.{Answer}
 use Rattle.claims.specs.declared.answer.Answer.the-variants.{Refused, Match, Ask, One, Two}
 use Rattle.claims.specs.Claim.{wholeClaim}
-use Rattle.claims.specs.Reply.{same, reply, claimsOf}
+use Rattle.claims.specs.Reply.{same, answer, claimsOf}
 use Rattle.claims.proofs.ClaimLaws.{claim-ext, claim-same}
 use Rattle.rule.specs.Table.{tableLimit, ranking, wordsBefore, before, climbsFrom, climbs, insertClaim, tableWith, remains, serve, sending, beatLimit}
 
@@ -128,7 +128,7 @@ climbs-tableWith c t h = climbs-take tableLimit (insertClaim c t) (climbs-insert
 
 climbsFrom-kept : (l : List ℕ) (b : Claim) (t : List Claim) → climbsFrom b t ≡ true → climbsFrom b (serve l t .kept) ≡ true
 climbsFrom-kept l b [] h = refl
-climbsFrom-kept l b (c ∷ cs) h = go (remains (reply c l)) (λ d. climbsFrom-kept l d cs)
+climbsFrom-kept l b (c ∷ cs) h = go (remains (answer c l)) (λ d. climbsFrom-kept l d cs)
   where
     p : before b c ≡ true
     p = and-left (before b c) (climbsFrom c cs) h
@@ -143,7 +143,7 @@ climbsFrom-kept l b (c ∷ cs) h = go (remains (reply c l)) (λ d. climbsFrom-ke
 
 pub climbs-kept : (l : List ℕ) (t : List Claim) → climbs t ≡ true → climbs (serve l t .kept) ≡ true
 climbs-kept l [] h = refl
-climbs-kept l (c ∷ cs) h = go (remains (reply c l)) (climbs-kept l cs (climbsFrom-climbs c cs h))
+climbs-kept l (c ∷ cs) h = go (remains (answer c l)) (climbs-kept l cs (climbsFrom-climbs c cs h))
   where
     go : (t : Bool) → climbs (serve l cs .kept) ≡ true → climbs (cond t (c ∷ serve l cs .kept) (serve l cs .kept)) ≡ true
     go true below = climbsFrom-kept l c cs h
@@ -172,22 +172,22 @@ tableWith-mem c t d m =
 
 pub kept-mem : (l : List ℕ) (t : List Claim) (d : Claim) → List·Memᴰ d (serve l t .kept) → List·Memᴰ d t
 kept-mem l [] d m = m
-kept-mem l (c ∷ cs) d m = go (remains (reply c l)) m (kept-mem l cs d)
+kept-mem l (c ∷ cs) d m = go (remains (answer c l)) m (kept-mem l cs d)
   where
     go : (t : Bool) → List·Memᴰ d (cond t (c ∷ serve l cs .kept) (serve l cs .kept)) → (List·Memᴰ d (serve l cs .kept) → List·Memᴰ d cs) → List·Memᴰ d (c ∷ cs)
     go true (List·Memᴰ·head e) below = List·Memᴰ·head e
     go true (List·Memᴰ·tail n) below = List·Memᴰ·tail (below n)
     go false n below = List·Memᴰ·tail (below n)
 
--- a claim that is sent for the table is a claim of some pending claim's reply
-pub sent-mem : (l : List ℕ) (t : List Claim) (d : Claim) → List·Memᴰ d (serve l t .sent) → (c : Claim) × List·Memᴰ c t × List·Memᴰ d (claimsOf (reply c l))
+-- a claim that is sent for the table is a claim of the answer to some pending claim
+pub sent-mem : (l : List ℕ) (t : List Claim) (d : Claim) → List·Memᴰ d (serve l t .sent) → (c : Claim) × List·Memᴰ c t × List·Memᴰ d (claimsOf (answer c l))
 sent-mem l [] d m = absurd (List·Memᴰ·not-nil m)
 sent-mem l (c ∷ cs) d m =
     ⊎-elim
-    {C = (b : Claim) × List·Memᴰ b (c ∷ cs) × List·Memᴰ d (claimsOf (reply b l))}
-    (λ (n : List·Memᴰ d (claimsOf (reply c l))). (c, List·Memᴰ·head refl, n))
+    {C = (b : Claim) × List·Memᴰ b (c ∷ cs) × List·Memᴰ d (claimsOf (answer b l))}
+    (λ (n : List·Memᴰ d (claimsOf (answer c l))). (c, List·Memᴰ·head refl, n))
     (λ (n : List·Memᴰ d (serve l cs .sent)). let (b, i, o) = sent-mem l cs d n in (b, List·Memᴰ·tail i, o))
-    (List·Memᴰ·append-cases (claimsOf (reply c l)) m)
+    (List·Memᴰ·append-cases (claimsOf (answer c l)) m)
 
 -- ---- how many claims there are
 
@@ -196,7 +196,7 @@ length-tableWith c t = rw (length-take tableLimit (insertClaim c t)) (omega arit
 
 pub length-kept : (l : List ℕ) (t : List Claim) → length (serve l t .kept) ≤ length t
 length-kept l [] = omega arith
-length-kept l (c ∷ cs) = go (remains (reply c l)) (length-kept l cs)
+length-kept l (c ∷ cs) = go (remains (answer c l)) (length-kept l cs)
   where
     go : (t : Bool) → length (serve l cs .kept) ≤ length cs → length (cond t (c ∷ serve l cs .kept) (serve l cs .kept)) ≤ length (c ∷ cs)
     go true h = omega arith
@@ -212,7 +212,7 @@ length-claimsOf (Two c d) = omega arith
 
 pub length-sent : (l : List ℕ) (t : List Claim) → length (serve l t .sent) ≤ 2 * length t
 length-sent l [] = omega arith
-length-sent l (c ∷ cs) = rw (length-append (claimsOf (reply c l)) (serve l cs .sent)) (omega (arith, length-claimsOf (reply c l), length-sent l cs))
+length-sent l (c ∷ cs) = rw (length-append (claimsOf (answer c l)) (serve l cs .sent)) (omega (arith, length-claimsOf (answer c l), length-sent l cs))
 
 length-wholeClaim : (l : List ℕ) → length (wholeClaim l) ≤ 1
 length-wholeClaim [] = omega arith

@@ -1,6 +1,6 @@
--- Worked examples over the call definitions, as one list of rows: document 01's rehearsal, record by record; a false match; a 65th claim; a beat; nodes
--- in order and not. That each row gives what is wanted is one law, `cases-hold` of proofs/Cases. Assumes nothing.
-use Prim.Native.Nat.{ℕ, zero, suc}
+-- Worked examples over the call definitions, as one list of rows: document 01's rehearsal, record by record; the middle key of three; a false match; a 65th
+-- claim; a beat; nodes in order and not. That each row gives what is wanted is one law, `cases-hold` of proofs/Cases. Assumes nothing.
+use Prim.Native.Nat.{ℕ}
 use mathlib.Core.Bool.{Bool, true, false}
 use mathlib.Core.List.{List, [], _∷_, _++_, map}
 use lib.Bits.{bitXor}
@@ -8,7 +8,7 @@ use lib.ListN.{replicate}
 use Rattle.keys.specs.declared.store.Store.{Store}
 use Rattle.keys.specs.Store.{storeOf, emptyStore}
 use Rattle.claims.specs.declared.claim.Claim.{Claim}
-use Rattle.claims.specs.Cases.{claim}
+use Rattle.claims.specs.Cases.{claim, upFrom}
 use Rattle.rule.specs.declared.node.Node.{Node}
 use Rattle.rule.specs.declared.delivery.Delivery.{Delivery}
 use Rattle.rule.specs.declared.answer.Taken.{Taken}
@@ -33,11 +33,6 @@ pub record Row : Type 0 where
 
 abbrev pub row : Compared → Compared → Row
 row a b = record { gives = a; wanted = b }
-
--- the n numbers from k on
-abbrev pub upFrom : ℕ → ℕ → List ℕ
-upFrom k zero = []
-upFrom k (suc n) = k ∷ upFrom (suc k) n
 
 -- one record: "sender (0 left, 1 right) and claim"
 abbrev pub record5 : ℕ → ℕ → ℕ → ℕ → ℕ → Delivery
@@ -78,6 +73,10 @@ fullNode = nodeOf (upFrom 0 65) fullTable
 abbrev pub busyNode : Node
 busyNode = nodeOf (1 ∷ 4 ∷ 16 ∷ []) (claim 1 16 19 3 ∷ claim 1 16 21 3 ∷ claim 1 16 20 4 ∷ [])
 
+-- a claim of three pending beside just its ends: a store that had no space for the middle key, or an image that the base wrote
+abbrev pub threeNode : Node
+threeNode = nodeOf (1 ∷ 16 ∷ []) (claim 1 16 19 3 ∷ [])
+
 abbrev pub rows : List Row
 rows =
     -- the rehearsal of document 01: both stores, the count, every record, as records and as words; the places past it keep their contents
@@ -90,9 +89,12 @@ rows =
     ∷ row (round-is (met rehearsedLeft rehearsedRight 9)) (round-is (metWith 9 (0 ∷ 1 ∷ 10 ∷ []) (0 ∷ 5 ∷ 6 ∷ 10 ∷ []) 0))
     ∷ row (records-are (metLent rehearsedLeft rehearsedRight (replicate 9 stale))) (records-are (replicate 9 stale))
     -- first come, first served: of two claims that wait, the second is delivered before what follows from the first
+    ∷ row (records-are (metLent (storeOf (1 ∷ 128 ∷ [])) (storeOf (1 ∷ 2 ∷ 4 ∷ 8 ∷ 16 ∷ 32 ∷ 64 ∷ 128 ∷ [])) (replicate 16 stale)))
+    (records-are (record5 0 1 128 129 2 ∷ record5 1 2 16 30 4 ∷ record5 1 32 64 96 2 ∷ record5 0 2 16 18 2 ∷ record5 1 4 8 12 2 ∷ record5 1 1 128 255 8
+    ∷ replicate 10 stale))
+    -- the middle key of three comes with its claim: 4 is not asked for
     ∷ row (records-are (metLent (storeOf (1 ∷ 32 ∷ [])) (storeOf (1 ∷ 2 ∷ 4 ∷ 8 ∷ 16 ∷ 32 ∷ [])) (replicate 12 stale)))
-    (records-are (record5 0 1 32 33 2 ∷ record5 1 2 8 14 3 ∷ record5 1 16 16 16 1 ∷ record5 0 2 8 10 2 ∷ record5 1 4 4 4 1 ∷ record5 1 1 32 63 6
-    ∷ replicate 6 stale))
+    (records-are (record5 0 1 32 33 2 ∷ record5 1 2 8 14 3 ∷ record5 1 16 16 16 1 ∷ record5 1 1 32 63 6 ∷ replicate 8 stale))
     -- {1, 2, 5, 16} with {1, 3, 4, 16}: both matches are false, and the stores stay unequal
     ∷ row (round-is (met alikeLeft alikeRight 12)) (round-is (metWith 0 (1 ∷ 2 ∷ 5 ∷ 16 ∷ []) (1 ∷ 3 ∷ 4 ∷ 16 ∷ []) 2))
     ∷ row (truth-is (anyFalse (roundBy alikeLeft alikeRight .lines))) (truth-is true)
@@ -105,6 +107,12 @@ rows =
     (take-is (record { number = 0; node = nodeOf (upFrom 0 65) (claim 9 9 9 1 ∷ map (λ (k : ℕ). claim 0 k k 2) (upFrom 1 63)) }))
     -- a claim that is pending already changes nothing
     ∷ row (take-is (taken fullNode (claim 0 9 9 2))) (take-is (record { number = 0; node = fullNode }))
+    -- taking a claim of three adds its middle key too, where it is pending already as well
+    ∷ row (take-is (taken emptyNode (claim 1 16 19 3))) (take-is (record { number = 0; node = nodeOf (1 ∷ 2 ∷ 16 ∷ []) (claim 1 16 19 3 ∷ []) }))
+    ∷ row (take-is (taken threeNode (claim 1 16 19 3))) (take-is (record { number = 0; node = nodeOf (1 ∷ 2 ∷ 16 ∷ []) (claim 1 16 19 3 ∷ []) }))
+    -- a beat adds no key: such a claim is asked about and stays, and its middle key is not lost
+    ∷ row (beat-is (beaten threeNode (replicate 516 7))) (beat-is (record { number = 0; node = threeNode; written = 2 }))
+    ∷ row (words-are (beatenLent threeNode (replicate 516 7))) (words-are (1 ∷ 16 ∷ 17 ∷ 2 ∷ 1 ∷ 16 ∷ 17 ∷ 2 ∷ replicate 508 7))
     -- a beat: the whole claim, then the claims of each reply; the asked claim is kept, the helped one and the matched one are gone
     ∷ row (beat-is (beaten busyNode (replicate 517 7))) (beat-is (record { number = 0; node = nodeOf (1 ∷ 4 ∷ 16 ∷ []) (claim 1 16 20 4 ∷ []); written = 3 }))
     ∷ row (words-are (beatenLent busyNode (replicate 517 7))) (words-are (1 ∷ 16 ∷ 21 ∷ 3 ∷ 4 ∷ 4 ∷ 4 ∷ 1 ∷ 1 ∷ 16 ∷ 21 ∷ 3 ∷ replicate 505 7))

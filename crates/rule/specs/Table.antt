@@ -8,7 +8,7 @@ use lib.ListN.{take}
 use Rattle.claims.specs.declared.claim.Claim.{Claim}
 use Rattle.claims.specs.declared.answer.Answer.{Answer}
 use Rattle.claims.specs.Claim.{wholeClaim}
-use Rattle.claims.specs.Reply.{same, reply, caseOf, isAsked, claimsOf}
+use Rattle.claims.specs.Reply.{same, answer, caseOf, isAsked, claimsOf}
 
 -- "up to 64 pending claims"
 abbrev pub tableLimit : ℕ
@@ -56,9 +56,10 @@ pub record Served : Type 0 where
   pub sent : List Claim
   pub kept : List Claim
 
--- one pending claim served, before those that come after it in table order
+-- One pending claim served, before those that come after it in table order: "a beat still adds no key" (document 02, slip 1), so it is answered by the keys
+-- as they are. A claim of three beside just its ends is asked about and stays: as a match it would leave, and its middle key would not be held.
 abbrev pub serving : List ℕ → Claim → Served → Served
-serving l c rest = record { sent = claimsOf (reply c l) ++ rest .sent; kept = cond (remains (reply c l)) (c ∷ rest .kept) (rest .kept) }
+serving l c rest = record { sent = claimsOf (answer c l) ++ rest .sent; kept = cond (remains (answer c l)) (c ∷ rest .kept) (rest .kept) }
 
 -- "in table order each pending claim's reply claims", by a store with the keys l
 abbrev pub serve : List ℕ → List Claim → Served

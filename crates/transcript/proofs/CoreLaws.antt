@@ -14,10 +14,10 @@ use Rattle.keys.proofs.Rising.{Rising, rising-length}
 use Rattle.keys.proofs.StoreLaws.{count-storeOf}
 use Rattle.claims.specs.declared.claim.Claim.{Claim}
 use Rattle.claims.specs.Claim.{claimOf, wholeClaim}
-use Rattle.claims.specs.Reply.{hear, reply, claimsOf}
+use Rattle.claims.specs.Reply.{withEnds, hear, reply, claimsOf}
 use Rattle.claims.specs.Lent.{makeIn, replyIn}
 use Rattle.claims.proofs.QuestionLaws.{Passes}
-use Rattle.claims.proofs.ReplyLaws.{hear-rising, hear-sub}
+use Rattle.claims.proofs.ReplyLaws.{hear-rising, hear-sub, length-ends-hear}
 use Rattle.claims.proofs.LentLaws.{replyIn-fits, makeIn-store}
 use Rattle.rule.specs.declared.delivery.Delivery.{Delivery}
 use Rattle.rule.specs.Round.{End, leftEnd, rightEnd, senderNumber, Pair, pair, Entry, waits, receiver, keysBefore, delivered, answers}
@@ -83,18 +83,18 @@ module _ (lent u : List ℕ) (p : Pair) (e : Entry) (q : List Entry) (done : Lis
   claim-is : firstWaiting s ≡ e .claim
   claim-is = ap₂ claimIn words-are (laid .head-is) ∙ claim-at done (noted e) (map noted q) lent fits-words (passes .at-most)
 
-  -- the receiver's keys after it have room
-  heard-fits : length (hear (e .claim) (keysBefore e p)) ≤ limit
-  heard-fits =
+  -- its ends fit beside the receiver's keys
+  ends-fit : length (withEnds (e .claim) (keysBefore e p)) ≤ limit
+  ends-fit =
       let a : length (hear (e .claim) (keysBefore e p)) ≤ length u =
       rising-length (hear (e .claim) (keysBefore e p)) u (hear-rising (e .claim) (keysBefore e p) (fine .rises (receiver e))) (fine .whole)
       (hear-sub (e .claim) (keysBefore e p) u (adding-within u p e sound (fine .within)) (fine .within (receiver e))) in
-      omega (arith, fine .fits)
+      omega (arith, fine .fits, length-ends-hear (e .claim) (keysBefore e p))
 
   -- what the receiver replies, whose store has these keys
   replied : (own : Store) → own ≡ storeOf (keysBefore e p)
       → replyIn own (firstWaiting s) ≡ record { store = storeOf (hear (e .claim) (keysBefore e p)); answer = reply (e .claim) (keysBefore e p) }
-  replied own k = ap₂ replyIn k claim-is ∙ replyIn-fits (keysBefore e p) (fine .rises (receiver e)) (e .claim) passes heard-fits
+  replied own k = ap₂ replyIn k claim-is ∙ replyIn-fits (keysBefore e p) (fine .rises (receiver e)) (e .claim) passes ends-fit
 
   -- the answers' records go after the last one
   answers-fit : length (done ++ map noted (e ∷ q)) + length (claimsOf (reply (e .claim) (keysBefore e p))) ≤ recordsIn lent

@@ -63,7 +63,7 @@ int64_t minutefrost_enter(const uint8_t *image, size_t image_len, uint64_t key,
 
 /*
  * Takes a frame into an image, writes the new image to the front of `out` and
- * returns its length. Asks 14, 1, 10 to 13, 6 of each claim in turn, 15.
+ * returns its length. Asks 14, 1, 10 to 13, 6 of each claim's ends in turn, 15.
  */
 int64_t minutefrost_take_frame(const uint8_t *image, size_t image_len,
                                const uint8_t *frame, size_t frame_len,

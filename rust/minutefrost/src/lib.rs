@@ -132,15 +132,16 @@ pub fn enter(image: &[u8], key: u64, out: &mut [u8]) -> Result<usize, Refusal> {
 /// Takes a frame into an image: writes the new image to the front of `out` and
 /// returns its length.
 ///
-/// The keys that the frame's claims name are added where they are missing, and
-/// the claims are kept until a beat replies to them. `out` has at least
-/// [`IMAGE_MOST`] bytes.
+/// The ends of the frame's claims are added where they are missing. A claim of
+/// three keys, where just its ends are held then, tells the one between them;
+/// that is added if there is space. The claims are kept until a beat replies to
+/// them. `out` has at least [`IMAGE_MOST`] bytes.
 ///
 /// # Errors
 ///
-/// Refused by 14 and 1 of the image, 10 to 13 of the frame, 6 of each of its
-/// claims in turn, and 15 of the buffer; the first one answered no counts. A
-/// frame is taken whole or not at all.
+/// Refused by 14 and 1 of the image, 10 to 13 of the frame, 6 of the ends of
+/// each of its claims in turn, and 15 of the buffer; the first one answered no
+/// counts. A frame is taken whole or not at all.
 ///
 /// ```
 /// # use minutefrost::{EMPTY_IMAGE, IMAGE_MOST, keys, take_frame};

@@ -354,7 +354,7 @@ fn noise_agrees() {
 #[test]
 fn kiosks_agree_call_by_call() {
     let (entered, heard, beaten, listed) = Default::default();
-    for_seeds(12, |rng| {
+    for_seeds(50, |rng| {
         // Who is given which key; most are given to more than one.
         let mut slips: Vec<(usize, u64)> = Vec::new();
         for _ in 0..40 + rng.below(400) {
@@ -388,7 +388,9 @@ fn kiosks_agree_call_by_call() {
                 assert_eq!(frames(&sent).map(<[u8]>::len).sum::<usize>(), sent.len());
             } else {
                 let at = rng.below(air.len());
-                if rng.one_in(3) {
+                // Where but one of three is heard, some seeds take a million
+                // calls for the last key.
+                if !rng.one_in(3) {
                     assert_eq!(take_both(&images[kiosk], &air[at], &mut out, &heard), 0);
                     images[kiosk] = written(&mut out);
                 }

@@ -297,10 +297,49 @@ fn kiosks_that_match_falsely_learn_nothing() {
 #[test]
 fn a_frame_adds_its_keys_and_is_kept() {
     let (mut out, _) = buffers();
-    let (first, second) = (c(1, 16, 19, 3), c(0, 0, 0, 1));
-    let length = take_frame(&EMPTY_IMAGE, &frame_of(&[first, second]), &mut out).unwrap();
-    assert_eq!(out[..length], image_of(&[0, 1, 16], &[second, first]));
-    assert!(out[length..].iter().all(|&byte| byte == 0xA5));
+    // Of three keys the ends tell the one between them; of four they don't.
+    for (first, keys) in [
+        (c(1, 16, 19, 3), &[0, 1, 2, 16][..]),
+        (c(1, 16, 19, 4), &[0, 1, 16]),
+    ] {
+        out.fill(0xA5);
+        let second = c(0, 0, 0, 1);
+        let length = take_frame(&EMPTY_IMAGE, &frame_of(&[first, second]), &mut out).unwrap();
+        assert_eq!(out[..length], image_of(keys, &[second, first]));
+        assert!(out[length..].iter().all(|&byte| byte == 0xA5));
+    }
+}
+
+/// 6 is asked of a claim's ends: the key between them comes if there is space
+/// for it, and leaves none for the next claim then.
+#[test]
+fn a_middle_key_comes_where_there_is_space() {
+    let three = c(5_001, 5_016, 5_001 ^ 5_002 ^ 5_016, 3);
+    let (next, short) = (c(7, 7, 7, 1), vec![0xA5; IMAGE_MOST - 1]);
+    for (count, claims, number) in [
+        (1_023, vec![three], 6),
+        (1_022, vec![three], 15),
+        (1_021, vec![three], 15),
+        (1_021, vec![three, next], 6),
+        (1_021, vec![next, three], 15),
+        (1_020, vec![three, next], 15),
+    ] {
+        let image = image_of_keys(&even(count));
+        assert_eq!(
+            frame_refused(&image, &frame_of(&claims), short.clone()),
+            number
+        );
+    }
+    for (count, middle) in [(1_022, &[][..]), (1_021, &[5_002])] {
+        let (mut out, _) = buffers();
+        let image = image_of_keys(&even(count));
+        let length = take_frame(&image, &frame_of(&[three]), &mut out).unwrap();
+        let mut held = even(count);
+        held.push(5_001);
+        held.extend(middle);
+        held.push(5_016);
+        assert!(keys(&out[..length]).unwrap().eq(held));
+    }
 }
 
 #[test]

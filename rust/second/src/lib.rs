@@ -1,12 +1,15 @@
-//! Document 01 in plain Rust, written from that document and the paper alone;
-//! beyond it are two host calls, [`host::enter`] and [`host::count`].
+//! Document 01 and slip 1 of document 02 in plain Rust, written from these and
+//! the paper alone; beyond them are two host calls, [`host::enter`] and
+//! [`host::count`].
 //!
 //! This is the second program of document 01 ("the rest, with random stores,
 //! run against a second program"): it shares no code, table or constant with
-//! the proved one, so that where both agree two readings of the document do.
+//! the proved one, so that where both agree two readings of the documents do.
+//! "Replies are compared with this rule from now on", the one of the middle
+//! key of three (document 02, slip 1).
 //!
 //! Every public call takes stores and nodes of any content ([`RawStore`],
-//! [`RawNode`]), puts the questions that concern it in the document's order
+//! [`RawNode`]), puts the questions that concern it in document 01's order
 //! ([`questions`]) and answers with the number of the first one answered no,
 //! 0 if there is none. A refusal gives back the given store or node and zeros
 //! for any claim or count, and leaves every lent place as it was.

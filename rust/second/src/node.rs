@@ -96,10 +96,11 @@ impl Node {
     }
 
     /// "Taking a claim adds lo and hi, then the claim unless an equal one is
-    /// pending; of 65 the last in order is dropped."
+    /// pending; of 65 the last in order is dropped." With the middle key of
+    /// three, "Taking a claim into the table does the same" as replying to it
+    /// (document 02, slip 1), whatever becomes of the claim.
     pub(crate) fn take(&mut self, claim: &Claim) {
-        self.store.enter(claim.lo);
-        self.store.enter(claim.hi);
+        self.store.learn(claim);
         let found = self
             .pending
             .binary_search_by(|pending| pending.rank().cmp(&claim.rank()));
@@ -120,7 +121,8 @@ impl Node {
         claims.extend(store.whole());
         // "Matched and helped claims leave the table; asked ones remain."
         pending.retain(|claim| {
-            // lo and hi are in the store, so the reply adds no key.
+            // By the keys as they are: "a beat still adds no key" (document
+            // 02, slip 1), so three keys beside just the ends are asked about.
             let reply = store.answer(claim);
             let (count, reply_claims) = reply.claims();
             claims.extend_from_slice(&reply_claims[..count]);

@@ -99,7 +99,8 @@ pub fn q5_sum_of_ends(claim: &Claim) -> bool {
 }
 
 /// 6: "Do the missing ones among the keys to add fit below 1,025?" A key to
-/// add twice is missing once.
+/// add twice is missing once. Of a claim these are lo and hi: "6 doesn't count
+/// the middle one" (document 02, slip 1).
 pub fn q6_missing_fit(held: &[u64], to_add: &[u64]) -> bool {
     let missing = to_add
         .iter()
@@ -261,7 +262,8 @@ pub fn of_image_length(bytes: &[u8]) -> Asked {
 }
 
 /// "images come first: 14, 1, then 10 to 13, 6, 15. … In a frame, 6 is put
-/// claim by claim".
+/// claim by claim", each time to the keys that the claims before it left,
+/// their middle keys of three with them (document 02, slip 1).
 ///
 /// [`host::take_frame`](crate::host::take_frame) puts 6 on its way; here a plain set of
 /// keys grows instead, and the tests hold the two together.
@@ -272,6 +274,12 @@ pub fn of_host_take_frame(image: &[u8], frame: &[u8], out: usize) -> Asked {
     for claim in claims_of_frame(frame) {
         keys.extend([claim.lo, claim.hi]);
         ask(6, keys.len() <= RawStore::LIMIT)?;
+        let middle = claim.sum ^ claim.lo ^ claim.hi;
+        let between = claim.lo < middle && middle < claim.hi;
+        let own = keys.range(claim.lo..=claim.hi).count();
+        if claim.cnt == 3 && own == 2 && between && keys.len() < RawStore::LIMIT {
+            keys.insert(middle);
+        }
     }
     ask(15, q15_outputs_long_enough(&[(out, IMAGE_MOST)]))
 }

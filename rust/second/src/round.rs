@@ -112,11 +112,12 @@ fn judge_and_run<M: Memory>(
 
 /// The round itself, questions 1, 8 and 9 answered yes.
 ///
-/// No store outgrows its places: both stay within the union. Nor do the
-/// records run out: within either half of a round no key is an end of two
-/// claims of help or opening, and a claim with two ends is asked about at
-/// most once, one with a single end never; so each half has at most as many
-/// deliveries as the union has keys.
+/// No store outgrows its places: both stay within the union, for the middle
+/// key of a claim of three is one that its sender held. Nor do the records
+/// run out: within either half of a round no key is an end of two claims of
+/// help or opening, and a claim with two ends is asked about at most once,
+/// one with a single end never; so each half has at most as many deliveries
+/// as the union has keys.
 pub(crate) fn run<M: Memory>(
     stores: &mut [Store; 2],
     records: &mut [Delivery],

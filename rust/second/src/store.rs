@@ -126,15 +126,37 @@ impl Store {
         Some(self.claim(0, last))
     }
 
-    /// "Add lo and hi where missing", then what `answer` says.
-    pub(crate) fn reply(&mut self, claim: &Claim) -> Reply {
+    /// Adds the keys that a claim gives away, and returns the positions of lo
+    /// and hi then.
+    ///
+    /// "Add lo and hi where missing." "When a claim has cnt 3 and own is just
+    /// lo and hi after they were added, the key sum XOR lo XOR hi is added as
+    /// well (the paper, 5.2). It is added only if it lies strictly between lo
+    /// and hi and the store has space." (document 02, slip 1)
+    pub(crate) fn learn(&mut self, claim: &Claim) -> (usize, usize) {
         let first = self.enter(claim.lo);
         // hi isn't below lo, so entering it leaves lo where it is.
         let last = self.enter(claim.hi);
+        let middle = claim.sum ^ claim.lo ^ claim.hi;
+        let just_the_ends = last - first == 1;
+        let between = claim.lo < middle && middle < claim.hi;
+        let space = self.keys.len() < RawStore::LIMIT;
+        if claim.cnt == 3 && just_the_ends && between && space {
+            self.enter(middle);
+            return (first, last + 1);
+        }
+        (first, last)
+    }
+
+    /// Learns the claim's keys, then replies: "Own is then worked out again
+    /// and the reply goes by it." (document 02, slip 1)
+    pub(crate) fn reply(&mut self, claim: &Claim) -> Reply {
+        let (first, last) = self.learn(claim);
         self.answer_span(claim, first, last)
     }
 
-    /// The reply to a claim whose ends are held already.
+    /// The reply to a claim whose ends are held already, by the keys as they
+    /// are.
     pub(crate) fn answer(&self, claim: &Claim) -> Reply {
         self.answer_span(claim, self.position(claim.lo), self.position(claim.hi))
     }
@@ -235,7 +257,8 @@ pub fn make(store: &RawStore, first: usize, last: usize) -> Made {
 pub struct Replied {
     /// The first question answered no, 0 if there is none.
     pub number: u8,
-    /// The store with lo and hi in it; refused, the given one.
+    /// The store with lo and hi in it, and with the middle key of three where
+    /// that was added; refused, the given one.
     pub store: RawStore,
     /// The reply; none if refused.
     pub reply: Option<Reply>,

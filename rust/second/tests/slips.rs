@@ -1,16 +1,24 @@
 //! The twelve lettered cases of document 01, "Slips from the desk drawer", the
-//! mistakes that come easily, and the rehearsal's worked example.
+//! mistakes that come easily, the rehearsal's worked example, and slip 1 of
+//! document 02, "The middle key of three".
 
 mod common;
 
 use common::*;
 use second::*;
 
-/// What a store of these keys has afterwards and replies.
+/// The claim of cases b and c: of keys 1, 2 and 16.
+const THREE: Claim = c(1, 16, 19, 3);
+
+/// What a store of these keys has afterwards and replies. "Taking a claim into
+/// the table does the same" to the store (document 02, slip 1).
 fn hears(keys: &[u64], claim: Claim) -> (Vec<u64>, Reply) {
     let replied = reply(RawStore::of(keys), claim);
     assert_eq!(replied.number, 0);
     assert!(questions::q1_store_in_order(&replied.store));
+    let taken = take(RawNode::of(RawStore::of(keys), &[]), claim);
+    assert_eq!(taken.number, 0);
+    assert_eq!(taken.node, RawNode::of(replied.store.clone(), &[claim]));
     (replied.store.held().to_vec(), replied.reply.unwrap())
 }
 
@@ -20,16 +28,16 @@ fn a_the_empty_store_learns_one_key() {
     assert_eq!((keys.as_slice(), reply), (&[7][..], Reply::Match));
 }
 
+/// "Case b becomes {1, 2, 16} and match." (document 02, slip 1)
 #[test]
-fn b_the_empty_store_learns_two_ends_and_asks() {
-    let (keys, reply) = hears(&[], c(1, 16, 19, 3));
-    assert_eq!(keys, [1, 16]);
-    assert_eq!(reply, Reply::Ask(c(1, 16, 17, 2)));
+fn b_the_empty_store_learns_three_keys() {
+    let (keys, reply) = hears(&[], THREE);
+    assert_eq!((keys.as_slice(), reply), (&[1, 2, 16][..], Reply::Match));
 }
 
 #[test]
 fn c_help_with_one_key_and_equal_counts() {
-    let (keys, reply) = hears(&[1, 4, 16], c(1, 16, 19, 3));
+    let (keys, reply) = hears(&[1, 4, 16], THREE);
     assert_eq!(keys, [1, 4, 16]);
     assert_eq!(reply, Reply::One(c(4, 4, 4, 1)));
 }
@@ -188,4 +196,147 @@ fn the_worked_rehearsal_as_a_round() {
         assert_eq!(*record, Delivery { sender, claim });
     }
     assert!(records[4..].iter().all(|record| *record == untouched));
+}
+
+/// These keys, and others above them up to so many.
+fn filled(keys: &[u64], count: usize) -> Vec<u64> {
+    let others = (100..).take(count - keys.len());
+    keys.iter().copied().chain(others).collect()
+}
+
+#[test]
+fn the_middle_key_comes_whichever_ends_are_missing() {
+    for ends in [&[][..], &[1], &[16], &[1, 16]] {
+        let (keys, reply) = hears(ends, THREE);
+        assert_eq!((keys.as_slice(), reply), (&[1, 2, 16][..], Reply::Match));
+    }
+    // 0 and the largest key are ends like any other, and their neighbours are
+    // strictly between.
+    for middle in [1, 77, u64::MAX - 1] {
+        let (keys, reply) = hears(&[], c(0, u64::MAX, middle ^ u64::MAX, 3));
+        assert_eq!(keys, [0, middle, u64::MAX]);
+        assert_eq!(reply, Reply::Match);
+    }
+}
+
+/// "It is added only if … the store has space."
+#[test]
+fn the_middle_key_needs_space() {
+    for ends in [&[][..], &[1], &[16], &[1, 16]] {
+        let missing = 2 - ends.len();
+        // "6 doesn't count the middle one": no place is left for it.
+        let before = filled(ends, 1_024 - missing);
+        let (keys, reply) = hears(&before, THREE);
+        assert_eq!(keys, filled(&[1, 16], 1_024));
+        assert_eq!(reply, Reply::Ask(c(1, 16, 17, 2)));
+        // One place is left for it.
+        let before = filled(ends, 1_023 - missing);
+        let (keys, reply) = hears(&before, THREE);
+        assert_eq!(keys, filled(&[1, 2, 16], 1_024));
+        assert_eq!(reply, Reply::Match);
+    }
+    // The ends themselves don't fit, and 6 says so as before.
+    let store = RawStore::of(&filled(&[], 1_023));
+    assert_eq!(reply(store.clone(), THREE).number, 6);
+    assert_eq!(take(RawNode::of(store, &[]), THREE).number, 6);
+}
+
+/// "It is added only if it lies strictly between lo and hi".
+#[test]
+fn the_middle_key_lies_strictly_between() {
+    // At lo, at hi, just below, just above, and far from both.
+    for middle in [4, 16, 3, 17, 0, u64::MAX] {
+        let claim = c(4, 16, 4 ^ middle ^ 16, 3);
+        for ends in [&[][..], &[4], &[16], &[4, 16]] {
+            let (keys, reply) = hears(ends, claim);
+            assert_eq!(keys, [4, 16]);
+            assert_eq!(reply, Reply::Ask(c(4, 16, 20, 2)));
+        }
+    }
+    // Held, but outside.
+    let (keys, reply) = hears(&[3, 17], c(4, 16, 4 ^ 17 ^ 16, 3));
+    assert_eq!(keys, [3, 4, 16, 17]);
+    assert_eq!(reply, Reply::Ask(c(4, 16, 20, 2)));
+}
+
+/// "When a claim has cnt 3 and own is just lo and hi after they were added".
+#[test]
+fn the_middle_key_comes_beside_just_the_ends() {
+    // Another key is between; the helper says which, as in case c.
+    for held in [&[4][..], &[1, 4], &[4, 16], &[1, 4, 16]] {
+        let (keys, reply) = hears(held, THREE);
+        assert_eq!(keys, [1, 4, 16]);
+        assert_eq!(reply, Reply::One(c(4, 4, 4, 1)));
+    }
+    let (keys, reply) = hears(&[1, 4, 8, 16], THREE);
+    assert_eq!(keys, [1, 4, 8, 16]);
+    assert_eq!(reply, Reply::One(c(4, 8, 12, 2)));
+    // Four keys give no key away, whatever the sum.
+    let (keys, reply) = hears(&[], c(1, 16, 19, 4));
+    assert_eq!(keys, [1, 16]);
+    assert_eq!(reply, Reply::Ask(c(1, 16, 17, 2)));
+}
+
+/// As an image can be that was written before the rule: the claim is pending,
+/// and its middle key is missing.
+fn pending_without_middle_key() -> RawNode {
+    RawNode::of(RawStore::of(&[1, 16]), &[THREE])
+}
+
+#[test]
+fn taking_a_pending_claim_again_adds_its_middle_key() {
+    let learnt = RawNode::of(RawStore::of(&[1, 2, 16]), &[THREE]);
+    let taken = take(pending_without_middle_key(), THREE);
+    assert_eq!((taken.number, taken.node), (0, learnt));
+
+    let image = image_of(&[1, 16], &[THREE]);
+    let expected = image_of(&[1, 2, 16], &[THREE]);
+    let mut out = vec![0x55; 9_860];
+    let length = host::take_frame(&image, &frame_of(&[THREE]), &mut out);
+    assert_eq!(length, expected.len() as i64);
+    assert_eq!(out[..expected.len()], expected);
+}
+
+/// "a beat still adds no key": the claim is asked about and stays.
+#[test]
+fn a_beat_adds_no_middle_key() {
+    let own = c(1, 16, 17, 2);
+    let mut run = vec![7; 516];
+    let beaten = beat(pending_without_middle_key(), &mut run);
+    assert_eq!((beaten.number, beaten.written), (0, 2));
+    assert_eq!(beaten.node, pending_without_middle_key());
+    assert_eq!(run[..8], [1, 16, 17, 2].repeat(2));
+
+    let image = image_of(&[1, 16], &[THREE]);
+    let (mut out, mut frames) = (vec![0x55; 9_860], vec![0x66; 3_486]);
+    assert_eq!(host::beat(&image, &mut out, &mut frames), 56);
+    assert_eq!(frames[..56], frame_of(&[own, own]));
+    assert_eq!(out[..image.len()], image);
+}
+
+/// In a frame 6 is put to each claim with the middle keys of those before it
+/// held: the first one's takes the last place.
+#[test]
+fn a_middle_key_takes_a_place_from_the_next_claim() {
+    let image = image_of_keys(&filled(&[], 1_021));
+    let next = c(50, 50, 50, 1);
+    let mut out = vec![0x55; 9_860];
+    let mut answer = |claims: &[Claim]| {
+        let frame = frame_of(claims);
+        let answer = host::take_frame(&image, &frame, &mut out);
+        let no = questions::of_host_take_frame(&image, &frame, out.len());
+        assert_eq!(no.err().map_or(0, i64::from), (-answer).max(0));
+        (answer, out.clone())
+    };
+    // One no refuses the whole frame, and nothing is written.
+    assert_eq!(answer(&[THREE, next]), (-6, vec![0x55; 9_860]));
+    assert_eq!(answer(&[THREE, THREE, next]), (-6, vec![0x55; 9_860]));
+    // In the other order no place is left for the middle key.
+    let expected = image_of(&filled(&[1, 16, 50], 1_024), &[next, THREE]);
+    let (length, out) = answer(&[next, THREE]);
+    assert_eq!(length, expected.len() as i64);
+    assert_eq!(out[..expected.len()], expected);
+    // Alone each of them fits.
+    assert_eq!(answer(&[THREE]).0, expected.len() as i64 - 26);
+    assert_eq!(answer(&[next]).0, expected.len() as i64 - 26 - 16);
 }

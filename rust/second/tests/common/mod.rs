@@ -154,8 +154,11 @@ impl Rng {
     }
 
     /// A claim that passes 2 to 5, or seldom doesn't: true of some of these
-    /// keys, true of other keys, or bent.
+    /// keys, true of other keys, of three keys where none is between, or bent.
     pub fn claim(&mut self, keys: &[u64], density: usize) -> Claim {
+        if self.one_in(8) {
+            return self.claim_of_three(keys, density);
+        }
         let mut claim = if keys.is_empty() || self.one_in(3) {
             let mut other = self.keys(12, density);
             if other.is_empty() {
@@ -177,6 +180,27 @@ impl Rng {
             _ => {}
         }
         claim
+    }
+
+    /// A claim of three keys with none of these between its ends, each of
+    /// which is one of them or isn't. The middle key may lie anywhere.
+    fn claim_of_three(&mut self, keys: &[u64], density: usize) -> Claim {
+        let at = self.below(keys.len() + 1);
+        let below = at.checked_sub(1).map_or(0, |at| keys[at]);
+        let above = keys.get(at).copied().unwrap_or(u64::MAX);
+        let mut end = |held| match self.below(2) {
+            0 => held,
+            _ => below + self.next() % (above - below).max(1),
+        };
+        let (one, other) = (end(below), end(above));
+        let (lo, hi) = (one.min(other), one.max(other));
+        let middle = match self.below(8) {
+            0 => lo,
+            1 => hi,
+            2 => self.key(density),
+            _ => lo + self.next() % (hi - lo).max(1),
+        };
+        c(lo, hi, lo ^ middle ^ hi, 3)
     }
 
     /// A node in order with some claims taken.

@@ -72,24 +72,44 @@ fn rounds_with_empty_stores() {
 
 #[test]
 fn one_side_learns_everything_in_deliveries_of_their_order() {
-    // Left {1, 2, 4, 8, 16, 32}, right {}: ask, two claims of help, an ask
-    // about the first of them, help with the key between.
-    let mut records = lent(12);
-    let left = RawStore::of(&[1, 2, 4, 8, 16, 32]);
+    // Left {1, 2, 4, 8, 16, 32}, right {}: ask, two claims of help, the first
+    // of which gives its middle key away.
+    learns_everything(
+        &[1, 2, 4, 8, 16, 32],
+        &[
+            (0, c(1, 32, 63, 6)),
+            (1, c(1, 32, 33, 2)),
+            (0, c(2, 8, 14, 3)),
+            (0, c(16, 16, 16, 1)),
+            (1, c(1, 32, 63, 6)),
+        ],
+    );
+    // Two keys more: ask, two claims of help, an ask about the first of them,
+    // help with the keys between.
+    learns_everything(
+        &[1, 2, 4, 8, 16, 32, 64, 128],
+        &[
+            (0, c(1, 128, 255, 8)),
+            (1, c(1, 128, 129, 2)),
+            (0, c(2, 16, 30, 4)),
+            (0, c(32, 64, 96, 2)),
+            (1, c(2, 16, 18, 2)),
+            (0, c(4, 8, 12, 2)),
+            (1, c(1, 128, 255, 8)),
+        ],
+    );
+}
+
+/// An empty right store learns the left one's keys by these deliveries.
+fn learns_everything(keys: &[u64], expected: &[(u8, Claim)]) {
+    let mut records = lent(2 * keys.len());
+    let left = RawStore::of(keys);
     let rounded = round(left.clone(), RawStore::empty(), &mut records);
-    assert_eq!((rounded.number, rounded.deliveries), (0, 7));
+    assert_eq!((rounded.number, rounded.deliveries), (0, expected.len()));
     assert_eq!((&rounded.left, &rounded.right), (&left, &left));
-    let expected = [
-        (0, c(1, 32, 63, 6)),
-        (1, c(1, 32, 33, 2)),
-        (0, c(2, 8, 14, 3)),
-        (0, c(16, 16, 16, 1)),
-        (1, c(2, 8, 10, 2)),
-        (0, c(4, 4, 4, 1)),
-        (1, c(1, 32, 63, 6)),
-    ];
-    for (record, (sender, claim)) in records.iter().zip(expected) {
+    let (written, kept) = records.split_at(expected.len());
+    for (record, &(sender, claim)) in written.iter().zip(expected) {
         assert_eq!(*record, Delivery { sender, claim });
     }
-    assert_eq!(&records[7..], &lent(5));
+    assert_eq!(kept, &lent(kept.len()));
 }

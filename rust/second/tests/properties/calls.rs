@@ -1,10 +1,11 @@
 //! Entering, claims, replies, taking and beats.
 
+use std::cell::Cell;
 use std::collections::BTreeSet;
 
 use super::common::*;
 use super::number;
-use super::sets::{reply_of_set, set, store_of};
+use super::sets::{learn_of_set, reply_of_set, set, store_of};
 use second::*;
 
 #[test]
@@ -55,6 +56,7 @@ fn claims_made_pass_2_to_5_and_match_at_home() {
 
 #[test]
 fn replies_are_those_of_sets() {
+    let middle_keys = Cell::new(0);
     for_seeds(600, |rng| {
         let density = rng.density();
         let keys = rng.keys(1_024, density);
@@ -70,7 +72,9 @@ fn replies_are_those_of_sets() {
                 continue;
             }
             let mut model = set(&keys);
-            let (asks, expected) = reply_of_set(&mut model, claim);
+            let middle = learn_of_set(&mut model, claim);
+            middle_keys.set(middle_keys.get() + usize::from(middle));
+            let (asks, expected) = reply_of_set(&model, claim);
             assert_eq!(replied.store, store_of(&model));
             assert_eq!(claims[..count], expected);
             assert_eq!(matches!(replied.reply, Some(Reply::Ask(_))), asks);
@@ -82,10 +86,19 @@ fn replies_are_those_of_sets() {
             );
         }
     });
+    seen_often("middle keys", middle_keys.get());
+}
+
+/// Fails if a property was idle: what it needs came only so many times.
+fn seen_often(what: &str, times: usize) {
+    if std::env::var("SECOND_SEED").is_err() {
+        assert!(times > 50, "only {times} {what}");
+    }
 }
 
 #[test]
 fn taking_and_beating_are_those_of_sets() {
+    let middle_keys = Cell::new(0);
     for_seeds(150, |rng| {
         let density = rng.density();
         let mut keys = set(&rng.keys(1_024, density));
@@ -100,13 +113,11 @@ fn taking_and_beating_are_those_of_sets() {
                 if !held.is_empty() {
                     expected.push(claim_of(&held));
                 }
-                let before = keys.clone();
                 table.retain(|&(cnt, lo, hi, sum)| {
-                    let (asks, claims) = reply_of_set(&mut keys, c(lo, hi, sum, cnt));
+                    let (asks, claims) = reply_of_set(&keys, c(lo, hi, sum, cnt));
                     expected.extend(claims);
                     asks
                 });
-                assert_eq!(keys, before, "a beat adds no key");
                 assert_eq!((beaten.number, beaten.written), (0, expected.len()));
                 let (written, kept) = run.split_at(4 * beaten.written);
                 for (words, claim) in written.chunks(4).zip(&expected) {
@@ -121,7 +132,8 @@ fn taking_and_beating_are_those_of_sets() {
                 let taken = take(node, claim);
                 assert_eq!(taken.number, number(questions::of_take(&before, &claim)));
                 if taken.number == 0 {
-                    keys.extend([claim.lo, claim.hi]);
+                    let middle = learn_of_set(&mut keys, claim);
+                    middle_keys.set(middle_keys.get() + usize::from(middle));
                     table.insert(claim.rank());
                     if table.len() == 65 {
                         table.pop_last();
@@ -139,4 +151,5 @@ fn taking_and_beating_are_those_of_sets() {
             assert!(questions::q1_node_in_order(&node));
         }
     });
+    seen_often("middle keys", middle_keys.get());
 }

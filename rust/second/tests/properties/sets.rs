@@ -13,9 +13,23 @@ pub fn store_of(keys: &BTreeSet<u64>) -> RawStore {
     RawStore::of(&keys.iter().copied().collect::<Vec<_>>())
 }
 
-/// The reply read off a set of keys, word by word.
-pub fn reply_of_set(keys: &mut BTreeSet<u64>, claim: Claim) -> (bool, Vec<Claim>) {
+/// The keys that a claim gives away, put into a set word by word; whether the
+/// middle one of three came with them.
+pub fn learn_of_set(keys: &mut BTreeSet<u64>, claim: Claim) -> bool {
     keys.extend([claim.lo, claim.hi]);
+    let own: Vec<u64> = keys.range(claim.lo..=claim.hi).copied().collect();
+    let middle = claim.sum ^ claim.lo ^ claim.hi;
+    claim.cnt == 3
+        && own == [claim.lo, claim.hi]
+        && claim.lo < middle
+        && middle < claim.hi
+        && keys.len() < 1_024
+        && keys.insert(middle)
+}
+
+/// The reply read off a set of keys that has lo and hi, word by word: whether
+/// it asks, and its claims.
+pub fn reply_of_set(keys: &BTreeSet<u64>, claim: Claim) -> (bool, Vec<Claim>) {
     let span: Vec<u64> = keys.range(claim.lo..=claim.hi).copied().collect();
     let own = claim_of(&span);
     if own == claim {
@@ -51,7 +65,8 @@ pub fn round_of_sets(stores: &mut [BTreeSet<u64>; 2]) -> (Vec<(u8, Claim)>, Vec<
             let (sender, claim, then) = waiting[next].clone();
             next += 1;
             let receiver = 1 - sender;
-            let (_, claims) = reply_of_set(&mut stores[receiver], claim);
+            learn_of_set(&mut stores[receiver], claim);
+            let (_, claims) = reply_of_set(&stores[receiver], claim);
             let ends = claim.lo..=claim.hi;
             if claims.is_empty() && !then.range(ends.clone()).eq(stores[receiver].range(ends)) {
                 false_matches.push(told.len());
