@@ -5,6 +5,7 @@
 use second::*;
 
 use crate::drill::{Call, Card};
+use crate::middle::{self, ADDED};
 
 const NUMBER: usize = 0;
 const COUNT: usize = 1;
@@ -37,6 +38,14 @@ impl Case {
     pub fn on(mut self, way: &'static str, goes: bool) -> Case {
         if goes {
             self.ways.push(way);
+        }
+        self
+    }
+
+    /// Remembers the ways that a case goes if it isn't refused.
+    fn on_all(mut self, ways: Vec<&'static str>) -> Case {
+        if self.number == 0 {
+            self.ways.extend(ways);
         }
         self
     }
@@ -186,6 +195,7 @@ pub fn reply_case(store: RawStore, claim: Claim, noise: Noise) -> Case {
     let mut given = Card::noise(RIGHT, 0, noise);
     given.put_claim(CLAIMS, &claim);
     given.put_store(LEFT, &store);
+    let middle = middle::learn(&mut store.held().to_vec(), &claim);
     let mut kind = None;
     case(Call::Reply, given, |card| {
         let replied = reply(store, claim);
@@ -209,6 +219,7 @@ pub fn reply_case(store: RawStore, claim: Claim, noise: Noise) -> Case {
     .on("ask", matches!(kind, Some(Reply::Ask(_))))
     .on("one", matches!(kind, Some(Reply::One(_))))
     .on("two", matches!(kind, Some(Reply::Two(..))))
+    .on_all(middle)
 }
 
 pub fn judge_case(claim: Claim, noise: Noise) -> Case {
@@ -227,6 +238,8 @@ pub fn take_case(node: RawNode, claim: Claim, noise: Noise) -> Case {
     given.put_node(&node);
     let equal = node.table().contains(&claim);
     let full = node.pending_count == PENDING;
+    let middle = middle::learn(&mut node.store.held().to_vec(), &claim);
+    let added = middle.iter().any(|way| ADDED.contains(way));
     let mut kept = false;
     let case = case(Call::Take, given, |card| {
         let taken = take(node, claim);
@@ -239,6 +252,8 @@ pub fn take_case(node: RawNode, claim: Claim, noise: Noise) -> Case {
     case.on("an equal one is pending", taken && equal)
         .on("65, another dropped", taken && full && !equal && kept)
         .on("65, itself dropped", taken && full && !kept)
+        .on("a pending one's middle key added", taken && equal && added)
+        .on_all(middle)
 }
 
 /// `lent` words are lent, and some that are not come after them.
@@ -247,6 +262,7 @@ pub fn beat_case(node: RawNode, lent: usize, noise: Noise) -> Case {
     given.words[SECOND] = lent as u64;
     given.put_node(&node);
     let pending = node.pending_count;
+    let threes = middle::ways_of_beat(&node);
     let mut rest = (0, 0);
     let case = case(Call::Beat, given, |card| {
         let end = PAST_NODE + lent;
@@ -262,6 +278,7 @@ pub fn beat_case(node: RawNode, lent: usize, noise: Noise) -> Case {
         .on("more than half of 129 written", beaten && written > 64)
         .on("some asked, some not", beaten && 0 < left && left < pending)
         .on("a full table", beaten && pending == PENDING)
+        .on_all(threes)
 }
 
 /// As a round on deliveries writes them to flat words, five to a record.
@@ -270,6 +287,8 @@ pub fn round_case(left: RawStore, right: RawStore, lent: usize, noise: Noise) ->
     given.words[SECOND] = lent as u64;
     given.put_store(LEFT, &left);
     given.put_store(RIGHT, &right);
+    let mut keys = [&left, &right].map(|store| store.held().to_vec());
+    let mut threes = Vec::new();
     let mut told = (0, 0, false);
     let case = case(Call::Round, given, |card| {
         let mut records = vec![Delivery::default(); lent / 5];
@@ -278,6 +297,11 @@ pub fn round_case(left: RawStore, right: RawStore, lent: usize, noise: Noise) ->
         for (record, delivery) in words.zip(&records[..met.deliveries]) {
             record[0] = u64::from(delivery.sender);
             record[1..].copy_from_slice(&words_of(&delivery.claim));
+        }
+        if met.number == 0 {
+            threes = middle::ways_of_round(&mut keys, &records[..met.deliveries]);
+            let left = [met.left.held(), met.right.held()];
+            assert_eq!(keys, left, "a round adds what its deliveries tell");
         }
         told = (met.deliveries, false_matches.len(), met.left == met.right);
         card.answer(met.number, met.deliveries);
@@ -292,6 +316,7 @@ pub fn round_case(left: RawStore, right: RawStore, lent: usize, noise: Noise) ->
         .on("a false match", run && false_matches > 0)
         .on("met", run && met)
         .on("not met yet", run && !met)
+        .on_all(threes)
 }
 
 /// A round over records of zeros, as many as a round can fill, and the one at

@@ -34,6 +34,11 @@ impl Seen {
         for number in self.numbers.keys() {
             assert!(numbers.contains(number), "number {number} isn't asked here");
         }
+        self.expect_ways(ways, often);
+    }
+
+    /// Fails unless each of these ways was seen often enough.
+    pub fn expect_ways(&self, ways: &[&str], often: usize) {
         for way in ways {
             let seen = self.ways.get(way).copied().unwrap_or(0);
             assert!(seen >= often, "'{way}' was seen only {seen} times");

@@ -209,6 +209,11 @@ impl Rng {
 
     /// A claim for a table: its ends are among the keys, and 2 to 5 pass.
     fn pending_claim(&mut self, keys: &[u64]) -> Claim {
+        if self.one_in(6)
+            && let Some(claim) = self.claim_of_three(keys)
+        {
+            return claim;
+        }
         let mut claim = self.true_claim(keys, Density(0));
         let width = claim.hi - claim.lo;
         if width >= 2 && !self.one_in(3) {
@@ -312,6 +317,14 @@ impl Rng {
             all.sort_unstable();
             all.dedup();
         }
+        self.dealt(all)
+    }
+
+    /// Two stores in order, of keys of three or four bits: with so few of
+    /// them, claims of three abound.
+    pub fn pair_of_few_bits(&mut self) -> (Vec<u64>, Vec<u64>) {
+        let most = self.pick(&[8, 16]);
+        let all = (0..most).filter(|_| !self.one_in(4)).collect();
         self.dealt(all)
     }
 

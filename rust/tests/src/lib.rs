@@ -1,6 +1,7 @@
 //! What the comparisons share: the proved program behind a pipe ([`drill`]),
 //! the words and bytes of its requests ([`card`]), cases drawn from a seed
-//! ([`draw`]), and runs of many cases with what was seen in them ([`cases`]).
+//! ([`draw`]), claims of three and the ways they go ([`middle`]), and runs of
+//! many cases with what was seen in them ([`cases`]).
 
 #![forbid(unsafe_code)]
 
@@ -8,3 +9,4 @@ pub mod card;
 pub mod cases;
 pub mod draw;
 pub mod drill;
+pub mod middle;

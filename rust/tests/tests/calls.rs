@@ -7,14 +7,30 @@ use tests::card::*;
 use tests::cases::{Seen, compare, for_seeds, one_seed};
 use tests::draw::{Rng, frame_of, image_of};
 use tests::drill::{Call, Card, Drill, request_bytes};
+use tests::middle::{self, OUTCOMES};
 
 /// How often a number or a way must have been seen.
 const OFTEN: usize = 100;
 
+/// How often each way that a middle key goes must have been: there are many.
+const OFTEN_EACH: usize = 30;
+
 fn run(cases: u64, numbers: &[u8], ways: &[&str], draw: impl Fn(&mut Rng) -> Case) {
+    run_each(&[], cases, numbers, ways, draw);
+}
+
+/// Runs cases that go each of some more ways, if not as often.
+fn run_each(
+    each: &[&str],
+    cases: u64,
+    numbers: &[u8],
+    ways: &[&str],
+    draw: impl Fn(&mut Rng) -> Case,
+) {
     let seen: Seen = compare(cases, draw);
     if !one_seed() {
         seen.expect(numbers, ways, OFTEN);
+        seen.expect_ways(each, OFTEN_EACH);
     }
 }
 
@@ -83,7 +99,13 @@ fn replies() {
         "two",
         "new keys to a store nearly full",
     ];
-    run(10_000, &[0, 1, 2, 3, 4, 5, 6], &ways, |rng| {
+    let mut each = OUTCOMES.concat();
+    each.push(middle::LAST_PLACE);
+    run_each(&each, 13_000, &[0, 1, 2, 3, 4, 5, 6], &ways, |rng| {
+        if rng.one_in(4) {
+            let (keys, claim) = rng.three();
+            return reply_case(RawStore::of(&keys), claim, &mut noise(rng));
+        }
         if rng.one_in(6) {
             let (keys, density) = rng.nearly_full();
             let claim = rng.claim(&[], density);
@@ -121,7 +143,12 @@ fn takes() {
         "65, another dropped",
         "65, itself dropped",
     ];
-    run(8_000, &[0, 1, 2, 3, 4, 5, 6], &ways, |rng| {
+    let mut each = OUTCOMES.concat();
+    each.extend(["a pending one's middle key added", middle::LAST_PLACE]);
+    run_each(&each, 11_000, &[0, 1, 2, 3, 4, 5, 6], &ways, |rng| {
+        if rng.one_in(4) {
+            return take_of_three(rng);
+        }
         let (node, density) = if rng.one_in(6) {
             let (keys, density) = rng.nearly_full();
             (rng.node_of(&keys), density)
@@ -160,6 +187,16 @@ fn takes() {
     });
 }
 
+/// A claim of three, which may be pending already where its ends are held.
+fn take_of_three(rng: &mut Rng) -> Case {
+    let (keys, claim) = rng.three();
+    let mut node = rng.node_of(&keys);
+    if keys.contains(&claim.lo) && keys.contains(&claim.hi) && !rng.one_in(4) {
+        node = middle::with_pending(&node, claim);
+    }
+    take_case(node, claim, &mut noise(rng))
+}
+
 #[test]
 fn beats() {
     let ways = [
@@ -167,6 +204,10 @@ fn beats() {
         "more than half of 129 written",
         "some asked, some not",
         "a full table",
+        middle::ASKED,
+        middle::ASKED_FULL,
+        middle::MATCHED,
+        middle::HELPED,
     ];
     run(6_000, &[0, 1, 15], &ways, |rng| {
         let node = rng.node();
@@ -181,8 +222,11 @@ fn beats() {
 }
 
 /// The keys of two stores for a round, alike and nearly full more often than
-/// others.
+/// others, or few keys close together.
 fn pair_for_round(rng: &mut Rng) -> (Vec<u64>, Vec<u64>) {
+    if rng.one_in(12) {
+        return rng.pair_of_few_bits();
+    }
     let (mut left, mut right) = rng.pair();
     match rng.below(16) {
         0 | 1 => {
@@ -223,7 +267,9 @@ fn rounds() {
         "exactly enough records",
         "two full stores alike",
     ];
-    run(5_000, &[0, 1, 8, 9], &ways, |rng| {
+    // What is claimed in a round is true of its sender: no other outcome.
+    let each = [middle::ADDED, middle::OTHERS].concat();
+    run_each(&each, 6_000, &[0, 1, 8, 9], &ways, |rng| {
         let (left, right) = pair_for_round(rng);
         let union = questions::union_count(&left, &right);
         let full = left.len() == 1_024 && left == right;
