@@ -3,7 +3,9 @@
 //! runs through `drill` and through the second program, and leaves the same
 //! state. On each list the clauses of demand 3 are checked in plain sets:
 //! stores rise and nodes are in order; a key is in some store exactly when it
-//! was entered; a round has at most twice as many deliveries as the union has
+//! was entered, also with claims of three among the deliveries ("what a list
+//! of deliveries leaves is still made only of keys entered", document 02, slip
+//! 1); a round has at most twice as many deliveries as the union has
 //! keys; and as many further rounds of two kiosks as there are keys that just
 //! one of them holds, none refused and no match false, leave both with the
 //! union.
@@ -15,6 +17,7 @@ use tests::card::*;
 use tests::cases::{for_seeds, one_seed};
 use tests::draw::{Density, Rng};
 use tests::drill::{Card, Drill};
+use tests::middle::{ADDED, ASKED_FULL, HELPED, LAST_PLACE, MATCHED, NO_SPACE, OTHERS};
 
 /// The kiosks, what was entered, and what is in the air.
 struct World {
@@ -35,6 +38,8 @@ struct Told {
     fooled_met: usize,
     fooled_apart: usize,
     refused: usize,
+    /// Ways of the rule that calls went.
+    ways: BTreeMap<(&'static str, &'static str), usize>,
 }
 
 /// Makes the call of a case by the drill, and demands the expected reply.
@@ -67,14 +72,19 @@ impl World {
         }
     }
 
-    /// A claim from the air, mostly a late one; half the time it stays there.
+    /// A claim from the air, mostly a late one and often one of three; half
+    /// the time it stays there.
     fn hear(&mut self, rng: &mut Rng) -> Option<Claim> {
         let recent = if rng.one_in(2) { 16 } else { 300 };
         let recent = recent.min(self.air.len());
         if recent == 0 {
             return None;
         }
-        let at = self.air.len() - 1 - rng.below(recent);
+        let mut at = self.air.len() - 1 - rng.below(recent);
+        if rng.one_in(3) {
+            let three = self.air[..at].iter().rposition(|claim| claim.cnt == 3);
+            at = three.unwrap_or(at);
+        }
         Some(if rng.one_in(2) {
             self.air[at]
         } else {
@@ -100,7 +110,11 @@ impl World {
     fn make(&mut self, rng: &mut Rng, drill: &mut Drill, told: &mut Told) {
         let at = rng.below(self.kiosks.len());
         let store = &self.kiosks[at].store;
-        let (one, other) = (rng.below(store.count + 1), rng.below(store.count + 1));
+        let (mut one, mut other) = (rng.below(store.count + 1), rng.below(store.count + 1));
+        if store.count > 2 && rng.one_in(2) {
+            one = rng.below(store.count - 2);
+            other = one + 2;
+        }
         let case = make_case(store, one.min(other), one.max(other), &mut || 0);
         let reply = ask(drill, &case);
         if reply.number() == 0 {
@@ -124,7 +138,9 @@ impl World {
         }
         if rng.one_in(2) {
             let store = self.kiosks[at].store.clone();
-            let reply = ask(drill, &reply_case(store, claim, &mut || 0));
+            let case = reply_case(store, claim, &mut || 0);
+            let reply = ask(drill, &case);
+            told.ways("reply", &case);
             self.kiosks[at].store = reply.left();
             // Match, ask, one and two.
             for place in 1..=[0, 1, 1, 2][reply.count()] {
@@ -133,7 +149,9 @@ impl World {
             self.delivered("reply", made, reply.number(), told);
         } else {
             let node = self.kiosks[at].clone();
-            let reply = ask(drill, &take_case(node, claim, &mut || 0));
+            let case = take_case(node, claim, &mut || 0);
+            let reply = ask(drill, &case);
+            told.ways("take", &case);
             self.kiosks[at] = reply.node();
             self.delivered("take", made, reply.number(), told);
         }
@@ -154,7 +172,9 @@ impl World {
         let at = rng.below(self.kiosks.len());
         let lent = if rng.one_in(12) { 515 } else { 516 };
         let keys = self.kiosks[at].store.clone();
-        let reply = ask(drill, &beat_case(self.kiosks[at].clone(), lent, &mut || 0));
+        let case = beat_case(self.kiosks[at].clone(), lent, &mut || 0);
+        let reply = ask(drill, &case);
+        told.ways("beat", &case);
         self.kiosks[at] = reply.node();
         assert_eq!(self.kiosks[at].store, keys, "a beat adds no key");
         for claim in reply.beat_claims() {
@@ -179,6 +199,7 @@ impl World {
         let [one, other] = stores;
         let case = round_case(one, other, 5 * records, &mut || 0);
         let reply = ask(drill, &case);
+        told.ways("round", &case);
         assert!(reply.count() <= 2 * union, "too many deliveries");
         self.kiosks[left].store = reply.left();
         self.kiosks[right].store = reply.right();
@@ -310,9 +331,16 @@ impl Told {
         *self.events.entry((event, number)).or_default() += 1;
     }
 
+    fn ways(&mut self, event: &'static str, case: &Case) {
+        for way in &case.ways {
+            *self.ways.entry((event, way)).or_default() += 1;
+        }
+    }
+
     fn print(&self, title: &str) {
         println!("{title}");
         println!("    events by call and number: {:?}", self.events);
+        println!("    by call and way: {:?}", self.ways);
         let pairs: usize = self.met.values().sum();
         println!("    pairs that met, no match being false: {pairs}; rounds that it took:");
         let most = self
@@ -343,6 +371,16 @@ impl Told {
         for event in events {
             let seen = self.events.get(event).copied().unwrap_or(0);
             assert!(seen >= often, "{event:?} was seen only {seen} times");
+        }
+    }
+
+    /// Fails unless each of these calls went all of these ways often enough.
+    fn expect_ways(&self, calls: &[&'static str], ways: &[&'static str], often: usize) {
+        for call in calls {
+            for way in ways {
+                let seen = self.ways.get(&(call, way)).copied().unwrap_or(0);
+                assert!(seen >= often, "{call}, {way}: only {seen} times");
+            }
         }
     }
 }
@@ -409,6 +447,10 @@ fn lists_of_events() {
             ("round", 9),
         ];
         told.expect(&events, 40);
+        // A claim made is true of its sender, and there is space here.
+        let threes = [ADDED, OTHERS].concat();
+        told.expect_ways(&["reply", "take", "round"], &threes, 10);
+        told.expect_ways(&["beat"], &[MATCHED, HELPED], 40);
     }
 }
 
@@ -423,7 +465,9 @@ fn lists_past_the_limit() {
         world.kiosks.truncate(3);
         world.density = Density::WIDE;
         for event in 0..3_600 {
-            match rng.below(16) {
+            // Once the kiosks are full, mostly what they say to each other.
+            let least = if event < 2_000 { 0 } else { 7 };
+            match least + rng.below(16 - least) {
                 0..9 => world.enter(rng, &mut drill, &mut told),
                 9..11 => world.make(rng, &mut drill, &mut told),
                 11..14 => world.deliver(rng, &mut drill, &mut told),
@@ -453,6 +497,9 @@ fn lists_past_the_limit() {
             ("round", 0),
         ];
         told.expect(&events, 20);
+        let [ends_held, ..] = NO_SPACE;
+        told.expect_ways(&["reply", "take"], &[ends_held], 1);
+        told.expect_ways(&["beat"], &[ASKED_FULL], 20);
     }
 }
 
@@ -462,7 +509,11 @@ fn pairs_meet() {
     let mut drill = Drill::start();
     let mut told = Told::default();
     for_seeds(2_500, |_, rng| {
-        let (left, right) = rng.pair();
+        let (left, right) = if rng.one_in(8) {
+            rng.pair_of_few_bits()
+        } else {
+            rng.pair()
+        };
         let mut world = World {
             kiosks: [left, right]
                 .map(|keys| RawNode::of(RawStore::of(&keys), &[]))
@@ -476,5 +527,7 @@ fn pairs_meet() {
     told.print("pairs of stores");
     if !one_seed() {
         told.expect(&[("round", 0), ("round", 8)], 40);
+        told.expect_ways(&["round"], &[ADDED, OTHERS].concat(), 40);
+        told.expect_ways(&["round"], &[LAST_PLACE], 20);
     }
 }
