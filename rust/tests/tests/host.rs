@@ -4,111 +4,21 @@
 //! node can be, and all cases run on small stacks too; the calls by hand, a
 //! radio of frames and plain noise are tests of the crate `minutefrost`.
 
+mod archive;
+
 use std::thread;
 
+use archive::{ARCHIVE, Asked, Left, SECOND, compare, number};
 use second::*;
 use tests::cases::{Seen, for_seeds, one_seed, seeds};
 use tests::draw::{Rng, frame_of, image_of};
+use tests::middle::{self, OUTCOMES};
 
 /// How often each number and each way must be seen.
 const OFTEN: usize = 60;
 
-/// Bytes past the end of each lent buffer, which no call may touch.
-const GUARD: usize = 24;
-
-/// One call: what it is given, and how much of each buffer is lent.
-enum Asked {
-    Take(Vec<u8>, Vec<u8>, usize),
-    Beat(Vec<u8>, usize, usize),
-    Enter(Vec<u8>, u64, usize),
-    Count(Vec<u8>),
-}
-
-/// What a call leaves: its answer, and both buffers with their guards.
-#[derive(PartialEq, Eq)]
-struct Left {
-    answer: i64,
-    out: Vec<u8>,
-    frames: Vec<u8>,
-}
-
-/// A buffer of noise, so that what isn't written can be told.
-fn buffer(seed: u64, lent: usize) -> Vec<u8> {
-    let mut noise = Rng(seed ^ lent as u64);
-    (0..lent + GUARD).map(|_| noise.next() as u8).collect()
-}
-
-/// The four calls of a program, their answers as the archive gives them.
-struct Program {
-    take_frame: fn(&[u8], &[u8], &mut [u8]) -> i64,
-    beat: fn(&[u8], &mut [u8], &mut [u8]) -> i64,
-    enter: fn(&[u8], u64, &mut [u8]) -> i64,
-    count: fn(&[u8]) -> i64,
-}
-
-const SECOND: Program = Program {
-    take_frame: host::take_frame,
-    beat: host::beat,
-    enter: host::enter,
-    count: host::count,
-};
-
-const ARCHIVE: Program = Program {
-    take_frame: |image, frame, out| number_or(minutefrost::take_frame(image, frame, out)),
-    beat: |image, out, frames| {
-        number_or(minutefrost::beat(image, out, frames).map(|beaten| beaten.frames))
-    },
-    enter: |image, key, out| number_or(minutefrost::enter(image, key, out)),
-    count: |image| number_or(minutefrost::keys(image).map(|keys| keys.len())),
-};
-
-fn number_or(length: Result<usize, minutefrost::Refusal>) -> i64 {
-    match length {
-        Ok(length) => length as i64,
-        Err(refusal) => -i64::from(refusal.number()),
-    }
-}
-
-impl Asked {
-    fn by(&self, seed: u64, program: &Program) -> Left {
-        let (mut out, mut frames) = (Vec::new(), Vec::new());
-        let answer = match self {
-            Asked::Take(image, frame, lent) => {
-                out = buffer(seed, *lent);
-                (program.take_frame)(image, frame, &mut out[..*lent])
-            }
-            Asked::Beat(image, lent, lent_frames) => {
-                out = buffer(seed, *lent);
-                frames = buffer(!seed, *lent_frames);
-                (program.beat)(image, &mut out[..*lent], &mut frames[..*lent_frames])
-            }
-            Asked::Enter(image, key, lent) => {
-                out = buffer(seed, *lent);
-                (program.enter)(image, *key, &mut out[..*lent])
-            }
-            Asked::Count(image) => (program.count)(image),
-        };
-        Left {
-            answer,
-            out,
-            frames,
-        }
-    }
-}
-
-/// The number of a refusal, 0 if there was none.
-fn number(answer: i64) -> u8 {
-    if answer < 0 { -answer as u8 } else { 0 }
-}
-
-fn compare(asked: &Asked, seed: u64) -> i64 {
-    let found = asked.by(seed, &ARCHIVE);
-    let wanted = asked.by(seed, &SECOND);
-    assert_eq!(found.answer, wanted.answer, "the answer");
-    assert!(found.out == wanted.out, "the image's buffer");
-    assert!(found.frames == wanted.frames, "the frames' buffer");
-    found.answer
-}
+/// How often each way that a middle key goes must be: there are many.
+const OFTEN_EACH: usize = 30;
 
 /// As long as it must be, or one too short, or longer.
 fn room(rng: &mut Rng, need: usize) -> usize {
@@ -120,8 +30,12 @@ fn room(rng: &mut Rng, need: usize) -> usize {
     }
 }
 
-/// An image, and claims for it.
-fn image(rng: &mut Rng) -> (Vec<u8>, Vec<Claim>) {
+/// The keys of an image, and claims for it.
+fn keys_and_claims(rng: &mut Rng) -> (Vec<u64>, Vec<Claim>) {
+    if rng.one_in(4) {
+        let n = 1 + rng.below(4);
+        return rng.threes(n);
+    }
     let (keys, density) = if rng.one_in(3) {
         rng.nearly_full()
     } else {
@@ -137,6 +51,12 @@ fn image(rng: &mut Rng) -> (Vec<u8>, Vec<Claim>) {
             *claim = rng.true_claim(&[], density);
         }
     }
+    (keys, claims)
+}
+
+/// An image, and claims for it.
+fn image(rng: &mut Rng) -> (Vec<u8>, Vec<Claim>) {
+    let (keys, claims) = keys_and_claims(rng);
     let mut node = rng.node_of(&keys);
     if rng.one_in(12) {
         rng.bend_node(&mut node);
@@ -198,20 +118,39 @@ fn first_without_room(image: &[u8], frame: &[u8]) -> usize {
     panic!("one has no room");
 }
 
+/// The ways of the claims of three in a frame that is taken.
+fn ways_of_frame(image: &[u8], frame: &[u8]) -> Vec<&'static str> {
+    let mut keys = read_image(image).node.store.held().to_vec();
+    let read = read_frame(frame);
+    let claims = read.claims[..read.count].iter();
+    claims
+        .flat_map(|claim| middle::learn(&mut keys, claim))
+        .collect()
+}
+
 #[test]
 fn takes_frames() {
     let ways = ["first", "second", "third", "fourth"];
     let mut seen = Seen::default();
     for_seeds(10_000, |seed, rng| {
         let asked = take_asked(rng);
-        let number = number(compare(&asked, seed));
+        let number = number(compare(&asked, seed).answer);
         seen.number(number);
-        if let (6, Asked::Take(image, frame, _)) = (number, &asked) {
-            seen.way(ways[first_without_room(image, frame)]);
+        let Asked::Take(image, frame, _) = &asked else {
+            panic!("a frame is taken");
+        };
+        match number {
+            0 => ways_of_frame(image, frame)
+                .iter()
+                .for_each(|way| seen.way(way)),
+            6 => seen.way(ways[first_without_room(image, frame)]),
+            _ => {}
         }
     });
     if !one_seed() {
         seen.expect(&[0, 1, 6, 10, 11, 12, 13, 14, 15], &ways, OFTEN);
+        seen.expect_ways(&OUTCOMES.concat(), OFTEN_EACH);
+        seen.expect_ways(&[middle::LAST_PLACE], OFTEN_EACH);
     }
 }
 
@@ -220,8 +159,12 @@ fn beats() {
     let mut seen = Seen::default();
     for_seeds(8_000, |seed, rng| {
         let asked = beat_asked(rng);
-        let answer = compare(&asked, seed);
+        let answer = compare(&asked, seed).answer;
         seen.number(number(answer));
+        if let (0.., Asked::Beat(image, ..)) = (answer, &asked) {
+            let threes = middle::ways_of_beat(&read_image(image).node);
+            threes.iter().for_each(|way| seen.way(way));
+        }
         match answer {
             0 => seen.way("no frame"),
             1.. if answer % 108 == 0 => seen.way("full frames alone"),
@@ -237,6 +180,10 @@ fn beats() {
         "full frames alone",
         "a last frame that isn't full",
         "over 1,800 bytes",
+        middle::ASKED,
+        middle::ASKED_FULL,
+        middle::MATCHED,
+        middle::HELPED,
     ];
     if !one_seed() {
         seen.expect(&[0, 1, 14, 15], &ways, OFTEN);
@@ -261,7 +208,7 @@ fn enters_keys() {
     let mut seen = Seen::default();
     for_seeds(10_000, |seed, rng| {
         let asked = enter_asked(rng);
-        let number = number(compare(&asked, seed));
+        let number = number(compare(&asked, seed).answer);
         seen.number(number);
         let Asked::Enter(image, key, lent) = &asked else {
             panic!("a key is entered");
@@ -311,7 +258,7 @@ fn enters_keys() {
 fn counts_keys() {
     let mut seen = Seen::default();
     for_seeds(8_000, |seed, rng| {
-        let answer = compare(&count_asked(rng), seed);
+        let answer = compare(&count_asked(rng), seed).answer;
         seen.number(number(answer));
         match answer {
             0 => seen.way("none"),

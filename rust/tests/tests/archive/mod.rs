@@ -1,0 +1,105 @@
+//! The host calls of the archive and of the second program, side by side.
+
+#![allow(dead_code)] // Each test file is a program that uses a part of this.
+
+use second::*;
+use tests::draw::Rng;
+
+/// Bytes past the end of each lent buffer, which no call may touch.
+const GUARD: usize = 24;
+
+/// One call: what it is given, and how much of each buffer is lent.
+pub enum Asked {
+    Take(Vec<u8>, Vec<u8>, usize),
+    Beat(Vec<u8>, usize, usize),
+    Enter(Vec<u8>, u64, usize),
+    Count(Vec<u8>),
+}
+
+/// What a call leaves: its answer, and both buffers with their guards.
+#[derive(PartialEq, Eq)]
+pub struct Left {
+    pub answer: i64,
+    pub out: Vec<u8>,
+    pub frames: Vec<u8>,
+}
+
+/// A buffer of noise, so that what isn't written can be told.
+fn buffer(seed: u64, lent: usize) -> Vec<u8> {
+    let mut noise = Rng(seed ^ lent as u64);
+    (0..lent + GUARD).map(|_| noise.next() as u8).collect()
+}
+
+/// The four calls of a program, their answers as the archive gives them.
+pub struct Program {
+    take_frame: fn(&[u8], &[u8], &mut [u8]) -> i64,
+    beat: fn(&[u8], &mut [u8], &mut [u8]) -> i64,
+    enter: fn(&[u8], u64, &mut [u8]) -> i64,
+    count: fn(&[u8]) -> i64,
+}
+
+pub const SECOND: Program = Program {
+    take_frame: host::take_frame,
+    beat: host::beat,
+    enter: host::enter,
+    count: host::count,
+};
+
+pub const ARCHIVE: Program = Program {
+    take_frame: |image, frame, out| number_or(minutefrost::take_frame(image, frame, out)),
+    beat: |image, out, frames| {
+        number_or(minutefrost::beat(image, out, frames).map(|beaten| beaten.frames))
+    },
+    enter: |image, key, out| number_or(minutefrost::enter(image, key, out)),
+    count: |image| number_or(minutefrost::keys(image).map(|keys| keys.len())),
+};
+
+fn number_or(length: Result<usize, minutefrost::Refusal>) -> i64 {
+    match length {
+        Ok(length) => length as i64,
+        Err(refusal) => -i64::from(refusal.number()),
+    }
+}
+
+impl Asked {
+    /// Makes the call by one of the programs.
+    pub fn by(&self, seed: u64, program: &Program) -> Left {
+        let (mut out, mut frames) = (Vec::new(), Vec::new());
+        let answer = match self {
+            Asked::Take(image, frame, lent) => {
+                out = buffer(seed, *lent);
+                (program.take_frame)(image, frame, &mut out[..*lent])
+            }
+            Asked::Beat(image, lent, lent_frames) => {
+                out = buffer(seed, *lent);
+                frames = buffer(!seed, *lent_frames);
+                (program.beat)(image, &mut out[..*lent], &mut frames[..*lent_frames])
+            }
+            Asked::Enter(image, key, lent) => {
+                out = buffer(seed, *lent);
+                (program.enter)(image, *key, &mut out[..*lent])
+            }
+            Asked::Count(image) => (program.count)(image),
+        };
+        Left {
+            answer,
+            out,
+            frames,
+        }
+    }
+}
+
+/// The number of a refusal, 0 if there was none.
+pub fn number(answer: i64) -> u8 {
+    if answer < 0 { -answer as u8 } else { 0 }
+}
+
+/// What the archive leaves, and the second program with it.
+pub fn compare(asked: &Asked, seed: u64) -> Left {
+    let found = asked.by(seed, &ARCHIVE);
+    let wanted = asked.by(seed, &SECOND);
+    assert_eq!(found.answer, wanted.answer, "the answer");
+    assert!(found.out == wanted.out, "the image's buffer");
+    assert!(found.frames == wanted.frames, "the frames' buffer");
+    found
+}
