@@ -297,6 +297,17 @@ fn taking_a_pending_claim_again_adds_its_middle_key() {
     assert_eq!(out[..expected.len()], expected);
 }
 
+/// "of 65 the last in order is dropped", and its keys stay: the middle one
+/// like the ends.
+#[test]
+fn taking_a_claim_that_is_dropped_adds_its_middle_key() {
+    let ones: Vec<Claim> = (100..164).map(|key| c(key, key, key, 1)).collect();
+    let node = RawNode::of(RawStore::of(&filled(&[], 64)), &ones);
+    let taken = take(node, THREE);
+    let learnt = RawStore::of(&filled(&[1, 2, 16], 67));
+    assert_eq!((taken.number, taken.node), (0, RawNode::of(learnt, &ones)));
+}
+
 /// "a beat still adds no key": the claim is asked about and stays.
 #[test]
 fn a_beat_adds_no_middle_key() {

@@ -253,6 +253,7 @@ pub fn take_case(node: RawNode, claim: Claim, noise: Noise) -> Case {
         .on("65, another dropped", taken && full && !equal && kept)
         .on("65, itself dropped", taken && full && !kept)
         .on("a pending one's middle key added", taken && equal && added)
+        .on("a dropped one's middle key added", taken && !kept && added)
         .on_all(middle)
 }
 

@@ -203,6 +203,13 @@ impl Rng {
     }
 }
 
+/// The node of these keys with a full table of claims that come before any of
+/// three, one key in each; none if there are too few.
+pub fn full_of_ones(keys: &[u64]) -> Option<RawNode> {
+    let ones = keys.first_chunk::<PENDING>()?.map(|key| claim_of(&[key]));
+    Some(RawNode::of(RawStore::of(keys), &ones))
+}
+
 /// The node with this claim in its table too, in the place of the last in
 /// order if there is no other. Its ends are held.
 pub fn with_pending(node: &RawNode, claim: Claim) -> RawNode {

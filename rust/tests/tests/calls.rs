@@ -5,7 +5,7 @@
 use second::*;
 use tests::card::*;
 use tests::cases::{Seen, compare, for_seeds, one_seed};
-use tests::draw::{Rng, frame_of, image_of};
+use tests::draw::{Density, Rng, frame_of, image_of};
 use tests::drill::{Call, Card, Drill, request_bytes};
 use tests::middle::{self, OUTCOMES};
 
@@ -144,7 +144,11 @@ fn takes() {
         "65, itself dropped",
     ];
     let mut each = OUTCOMES.concat();
-    each.extend(["a pending one's middle key added", middle::LAST_PLACE]);
+    each.extend([
+        "a pending one's middle key added",
+        "a dropped one's middle key added",
+        middle::LAST_PLACE,
+    ]);
     run_each(&each, 11_000, &[0, 1, 2, 3, 4, 5, 6], &ways, |rng| {
         if rng.one_in(4) {
             return take_of_three(rng);
@@ -155,44 +159,52 @@ fn takes() {
         } else {
             (rng.node(), rng.density())
         };
-        let table = node.table();
-        let claim = match rng.below(8) {
-            0 if !table.is_empty() => table[rng.below(table.len())],
-            1 if !table.is_empty() => {
-                // Next to a pending one, before or after it.
-                let mut claim = table[rng.below(table.len())];
-                match rng.below(4) {
-                    0 => claim.sum = claim.sum.wrapping_add(1),
-                    1 => claim.sum = claim.sum.wrapping_sub(1),
-                    2 => claim.cnt = claim.cnt.wrapping_add(1),
-                    _ => claim.hi = claim.hi.wrapping_add(1),
-                }
-                claim
-            }
-            2 => {
-                let claim = rng.claim(&[], density);
-                rng.refused(claim)
-            }
-            3 => rng.claim(&[], density),
-            4 if node.store.held().len() > 1 => {
-                // After all or nearly all that are pending.
-                let held = node.store.held();
-                let (lo, hi) = (held[0], held[held.len() - 1]);
-                let cnt = hi.saturating_sub(lo).saturating_add(1).min(1_024);
-                Claim::new(lo, hi, rng.next(), cnt as u16)
-            }
-            _ => rng.claim(node.store.held(), density),
-        };
+        let claim = claim_for_table(rng, &node, density);
         take_case(node, claim, &mut noise(rng))
     });
 }
 
-/// A claim of three, which may be pending already where its ends are held.
+/// A claim for a node: pending, beside those that are, refused, or any.
+fn claim_for_table(rng: &mut Rng, node: &RawNode, density: Density) -> Claim {
+    let table = node.table();
+    match rng.below(8) {
+        0 if !table.is_empty() => table[rng.below(table.len())],
+        1 if !table.is_empty() => {
+            // Next to a pending one, before or after it.
+            let mut claim = table[rng.below(table.len())];
+            match rng.below(4) {
+                0 => claim.sum = claim.sum.wrapping_add(1),
+                1 => claim.sum = claim.sum.wrapping_sub(1),
+                2 => claim.cnt = claim.cnt.wrapping_add(1),
+                _ => claim.hi = claim.hi.wrapping_add(1),
+            }
+            claim
+        }
+        2 => {
+            let claim = rng.claim(&[], density);
+            rng.refused(claim)
+        }
+        3 => rng.claim(&[], density),
+        4 if node.store.held().len() > 1 => {
+            // After all or nearly all that are pending.
+            let held = node.store.held();
+            let (lo, hi) = (held[0], held[held.len() - 1]);
+            let cnt = hi.saturating_sub(lo).saturating_add(1).min(1_024);
+            Claim::new(lo, hi, rng.next(), cnt as u16)
+        }
+        _ => rng.claim(node.store.held(), density),
+    }
+}
+
+/// A claim of three, which may be pending already where its ends are held, or
+/// the last in order of 65.
 fn take_of_three(rng: &mut Rng) -> Case {
     let (keys, claim) = rng.three();
     let mut node = rng.node_of(&keys);
     if keys.contains(&claim.lo) && keys.contains(&claim.hi) && !rng.one_in(4) {
         node = middle::with_pending(&node, claim);
+    } else if rng.one_in(2) {
+        node = middle::full_of_ones(&keys).unwrap_or(node);
     }
     take_case(node, claim, &mut noise(rng))
 }

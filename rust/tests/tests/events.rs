@@ -211,6 +211,21 @@ impl World {
         (reply, false_match)
     }
 
+    /// A round of any two kiosks, whose deliveries others hear too.
+    fn round_on_air(
+        &mut self,
+        records: Option<usize>,
+        rng: &mut Rng,
+        drill: &mut Drill,
+        told: &mut Told,
+    ) {
+        let (left, right) = self.two(rng);
+        let (reply, _) = self.round(left, right, records, drill, told);
+        for delivery in reply.deliveries() {
+            self.send(rng, delivery.claim);
+        }
+    }
+
     fn two(&self, rng: &mut Rng) -> (usize, usize) {
         let left = rng.below(self.kiosks.len());
         let right = rng.below(self.kiosks.len() - 1);
@@ -396,16 +411,8 @@ fn list(rng: &mut Rng, events: usize, enters: usize, drill: &mut Drill, told: &m
                 3..13 => world.deliver(rng, drill, told),
                 13..18 => world.beat(rng, drill, told),
                 _ => {
-                    let (left, right) = world.two(rng);
-                    let records = if rng.one_in(6) {
-                        Some(rng.below(40))
-                    } else {
-                        None
-                    };
-                    let (reply, _) = world.round(left, right, records, drill, told);
-                    for delivery in reply.deliveries() {
-                        world.send(rng, delivery.claim);
-                    }
+                    let few = rng.one_in(6).then(|| rng.below(40));
+                    world.round_on_air(few, rng, drill, told);
                 }
             },
         }
@@ -472,13 +479,7 @@ fn lists_past_the_limit() {
                 9..11 => world.make(rng, &mut drill, &mut told),
                 11..14 => world.deliver(rng, &mut drill, &mut told),
                 14 => world.beat(rng, &mut drill, &mut told),
-                _ => {
-                    let (left, right) = world.two(rng);
-                    let (reply, _) = world.round(left, right, None, &mut drill, &mut told);
-                    for delivery in reply.deliveries() {
-                        world.send(rng, delivery.claim);
-                    }
-                }
+                _ => world.round_on_air(None, rng, &mut drill, &mut told),
             }
             if event % 64 == 0 {
                 world.check();

@@ -79,8 +79,8 @@ fn rounds_of_all_pairs() {
     rounds_of_pairs(2 * PAIRS, common, &ways);
 }
 
-/// The six keys are the lowest of a union of all that fits: each is the end
-/// of a claim before claims are as short as three.
+/// The six keys are the lowest of a union of all that fits: they come across
+/// as ends, before claims are as short as three.
 #[test]
 fn rounds_of_all_pairs_below_others() {
     let union = RawStore::LIMIT;
