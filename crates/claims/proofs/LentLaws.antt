@@ -111,6 +111,13 @@ module _ (s : Store) (c : Claim) where
 abbrev pub standingIn : Claim → List ℕ → Grown
 standingIn c l = grown (storeOf l) (position (c .lo) l) (position (c .hi) l)
 
+-- own has two keys where the ends stand side by side
+two-places : (n : ℕ) → eqb n 1 ≡ eqb (n + 1) 2
+two-places n = ⊎-elim {C = eqb n 1 ≡ eqb (n + 1) 2}
+    (λ (e : n ≡ 1). eq-eqb n 1 e ∙ sym (eq-eqb (n + 1) 2 (omega arith)))
+    (λ (f : n ≡ 1 → ⊥). ne-eqb n 1 f ∙ sym (ne-eqb (n + 1) 2 (λ (e : n + 1 ≡ 2). f (omega arith))))
+    (eq-or-ne n 1)
+
 -- The third key, once the ends are added: it is told where it is wanted, and added where there is space.
 module _ (l : List ℕ) (rise : Rising l) (c : Claim) (ordered : c .lo ≤ c .hi) where
   abbrev both : List ℕ
@@ -118,13 +125,6 @@ module _ (l : List ℕ) (rise : Rising l) (c : Claim) (ordered : c .lo ≤ c .hi
 
   both-rise : Rising both
   both-rise = insertAll-rising (ends c) l rise
-
-  -- own has two keys where the ends stand side by side
-  two-places : (n : ℕ) → eqb n 1 ≡ eqb (n + 1) 2
-  two-places n = ⊎-elim {C = eqb n 1 ≡ eqb (n + 1) 2}
-      (λ (e : n ≡ 1). eq-eqb n 1 e ∙ sym (eq-eqb (n + 1) 2 (omega arith)))
-      (λ (f : n ≡ 1 → ⊥). ne-eqb n 1 f ∙ sym (ne-eqb (n + 1) 2 (λ (e : n + 1 ≡ 2). f (omega arith))))
-      (eq-or-ne n 1)
 
   tells-wanted : tellsThird (position (c .lo) both) (position (c .hi) both) c ≡ wantsMiddle c both
   tells-wanted = ap (λ (t : Bool). eqb (c .cnt) 3 && (t && middleInside c)) (two-places (position (c .hi) both - position (c .lo) both))
@@ -153,9 +153,9 @@ module _ (l : List ℕ) (rise : Rising l) (c : Claim) (ordered : c .lo ≤ c .hi
         rw (addIn-full both both-rise (middleKey c) (omega (arith, one-more)))
         (λ i. record { number = 0; store = storeOf both; first = position (c .lo) both; last = last i })
 
-  heard-store : length (withEnds c l) ≤ limit → heard c (standingIn c (withEnds c l)) ≡ endsHeard (standingIn c (hear c l))
+  heard-store : heard c (standingIn c (withEnds c l)) ≡ endsHeard (standingIn c (hear c l))
   unfolding third
-  heard-store h = rw tells-wanted (go (wantsMiddle c both) refl)
+  heard-store = rw tells-wanted (go (wantsMiddle c both) refl)
     where
       space : (t : Bool) → hasSpace both ≡ t → Wanted c both
           → thirdHeard (standingIn c both) (addIn (storeOf both) (middleKey c)) ≡ endsHeard (standingIn c (insertAll (cond t (middleKey c ∷ []) []) both))
@@ -175,7 +175,7 @@ module _ (l : List ℕ) (rise : Rising l) (c : Claim) (good : Passes c) where
   pub hearIn-fits : length (withEnds c l) ≤ limit → hearIn (storeOf l) c ≡ endsHeard (standingIn c (hear c l))
   hearIn-fits h =
       let g = addBothIn-fits l rise (c .lo) (c .hi) (good .ordered) h in
-      hearIn-fit (storeOf l) c passed (ap (λ (x : Grown). x .fits) g) ∙ (ap (heard c) g ∙ heard-store l rise c (good .ordered) h)
+      hearIn-fit (storeOf l) c passed (ap (λ (x : Grown). x .fits) g) ∙ (ap (heard c) g ∙ heard-store l rise c (good .ordered))
 
   pub hearIn-full : limit < length (withEnds c l) → hearIn (storeOf l) c ≡ unheard (storeOf l) 6
   hearIn-full h = hearIn-unfit (storeOf l) c passed (ap (λ (x : Grown). x .fits) (addBothIn-full l rise (c .lo) (c .hi) (good .ordered) h))

@@ -78,9 +78,9 @@ module _ (keys : List ℕ) (count : ℕ) (c : Claim) where
         heard-ends e = sym (heard-is ∙ rw (← tells, not-true told e))
 
         -- the third key, by what adding it told
-        module _ (e : not told ≡ false) (k : ℕ) (middle : k ≡ middleKey c) (t : Added) (last : List ℕ)
-            (grew : grownWith last t ≡ addIn (storeWith after (a .count)) k) where
-          third-is : grownWith last t ≡ addIn (storeWith after (a .count)) (middleKey c)
+        module _ (e : not told ≡ false) (k : ℕ) (middle : k ≡ middleKey c) (t : Added) (run : List ℕ)
+            (grew : grownWith run t ≡ addIn (storeWith after (a .count)) k) where
+          third-is : grownWith run t ≡ addIn (storeWith after (a .count)) (middleKey c)
           third-is = grew ∙ ap (addIn (storeWith after (a .count))) middle
 
           count-is : t .count ≡ addIn (storeWith after (a .count)) (middleKey c) .store .count
@@ -92,7 +92,7 @@ module _ (keys : List ℕ) (count : ℕ) (c : Claim) where
           pub third-room : a .last + (t .count - a .count) < 2 ^ 64
           third-room = omega (arith, count-is, addIn-count (storeWith after (a .count)) (middleKey c) .1, laid .inside, laid .short)
 
-          pub heard-third : hearingWith last (record { number = 0; count = t .count; first = a .first; last = a .last + (t .count - a .count) })
+          pub heard-third : hearingWith run (record { number = 0; count = t .count; first = a .first; last = a .last + (t .count - a .count) })
               ≡ hearIn (storeWith keys count) c
           heard-third = ap (thirdHeard (grownWith after a)) third-is ∙ sym (heard-is ∙ rw (← tells, not-false told e))
 
