@@ -1,6 +1,6 @@
 -- The twelve lettered cases hold, as one table (`cases-hold`; the table is `table` of specs/Cases), by computing both columns. Then the tables of the middle
--- key of three (`third-cases-hold`) and of refusals on a lent run (`lent-cases-hold`), and two facts beside these: case k for every lo < hi and sum (`judged-count`), and case a seen from its sender
--- (`seven-matches`): a claim of one key matches, and not falsely. Assumes nothing.
+-- key of three (`third-cases-hold`) and of replies on a lent run (`lent-cases-hold`), and two facts beside these: case k for every lo < hi and sum
+-- (`judged-count`), and case a seen from its sender (`seven-matches`): a claim of one key matches, and not falsely. Assumes nothing.
 use Prim.Native.Nat.{ℕ, _<_}
 use mathlib.Core.List.{[], _∷_, map}
 use mathlib.Core.Bool.{false}

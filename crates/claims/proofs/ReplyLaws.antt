@@ -1,7 +1,7 @@
 -- The reply to one claim: `hear`, `own`, `answer`, `reply` and `falseMatch` of Reply, over rising keys and without positions. In order: the middle key of
--- three; the keys after hearing; own is the claim of the keys from lo to hi; the helper has something to tell; the view of an answer (`Answered`), one constructor a case with
--- its facts in terms of spans; every claim of a reply is the claim of a span of the store; a match that is not false; an answer by the
--- keys from lo to hi alone.
+-- three; the keys after hearing; own is the claim of the keys from lo to hi; the helper has something to tell; the view of an answer (`Answered`), one
+-- constructor a case with its facts in terms of spans; every claim of a reply is the claim of a span of the store; a match that is not false; an answer
+-- by the keys from lo to hi alone.
 -- What is added is spoken of as `adding`, save in `adding-mem` and the laws before it. What follows from a middle key that is added is in ThirdLaws.
 -- Assumes nothing.
 use Prim.Native.Nat.{ℕ, _+_, _-_, _/_, _≤_, _<_}
@@ -29,9 +29,11 @@ use Rattle.claims.specs.Reply.{ends, withEnds, wantsMiddle, hasSpace, th
 use Rattle.claims.specs.Reply.{own, same, zOf, help, decide, answer, reply, numberOf, claimsOf, matches, sameKeys, falseMatch}
 use Rattle.claims.proofs.Xor.{xorAll-one, xorAll-two}
 use Rattle.claims.proofs.Between.{inside, mem-between, between-one, between-inside, length-between-inside, between-rising, between-sub}
-use Rattle.claims.proofs.Span.{first, last, mem-first, mem-last, first-between, last-between, first-span, last-span, length-span, span-join, between-span, span-inside}
+use Rattle.claims.proofs.Span.{first, last, mem-first, mem-last, first-between, last-between}
+use Rattle.claims.proofs.Span.{first-span, last-span, length-span, span-join, between-span, span-inside}
 use Rattle.claims.proofs.QuestionLaws.{Passes}
-use Rattle.claims.proofs.ClaimLaws.{spanClaim, middleKey-span, claim-ext, same-claim, claim-same, claimOf-span, claimOf-between, rangeClaim, spanClaim-range}
+use Rattle.claims.proofs.ClaimLaws.{spanClaim, claimOf-span, claimOf-between, rangeClaim, spanClaim-range, middleKey-span}
+use Rattle.claims.proofs.ClaimLaws.{claim-ext, same-claim, claim-same}
 
 -- ---- the middle key of three
 

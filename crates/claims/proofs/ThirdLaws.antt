@@ -102,7 +102,8 @@ few-same a b h e = go (order (length a) 2)
         told (λ (c : Claim). c .lo ∷ middleKey c ∷ c .hi ∷ []) (three-keys a p) (three-keys b (long ∙ p))
 
 -- A claim of at most three keys that its sender held, and any store that replies to it.
-pub few-never-false : (claimed l : List ℕ) → Rising claimed → 0 < length claimed → length claimed ≤ 3 → Rising l → falseMatch claimed (spanClaim claimed) l ≡ false
+pub few-never-false : (claimed l : List ℕ) → Rising claimed → 0 < length claimed → length claimed ≤ 3 → Rising l
+    → falseMatch claimed (spanClaim claimed) l ≡ false
 few-never-false claimed l rises some few rise = go (reply-answered c l rise (spanClaim-passes claimed rises some (omega arith))) refl
   where
     c : Claim

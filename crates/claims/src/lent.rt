@@ -17,7 +17,8 @@ ghost use mathlib.Core.Path.{_≡_};
 ghost use Prim.Native.Nat.{_≤_};
 ghost use Rattle.claims.specs.Claim.{span, xorAll, claimOf};
 ghost use Rattle.keys.specs.Lent.{storeWith};
-ghost use Rattle.claims.specs.Lent.{hearingWith, notHeard, tellsThird, hearIn, within, Positions, makeIn, Halves, helpIn, answerAt, answerIn, repliedWith, replyIn};
+ghost use Rattle.claims.specs.Lent.{hearingWith, notHeard, tellsThird, hearIn, within, Positions, makeIn};
+ghost use Rattle.claims.specs.Lent.{Halves, helpIn, answerAt, answerIn, repliedWith, replyIn};
 
 // A claim heard: the count then, and where its lo and hi stand; or the number of the first question answered no, and the count as it was.
 pub struct Heard {

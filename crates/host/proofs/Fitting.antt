@@ -116,8 +116,9 @@ narrow-taken n c w f =
     ⊎-elim {C = Narrow (taken n c .node)}
     (λ (e : firstNo (takeQuestions n c) ≡ 0).
     subst (λ (r : Taken). Narrow (r .node)) (sym (taken-done n c e))
-    (narrow-nodeOf (hear c (nodeKeys n)) (tableWith c (pendingOf n)) (hear-fits c (nodeKeys n) (takeQuestions-yes n c e .room)) (length-tableWith c (pendingOf n))
-    (each-hear c (nodeKeys n) f (w .keys)) (each-tableWith c (pendingOf n) f (w .pending))))
+    (narrow-nodeOf (hear c (nodeKeys n)) (tableWith c (pendingOf n)) (hear-fits c (nodeKeys n) (takeQuestions-yes n c e .room))
+    (length-tableWith c (pendingOf n)) (each-hear c (nodeKeys n) f (w .keys))
+    (each-tableWith c (pendingOf n) f (w .pending))))
     (λ (g : firstNo (takeQuestions n c) ≡ 0 → ⊥). subst (λ (r : Taken). Narrow (r .node)) (sym (taken-refused n c g)) w)
     (eq-or-ne (firstNo (takeQuestions n c)) 0)
 

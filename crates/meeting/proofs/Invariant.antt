@@ -237,7 +237,8 @@ module _ (n : ℕ) (w : World) (ks : List ℕ) (g : Good n w ks) where
           let r : Rising l = inOrder-rising s (y .store) in
           good-after n w ks (delivers k To.reply c) o i refl
           (good-next n w ks o g
-          (grew-one n w ks ks g (sub-refl ks) k b (grew-restored ks (w .kiosks k) (hear c l) (g .ordered k) (hear-rising c l r) (hear-fits c l (y .room)) (hear-old c l) h))
+          (grew-one n w ks ks g (sub-refl ks) k b (grew-restored ks (w .kiosks k) (hear c l) (g .ordered k) (hear-rising c l r)
+          (hear-fits c l (y .room)) (hear-old c l) h))
           (reply-backed ks l c r (y .passes) (hear-fits c l (y .room)) h))
 
   good-takes : (k : ℕ) (c : Claim) → List·Memᴰ c (w .made) ⊎ Refused (delivers k To.table c) w → GoodAfter n w ks (delivers k To.table c)

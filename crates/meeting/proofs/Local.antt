@@ -152,7 +152,8 @@ abbrev pub RoomFor : Pair → Entry → Type 0
 RoomFor p e = Roomy (e .claim) (keysBefore e p)
 
 -- an entry delivered to two pairs that agree on its range
-module _ (p p′ : Pair) (e : Entry) (r : Rises p) (r′ : Rises p′) (q : Passes (e .claim)) (room : RoomFor p e) (room′ : RoomFor p′ e) (agree : AgreeOn p p′ e) where
+module _ (p p′ : Pair) (e : Entry) (r : Rises p) (r′ : Rises p′) (q : Passes (e .claim)) (room : RoomFor p e) (room′ : RoomFor p′ e)
+    (agree : AgreeOn p p′ e) where
   adds-alike : adding (e .claim) (keysBefore e p) ≡ adding (e .claim) (keysBefore e p′)
   adds-alike = adding-local (e .claim) (keysBefore e p) (keysBefore e p′) (r (receiver e)) (r′ (receiver e)) (q .ordered) room room′ (agree (receiver e))
 
@@ -201,7 +202,8 @@ fine-roomy u p e q f wants =
     let rise : Rising k = insertAll-rising (ends c) (keysBefore e p) (f .rises (receiver e)) in
     let inside-u : Sub (insert (middleKey c) k) u
     = insert-sub (middleKey c) k u (sound-within u p e s (f .within) (middleKey c) (sound-middle p e s (w .three)))
-    (insertAll-sub (ends c) (keysBefore e p) u (sub-trans (ends c) (e .claimed) u (sound-ends p e s) (sound-within u p e s (f .within))) (f .within (receiver e))) in
+    (insertAll-sub (ends c) (keysBefore e p) u (sub-trans (ends c) (e .claimed) u (sound-ends p e s) (sound-within u p e s (f .within)))
+    (f .within (receiver e))) in
     let n : length (insert (middleKey c) k) ≤ length u = rising-length (insert (middleKey c) k) u (insert-rising (middleKey c) k rise) (f .whole) inside-u in
     let m : length (insert (middleKey c) k) ≡ suc (length k)
     = length-insert-missing (middleKey c) k (wanted-missing c (keysBefore e p) (f .rises (receiver e)) (fine-passes u p e q f .ordered) w) in

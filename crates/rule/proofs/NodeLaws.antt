@@ -49,7 +49,8 @@ fits-sub c l m s f = record { passes = f .passes; held = sub-trans (ends c) l m 
 -- the claims of the answer to such a claim are those of spans of l
 pub fits-spanned : (c : Claim) (l : List ℕ) → Rising l → Fits c l → (d : Claim) → List·Memᴰ d (claimsOf (answer c l)) → Spanned l d
 fits-spanned c l r f =
-    answer-spanned c l r (passes c (sym (judged-firstNo c) ∙ f .passes)) (f .held (c .lo) (List·Memᴰ·head refl)) (f .held (c .hi) (List·Memᴰ·tail (List·Memᴰ·head refl)))
+    answer-spanned c l r (passes c (sym (judged-firstNo c) ∙ f .passes))
+    (f .held (c .lo) (List·Memᴰ·head refl)) (f .held (c .hi) (List·Memᴰ·tail (List·Memᴰ·head refl)))
 
 pub allFit-mem : (t : List Claim) (l : List ℕ) → allFit t l ≡ true → (c : Claim) → List·Memᴰ c t → Fits c l
 allFit-mem [] l h c m = absurd (List·Memᴰ·not-nil m)
