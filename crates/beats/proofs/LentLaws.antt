@@ -20,7 +20,7 @@ use Rattle.claims.specs.Question.{firstNo, settle}
 use Rattle.claims.specs.Reply.{answer, claimsOf}
 use Rattle.claims.specs.Lent.{makeIn, answerIn}
 use Rattle.claims.specs.Words.{claimWidth, putClaim}
-use Rattle.claims.proofs.QuestionLaws.{passes, judged-firstNo, settle-kept}
+use Rattle.claims.proofs.QuestionLaws.{settle-kept}
 use Rattle.claims.proofs.LentLaws.{makeIn-store, answerIn-store}
 use Rattle.claims.proofs.WordsLaws.{putClaim-fits}
 use Rattle.rule.specs.declared.node.Node.{Node}
@@ -28,7 +28,7 @@ use Rattle.rule.specs.declared.answer.Beaten.{Beaten}
 use Rattle.rule.specs.Table.{tableLimit, beatLimit, remains, Served, serve, sending}
 use Rattle.rule.specs.Node.{blanks, pendingOf, nodeKeys, nodeOf}
 use Rattle.rule.specs.Call.{claimWords, beaten, beatenLent}
-use Rattle.rule.proofs.NodeLaws.{Fits, Ordered, ordered-nodeInOrder}
+use Rattle.rule.proofs.NodeLaws.{Fits, fits-passes, fits-lo, fits-hi, Ordered, ordered-nodeInOrder}
 use Rattle.rule.proofs.Words.{length-claimWords, claimWords-append}
 use Rattle.beats.specs.Lent.{serveIn, wholeIn, sendingIn, wroteAt, keptWith, unbeaten, beatInQuestions, beatIn, beatInLent}
 
@@ -85,10 +85,7 @@ wholeIn-store (k ∷ ks) h =
 module _ (l : List ℕ) (rise : Rising l) (short : length l ≤ limit) where
   -- a claim whose lo and hi are held is answered by the keys as they are
   answerIn-answer : (c : Claim) → Fits c l → answerIn (storeOf l) c ≡ answer c l
-  answerIn-answer c f =
-      let held = f .held in
-      let good = passes c (sym (judged-firstNo c) ∙ f .passes) in
-      answerIn-store l short rise c good (held (c .lo) (List·Memᴰ·head refl)) (held (c .hi) (List·Memᴰ·tail (List·Memᴰ·head refl)))
+  answerIn-answer c f = answerIn-store l short rise c (fits-passes c l f) (fits-lo c l f) (fits-hi c l f)
 
   serveIn-store : (t : List Claim) → ((c : Claim) → List·Memᴰ c t → Fits c l) → serveIn (storeOf l) t ≡ serve l t
   serveIn-store [] f = refl

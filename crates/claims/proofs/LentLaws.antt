@@ -19,7 +19,7 @@ use Rattle.keys.specs.Store.{limit, zeros, storeOf, position, insert, insertAll
 use Rattle.keys.specs.Lent.{placeIn, Grown, grown, addIn, addBothIn}
 use Rattle.keys.proofs.Tests.{and-left, and-right, and-both, eq-or-ne}
 use Rattle.keys.proofs.Rising.{Rising}
-use Rattle.keys.proofs.Insert.{length-insert-missing, insertAll-rising}
+use Rattle.keys.proofs.Insert.{length-insert-missing}
 use Rattle.keys.proofs.Position.{position-mono, getD-position, position-insert-le, position-insert-missing}
 use Rattle.keys.proofs.StoreLaws.{keys-storeOf, count-storeOf, length-keys-storeOf}
 use Rattle.keys.proofs.LentLaws.{placeIn-store, addIn-fits, addIn-full, addBothIn-fits, addBothIn-full, addIn-count, Laid, addBothIn-laid}
@@ -30,7 +30,7 @@ use Rattle.claims.specs.declared.answer.Replied.{Replied}
 use Rattle.claims.specs.declared.claim.Claim.{Claim}
 use Rattle.claims.specs.Claim.{span, xorAll, claimOf, noClaim, middleKey, middleInside}
 use Rattle.claims.specs.Question.{question, firstNo, claimQuestions}
-use Rattle.claims.specs.Reply.{ends, withEnds, wantsMiddle, hasSpace, third}
+use Rattle.claims.specs.Reply.{withEnds, wantsMiddle, hasSpace, third}
 use Rattle.claims.specs.Reply.{hear, own, same, decide, zOf, help, answer, reply, numberOf}
 use Rattle.claims.specs.Call.{judged}
 use Rattle.claims.specs.Lent.{hearQuestions, Hearing, tellsThird, endsHeard, thirdHeard, heard, unheard, hearIn, within, makeIn}
@@ -39,7 +39,7 @@ use Rattle.claims.proofs.Xor.{xor-assoc, xorAll-append, xorAll-snoc}
 use Rattle.claims.proofs.QuestionLaws.{Passes, passes-firstNo, judged-firstNo}
 use Rattle.claims.proofs.QuestionLaws.{firstNo-append-zero, firstNo-append-no, settle-kept, claimQuestions-numbered}
 use Rattle.claims.proofs.ClaimLaws.{claim-ext}
-use Rattle.claims.proofs.ReplyLaws.{Wanted, wanted, hear-fits, numberOf-help, numberOf-decide, hear-rising, hear-lo, hear-hi, helper-positions}
+use Rattle.claims.proofs.ReplyLaws.{Wanted, wanted, withEnds-rising, hear-fits, numberOf-help, numberOf-decide, hear-rising, hear-lo, hear-hi, helper-positions}
 use Rattle.claims.proofs.ThirdLaws.{wanted-missing}
 
 -- ---- a claim heard, by any store
@@ -124,7 +124,7 @@ module _ (l : List ℕ) (rise : Rising l) (c : Claim) (ordered : c .lo ≤ c .hi
   both = withEnds c l
 
   both-rise : Rising both
-  both-rise = insertAll-rising (ends c) l rise
+  both-rise = withEnds-rising c l rise
 
   tells-wanted : tellsThird (position (c .lo) both) (position (c .hi) both) c ≡ wantsMiddle c both
   tells-wanted = ap (λ (t : Bool). eqb (c .cnt) 3 && (t && middleInside c)) (two-places (position (c .hi) both - position (c .lo) both))

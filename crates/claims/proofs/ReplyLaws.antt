@@ -1,5 +1,5 @@
 -- The reply to one claim: `hear`, `own`, `answer`, `reply` and `falseMatch` of Reply, over rising keys and without positions. In order: the middle key of
--- three; the keys after hearing; own is the claim of the keys from lo to hi; the helper has something to tell; the view of an answer (`Answered`), one
+-- three; the keys with both ends, and after hearing; own is the claim of the keys from lo to hi; the helper has something to tell; the view of an answer (`Answered`), one
 -- constructor a case with its facts in terms of spans; every claim of a reply is the claim of a span of the store; a match that is not false; an answer
 -- by the keys from lo to hi alone.
 -- What is added is spoken of as `adding`, save in `adding-mem` and the laws before it. What follows from a middle key that is added is in ThirdLaws.
@@ -80,6 +80,17 @@ third-wanted c l f = go (wantsMiddle c l) refl
     go : (t : Bool) → wantsMiddle c l ≡ t → cond (wantsMiddle c l && hasSpace l) (middleKey c ∷ []) [] ≡ cond t (middleKey c ∷ []) []
     go true e = rw (e, lt-ltb (length l) limit (f e))
     go false e = rw e
+
+-- ---- the keys with both ends
+
+pub withEnds-rising : (c : Claim) (l : List ℕ) → Rising l → Rising (withEnds c l)
+withEnds-rising c l r = insertAll-rising (ends c) l r
+
+pub withEnds-lo : (c : Claim) (l : List ℕ) → List·Memᴰ (c .lo) (withEnds c l)
+withEnds-lo c l = mem-insertAll-new (ends c) l (c .lo) (List·Memᴰ·head refl)
+
+pub withEnds-hi : (c : Claim) (l : List ℕ) → List·Memᴰ (c .hi) (withEnds c l)
+withEnds-hi c l = mem-insertAll-new (ends c) l (c .hi) (List·Memᴰ·tail (List·Memᴰ·head refl))
 
 -- ---- the keys after hearing
 

@@ -2,24 +2,24 @@
 -- match; a match of at most three keys is never false. Not here: what is added (ReplyLaws). Assumes nothing.
 use Prim.Native.Nat.{ℕ, zero, suc, _+_, _≤_, _<_}
 use mathlib.Core.Bool.{false}
-use mathlib.Core.List.{List, [], _∷_, List·Memᴰ, List·Memᴰ·head, List·Memᴰ·tail}
+use mathlib.Core.List.{List, [], _∷_, List·Memᴰ}
 use mathlib.Core.Path.{_≡_, refl, sym, ap, ap₂, _∙_}
 use native.Mathlib.Omega.{arith}
 use lib.ListN.{length}
 use Rattle.keys.specs.Store.{insert, insertAll}
 use Rattle.keys.proofs.Tests.{Order, less, equal, greater, order}
 use Rattle.keys.proofs.Rising.{Rising, mem-length}
-use Rattle.keys.proofs.Insert.{insert-after, insert-before, insert-rising, mem-insert-old, mem-insertAll-new, insertAll-rising}
+use Rattle.keys.proofs.Insert.{insert-after, insert-before, insert-rising, mem-insert-old}
 use Rattle.claims.specs.declared.claim.Claim.{Claim}
 use Rattle.claims.specs.declared.answer.Answer.{Answer}
 use Rattle.claims.specs.declared.answer.Answer.the-variants.{Match, Ask, One, Two}
 use Rattle.claims.specs.Claim.{xorAll, between, middleKey}
-use Rattle.claims.specs.Reply.{ends, withEnds, third, hear, own, answer, reply, matches, falseMatch}
+use Rattle.claims.specs.Reply.{withEnds, third, hear, own, answer, reply, matches, falseMatch}
 use Rattle.claims.proofs.Xor.{xorAll-told}
 use Rattle.claims.proofs.Between.{inside, mem-inside, between-insert-within, length-between-inside}
 use Rattle.claims.proofs.Span.{no-keys, one-key, two-keys, first-between, last-between}
 use Rattle.claims.proofs.ClaimLaws.{spanClaim, spanClaim-passes, three-keys, claim-ext, claim-same, rangeClaim}
-use Rattle.claims.proofs.ReplyLaws.{Wanted, Third, left-out, put-in, third-cases, own-between, own-range}
+use Rattle.claims.proofs.ReplyLaws.{Wanted, Third, left-out, put-in, third-cases, withEnds-rising, withEnds-lo, withEnds-hi, own-between, own-range}
 use Rattle.claims.proofs.ReplyLaws.{Answered, matched, asked, helped-one, helped-two, reply-answered, same-match}
 
 module _ (c : Claim) (l : List ℕ) (rise : Rising l) (ordered : c .lo ≤ c .hi) where
@@ -28,16 +28,10 @@ module _ (c : Claim) (l : List ℕ) (rise : Rising l) (ordered : c .lo ≤ c .hi
   both = withEnds c l
 
   both-rise : Rising both
-  both-rise = insertAll-rising (ends c) l rise
-
-  both-lo : List·Memᴰ (c .lo) both
-  both-lo = mem-insertAll-new (ends c) l (c .lo) (List·Memᴰ·head refl)
-
-  both-hi : List·Memᴰ (c .hi) both
-  both-hi = mem-insertAll-new (ends c) l (c .hi) (List·Memᴰ·tail (List·Memᴰ·head refl))
+  both-rise = withEnds-rising c l rise
 
   pub own-length : own c (withEnds c l) .cnt ≡ length (between (c .lo) (c .hi) (withEnds c l))
-  own-length = ap (λ (x : Claim). x .cnt) (own-between c both both-rise ordered both-lo both-hi)
+  own-length = ap (λ (x : Claim). x .cnt) (own-between c both both-rise ordered (withEnds-lo c l) (withEnds-hi c l))
 
   -- where it is wanted it is not held, since own is just lo and hi
   pub wanted-missing : Wanted c (withEnds c l) → List·Memᴰ (middleKey c) (withEnds c l) → ⊥
@@ -45,7 +39,7 @@ module _ (c : Claim) (l : List ℕ) (rise : Rising l) (ordered : c .lo ≤ c .hi
       let some : 0 < length (inside (c .lo) (c .hi) both) =
       mem-length (inside (c .lo) (c .hi) both) (middleKey c) (mem-inside (c .lo) (c .hi) both (middleKey c) m (w .above) (w .below)) in
       let lt : c .lo < c .hi = omega (arith, w .above, w .below) in
-      omega (arith, own-length, w .two, some, length-between-inside (c .lo) (c .hi) both both-rise lt both-lo both-hi)
+      omega (arith, own-length, w .two, some, length-between-inside (c .lo) (c .hi) both both-rise lt (withEnds-lo c l) (withEnds-hi c l))
 
   -- where it is added own is the claim
   pub third-own : third c (withEnds c l) ≡ middleKey c ∷ [] → own c (hear c l) ≡ c
@@ -55,14 +49,15 @@ module _ (c : Claim) (l : List ℕ) (rise : Rising l) (ordered : c .lo ≤ c .hi
       let heard : hear c l ≡ insert m both = ap (λ (t : List ℕ). insertAll t both) added in
       let two : between (c .lo) (c .hi) both ≡ c .lo ∷ c .hi ∷ []
       = two-keys (between (c .lo) (c .hi) both) (sym own-length ∙ w .two)
-      ∙ ap₂ (λ (x y : ℕ). x ∷ y ∷ []) (first-between (c .lo) (c .hi) both both-rise ordered both-lo)
-      (last-between (c .lo) (c .hi) both both-rise ordered both-hi) in
+      ∙ ap₂ (λ (x y : ℕ). x ∷ y ∷ []) (first-between (c .lo) (c .hi) both both-rise ordered (withEnds-lo c l))
+      (last-between (c .lo) (c .hi) both both-rise ordered (withEnds-hi c l)) in
       let three : between (c .lo) (c .hi) (insert m both) ≡ c .lo ∷ m ∷ c .hi ∷ []
       = between-insert-within (c .lo) (c .hi) m both both-rise (omega (arith, w .above)) (omega (arith, w .below))
       ∙ (ap (insert m) two
       ∙ (insert-after m (c .lo) (c .hi ∷ []) (w .above) ∙ ap (λ (x : List ℕ). c .lo ∷ x) (insert-before m (c .hi) [] (w .below)))) in
       rw heard
-      (own-range c (insert m both) (insert-rising m both both-rise) ordered (mem-insert-old m both (c .lo) both-lo) (mem-insert-old m both (c .hi) both-hi)
+      (own-range c (insert m both) (insert-rising m both both-rise) ordered
+      (mem-insert-old m both (c .lo) (withEnds-lo c l)) (mem-insert-old m both (c .hi) (withEnds-hi c l))
       ∙ claim-ext (rangeClaim (c .lo) (c .hi) (insert m both)) c refl refl
       (ap xorAll three ∙ xorAll-told (c .sum) (c .lo) (c .hi))
       (ap length three ∙ sym (w .three)))

@@ -1,5 +1,6 @@
 -- The laws of `host`. A file uses only those named before it. `..Laws` say what definitions mean, `..Paths` have one law for each way that the code of a
 -- file of src/ goes; the others are named for what they are about.
+--   Cases       a frame near the limit
 --   SignPaths   src/sign.rt: lengths and minus numbers in 64 bits
 --   TurnPaths   src/turn.rt: the claims of a frame taken in turn, by a node in order
 --   FramesLaws  claims in frames of four (specs/Frames)
@@ -12,6 +13,7 @@
 --   LibPaths    src/lib.rt: what the host calls return
 --   Fitting     numbers that fit their widths in bytes
 --   Trips       what the daemon is given back is what the next call takes
+pub mod Cases
 mod SignPaths
 mod TurnPaths
 mod FramesLaws

@@ -38,7 +38,7 @@ sending-spanned l rise t f d m =
     (whole l rise)
     (λ (n : List·Memᴰ d (serve l t .sent)).
     let (c, i, o) = sent-mem l t d n in
-    fits-spanned c l rise (f c i) d o)
+    fits-spanned c l (f c i) rise d o)
     (List·Memᴰ·append-cases (wholeClaim l) m)
   where
     whole : (k : List ℕ) → Rising k → List·Memᴰ d (wholeClaim k) → Spanned k d

@@ -93,8 +93,7 @@ sending-backed u l t r h s f d m =
     (wholeClaim-backed u l r h s d)
     (λ (n : List·Memᴰ d (serve l t .sent)).
     let (c, i, o) = sent-mem l t d n in
-    let g : Fits c l = f c i in
-    spanned-backed u l d r h s (fits-spanned c l r g d o))
+    spanned-backed u l d r h s (fits-spanned c l (f c i) r d o))
     (List·Memᴰ·append-cases (wholeClaim l) m)
 
 -- ---- the claims of a round

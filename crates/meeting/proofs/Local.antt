@@ -11,7 +11,7 @@ use lib.Dec.{eqb}
 use lib.ListN.{length}
 use Rattle.keys.specs.Store.{limit, insert, insertAll}
 use Rattle.keys.proofs.Rising.{Rising, Sub, sub-trans, rising-length}
-use Rattle.keys.proofs.Insert.{insert-rising, insert-sub, length-insert-missing, insertAll-rising, insertAll-sub}
+use Rattle.keys.proofs.Insert.{insert-rising, insert-sub, length-insert-missing, insertAll-sub}
 use Rattle.claims.specs.declared.claim.Claim.{Claim}
 use Rattle.claims.specs.declared.answer.Answer.{Answer}
 use Rattle.claims.specs.Claim.{between, middleKey, middleInside}
@@ -20,7 +20,7 @@ use Rattle.claims.proofs.Between.{Lies, within, below, beyond, lies, inside, be
 use Rattle.claims.proofs.Span.{first, last, first-between, last-between}
 use Rattle.claims.proofs.QuestionLaws.{Passes}
 use Rattle.claims.proofs.ClaimLaws.{spanClaim}
-use Rattle.claims.proofs.ReplyLaws.{Wanted, wanted, third-wanted}
+use Rattle.claims.proofs.ReplyLaws.{Wanted, wanted, third-wanted, withEnds-rising}
 use Rattle.claims.proofs.ThirdLaws.{own-length, wanted-missing}
 use Rattle.claims.proofs.ReplyLaws.{hear-rising, hear-lo, hear-hi, Answered, matched, asked, helped-one, helped-two, Part, reply-answered, answerBy, answer-by}
 use Rattle.rule.specs.Round.{End, Pair, keysAt, holding, Entry, waits, receiver, keysBefore, delivered, answers, Line, line, run}
@@ -199,7 +199,7 @@ fine-roomy u p e q f wants =
     let c : Claim = e .claim in
     let k : List ℕ = withEnds c (keysBefore e p) in
     let w : Wanted c k = wanted c k wants in
-    let rise : Rising k = insertAll-rising (ends c) (keysBefore e p) (f .rises (receiver e)) in
+    let rise : Rising k = withEnds-rising c (keysBefore e p) (f .rises (receiver e)) in
     let inside-u : Sub (insert (middleKey c) k) u
     = insert-sub (middleKey c) k u (sound-within u p e s (f .within) (middleKey c) (sound-middle p e s (w .three)))
     (insertAll-sub (ends c) (keysBefore e p) u (sub-trans (ends c) (e .claimed) u (sound-ends p e s) (sound-within u p e s (f .within)))

@@ -20,7 +20,7 @@ use Rattle.claims.specs.declared.claim.Claim.{Claim}
 use Rattle.claims.specs.Reply.{ends, same, answer, claimsOf}
 use Rattle.claims.specs.Call.{judged}
 use Rattle.claims.specs.Claim.{noClaim}
-use Rattle.claims.proofs.QuestionLaws.{passes, judged-firstNo}
+use Rattle.claims.proofs.QuestionLaws.{Passes, passes, judged-firstNo}
 use Rattle.claims.proofs.ClaimLaws.{same-claim}
 use Rattle.claims.proofs.ReplyLaws.{Spanned, answer-spanned}
 use Rattle.rule.specs.declared.node.Node.{Node}
@@ -46,11 +46,19 @@ pub record Fits (c : Claim) (l : List ℕ) : Type 0 where
 pub fits-sub : (c : Claim) (l m : List ℕ) → Sub l m → Fits c l → Fits c m
 fits-sub c l m s f = record { passes = f .passes; held = sub-trans (ends c) l m (f .held) s }
 
--- the claims of the answer to such a claim are those of spans of l
-pub fits-spanned : (c : Claim) (l : List ℕ) → Rising l → Fits c l → (d : Claim) → List·Memᴰ d (claimsOf (answer c l)) → Spanned l d
-fits-spanned c l r f =
-    answer-spanned c l r (passes c (sym (judged-firstNo c) ∙ f .passes))
-    (f .held (c .lo) (List·Memᴰ·head refl)) (f .held (c .hi) (List·Memᴰ·tail (List·Memᴰ·head refl)))
+module _ (c : Claim) (l : List ℕ) (f : Fits c l) where
+  pub fits-passes : Passes c
+  fits-passes = passes c (sym (judged-firstNo c) ∙ f .passes)
+
+  pub fits-lo : List·Memᴰ (c .lo) l
+  fits-lo = f .held (c .lo) (List·Memᴰ·head refl)
+
+  pub fits-hi : List·Memᴰ (c .hi) l
+  fits-hi = f .held (c .hi) (List·Memᴰ·tail (List·Memᴰ·head refl))
+
+  -- the claims of the answer to such a claim are those of spans of l
+  pub fits-spanned : Rising l → (d : Claim) → List·Memᴰ d (claimsOf (answer c l)) → Spanned l d
+  fits-spanned r = answer-spanned c l r fits-passes fits-lo fits-hi
 
 pub allFit-mem : (t : List Claim) (l : List ℕ) → allFit t l ≡ true → (c : Claim) → List·Memᴰ c t → Fits c l
 allFit-mem [] l h c m = absurd (List·Memᴰ·not-nil m)

@@ -21,11 +21,12 @@ use Rattle.rule.specs.Node.{nodeKeys, pendingOf, nodeOf}
 use Rattle.rule.specs.Round.{Run, roundOf, transcript}
 use Rattle.rule.specs.Question.{nodeQuestion1, question8, question9, question15}
 
--- `take` asks 1, 2 to 5 and 6: "Taking a claim adds lo and hi, then the claim ..". With lo and hi it adds what a reply adds: "Taking a claim into the
--- table does the same; a beat still adds no key, and 6 doesn't count the middle one." (document 02, slip 1)
+-- `take` asks 1, 2 to 5 and 6: "6 doesn't count the middle one" (document 02, slip 1).
 abbrev pub takeQuestions : Node → Claim → List Question
 takeQuestions n c = nodeQuestion1 n ∷ (claimQuestions c ++ (question6 (ends c) (nodeKeys n) ∷ []))
 
+-- "Taking a claim adds lo and hi, then the claim ..", and with lo and hi what a reply adds: "Taking a claim into the table does the same; a beat still adds
+-- no key, and 6 doesn't count the middle one." (document 02, slip 1)
 unfoldable pub taken : Node → Claim → Taken
 taken n c =
     settle (firstNo (takeQuestions n c))

@@ -188,7 +188,7 @@ impl Rng {
             return self.keys(density);
         }
         let (mut keys, _) = self.nearly_full();
-        let count = self.pick(&[1_023, 1_024, 1_024]);
+        let count = self.pick(&[RawStore::LIMIT - 1, RawStore::LIMIT, RawStore::LIMIT]);
         while keys.len() > count {
             let at = self.below(keys.len());
             keys.remove(at);

@@ -7,11 +7,14 @@
 mod archive;
 
 use archive::{Asked, compare as compare_host, number};
+use minutefrost::{BEAT_FRAMES, IMAGE_MOST};
 use second::*;
 use tests::card::*;
 use tests::cases::{Seen, compare, for_seeds, one_seed};
 use tests::draw::{Rng, frame_of, image_of};
 use tests::middle::{self, ADDED, LAST_PLACE, OTHERS, OUTCOMES};
+
+const LIMIT: usize = RawStore::LIMIT;
 
 /// How often each way must have been gone; most cases here aren't drawn.
 const OFTEN: usize = 10;
@@ -83,7 +86,7 @@ fn rounds_of_all_pairs() {
 /// as ends, before claims are as short as three.
 #[test]
 fn rounds_of_all_pairs_below_others() {
-    let union = RawStore::LIMIT;
+    let union = LIMIT;
     rounds_of_pairs(2 * PAIRS, Common { below: 0, union }, &MISLED);
 }
 
@@ -91,7 +94,7 @@ fn rounds_of_all_pairs_below_others() {
 /// and the middle one takes the last place.
 #[test]
 fn rounds_of_all_pairs_among_others() {
-    let union = RawStore::LIMIT;
+    let union = LIMIT;
     let [held, missing, _] = OTHERS;
     let mut ways = vec![LAST_PLACE, held, missing];
     ways.extend(ADDED);
@@ -115,11 +118,14 @@ const HELD: [[bool; 2]; 4] = [[true, true], [false, true], [true, false], [false
 const BETWEEN: [u64; 3] = [0, 1, 3];
 
 /// How many keys the store has; as few as it can where that is none.
-const COUNTS: [usize; 6] = [0, 1_020, 1_021, 1_022, 1_023, 1_024];
+const COUNTS: [usize; 6] = [0, LIMIT - 4, LIMIT - 3, LIMIT - 2, LIMIT - 1, LIMIT];
+
+/// How many middle keys there are to each pair of ends.
+const MIDDLES: usize = 10;
 
 /// The middle key: next to the ends and far from them between them, held
 /// there or not; at the ends; next to them, far from them and held outside.
-fn middles((lo, hi): (u64, u64)) -> [u64; 10] {
+fn middles((lo, hi): (u64, u64)) -> [u64; MIDDLES] {
     [
         lo + 1,
         hi - 1,
@@ -138,7 +144,7 @@ fn middles((lo, hi): (u64, u64)) -> [u64; 10] {
 /// some that do.
 fn fillers((lo, hi): (u64, u64)) -> Vec<u64> {
     let mut keys = Vec::new();
-    for at in 1..=RawStore::LIMIT as u64 {
+    for at in 1..=LIMIT as u64 {
         keys.extend(lo.checked_sub(16 * at));
         keys.extend(hi.checked_add(16 * at));
         if (lo, hi) == (0, u64::MAX) {
@@ -157,7 +163,7 @@ fn digit<T: Copy>(number: &mut u64, of: &[T]) -> T {
 }
 
 /// How many stores and claims there are.
-const KINDS: u64 = 4 * 4 * 3 * 6 * 10;
+const KINDS: usize = ENDS.len() * HELD.len() * BETWEEN.len() * COUNTS.len() * MIDDLES;
 
 /// The keys of a store and a claim of three, told by what is left of a number.
 fn kind(number: &mut u64) -> (Vec<u64>, Claim) {
@@ -191,7 +197,7 @@ fn case_of_kind(mut number: u64) -> Case {
 
 #[test]
 fn claims_of_three_for_stores_nearly_full() {
-    let seen = compare(4 * KINDS, |rng| case_of_kind(rng.0));
+    let seen = compare(4 * KINDS as u64, |rng| case_of_kind(rng.0));
     if !one_seed() {
         seen.expect(&[0, 6], &["an equal one is pending"], OFTEN);
         seen.expect_ways(&OUTCOMES.concat(), OFTEN);
@@ -226,7 +232,7 @@ fn ways_of_claims(keys: &[u64], claims: &[Claim]) -> Vec<&'static str> {
     let mut ways = Vec::new();
     for claim in claims {
         if !questions::q6_missing_fit(&keys, &[claim.lo, claim.hi]) {
-            let fit = ends.len() <= RawStore::LIMIT;
+            let fit = ends.len() <= LIMIT;
             return if fit { vec![NO_ROOM] } else { vec![] };
         }
         ways.extend(middle::learn(&mut keys, claim));
@@ -243,7 +249,7 @@ fn frames_of_claims_of_three() {
         let (keys, claims) = frame_of_threes(rng);
         let node = rng.node_of(&keys);
         let image = image_of(node.store.held(), node.table());
-        let asked = Asked::Take(image, frame_of(&claims), 9_860);
+        let asked = Asked::Take(image, frame_of(&claims), IMAGE_MOST);
         seen.number(number(compare_host(&asked, seed).answer));
         let ways = ways_of_claims(&keys, &claims);
         ways.iter().for_each(|way| seen.way(way));
@@ -267,12 +273,12 @@ fn left_by(asked: Asked) -> (Vec<u8>, Vec<u8>) {
 }
 
 fn beaten(image: &[u8]) -> (Vec<u8>, Vec<u8>) {
-    left_by(Asked::Beat(image.to_vec(), 9_860, 3_486))
+    left_by(Asked::Beat(image.to_vec(), IMAGE_MOST, BEAT_FRAMES))
 }
 
 fn hearing(image: &[u8], claim: Claim) -> Vec<u8> {
     let frame = frame_of(&[claim]);
-    left_by(Asked::Take(image.to_vec(), frame, 9_860)).0
+    left_by(Asked::Take(image.to_vec(), frame, IMAGE_MOST)).0
 }
 
 /// As an image can be that was written before the rule: a claim of three is
@@ -297,7 +303,7 @@ fn images_with_claims_of_three_pending() {
         let asked = frame_of(&[whole(&keys), own]);
         assert_eq!(beaten(&image), (image.clone(), asked.clone()));
         let heard = hearing(&image, claim);
-        if keys.len() == RawStore::LIMIT {
+        if keys.len() == LIMIT {
             assert_eq!(heard, image);
             assert_eq!(beaten(&heard), (image, asked));
             continue;
