@@ -5,67 +5,15 @@
 //!
 //! What every state owes to an old card is stated here. What a state's own
 //! rules make of it is compared between the archive and the second program.
+//! Cards with claims that later states leave out have a test of their own,
+//! `faulty_cards`; here their kiosks are heard, and hear the others.
 
-use std::fs;
-use std::path::Path;
+mod cards;
 
+use cards::{Card, cards_of, faulty_cards, keys_in, sound_cards};
 use minutefrost::{BEAT_FRAMES, IMAGE_MOST, Refusal, frames};
 use second::{Claim, host};
 use tests::draw::{frame_of, image_of};
-
-const DATA: &str = concat!(env!("CARGO_MANIFEST_DIR"), "/tests/data");
-
-/// An image and the frames that its beat sent, end to end; what it holds, as
-/// the README beside them tells it.
-struct Card {
-    name: String,
-    image: Vec<u8>,
-    sent: Vec<u8>,
-    /// How many keys, their XOR, and how many claims are pending.
-    holds: (usize, u64, usize),
-}
-
-impl Card {
-    /// The card of a row of the README's table.
-    fn of_row(folder: &Path, row: &str) -> Option<Card> {
-        let mut cells = row.strip_prefix("| ")?.split(" | ");
-        let file = folder.join(cells.next()?);
-        let mut number = || cells.next()?.parse::<u64>().ok();
-        let holds = (number()? as usize, number()?, number()? as usize);
-        let read = |kind| fs::read(file.with_extension(kind)).expect("the README names files");
-        Some(Card {
-            name: file.display().to_string(),
-            image: read("image"),
-            sent: read("frames"),
-            holds,
-        })
-    }
-}
-
-/// The cards of a folder. None lies there untold, for it would go untested.
-fn cards_of(folder: &Path) -> Vec<Card> {
-    let readme = fs::read_to_string(folder.join("README.md")).expect("each folder has one");
-    let cards = readme.lines().filter_map(|row| Card::of_row(folder, row));
-    let cards: Vec<Card> = cards.collect();
-    let files = fs::read_dir(folder).expect("a folder").count();
-    assert_eq!(files, 1 + 2 * cards.len(), "files in {}", folder.display());
-    cards
-}
-
-/// The cards of all states.
-fn cards() -> Vec<Card> {
-    let folders = fs::read_dir(DATA).expect("a folder");
-    let folders = folders.map(|folder| folder.expect("a folder").path());
-    folders.flat_map(|folder| cards_of(&folder)).collect()
-}
-
-/// The keys as they stand in an image, read by neither program: how many in 2
-/// bytes, then 8 bytes each.
-fn keys_in(image: &[u8]) -> Vec<u64> {
-    let count = usize::from(u16::from_be_bytes([image[0], image[1]]));
-    let (keys, _) = image[2..][..8 * count].as_chunks();
-    keys.iter().map(|key| u64::from_be_bytes(*key)).collect()
-}
 
 /// What a call leaves: its answer, the image it wrote, and the buffer for
 /// frames.
@@ -115,7 +63,7 @@ fn beat(image: &[u8]) -> Result<(Vec<u8>, Vec<u8>), Refusal> {
 
 #[test]
 fn images_hold_what_they_held() -> Result<(), Refusal> {
-    for card in cards() {
+    for card in sound_cards() {
         let keys = keys_in(&card.image);
         let sum = keys.iter().fold(0, |sum, key| sum ^ key);
         let read = second::read_image(&card.image);
@@ -128,10 +76,11 @@ fn images_hold_what_they_held() -> Result<(), Refusal> {
 }
 
 /// By calls that have nothing to change: so all that an image holds is read,
-/// and a card is no worse for being used.
+/// and a card is no worse for being used. Since slip 2 of document 02 this is
+/// for images without claims that are left out.
 #[test]
 fn images_are_written_again_as_the_same_bytes() -> Result<(), Refusal> {
-    for card in cards() {
+    for card in sound_cards() {
         for key in keys_in(&card.image) {
             assert!(enter(&card.image, key)? == card.image, "{}", card.name);
         }
@@ -145,7 +94,7 @@ fn images_are_written_again_as_the_same_bytes() -> Result<(), Refusal> {
 /// be no room for its keys a frame is refused, by 6.
 #[test]
 fn frames_are_taken() {
-    let cards = cards();
+    let cards: Vec<Card> = sound_cards().into_iter().chain(faulty_cards()).collect();
     let pairs = cards
         .iter()
         .flat_map(|it| cards.iter().map(move |by| (it, by)));
@@ -170,7 +119,7 @@ fn frames_are_taken() {
 /// Until a request changes what a beat sends, an old image sends what it sent.
 #[test]
 fn beats_send_what_they_sent() -> Result<(), Refusal> {
-    for card in cards() {
+    for card in sound_cards() {
         let (image, sent) = beat(&card.image)?;
         assert!(sent == card.sent, "{} sends something else", card.name);
         assert_eq!(keys_in(&image), keys_in(&card.image), "{}", card.name);
@@ -183,7 +132,7 @@ fn beats_send_what_they_sent() -> Result<(), Refusal> {
 /// once more adds that key is the state's own rule.
 #[test]
 fn a_pending_claim_of_three_is_asked_about() -> Result<(), Refusal> {
-    let base = cards_of(&Path::new(DATA).join("base"));
+    let base = cards_of("base");
     let [three, heard] = ["/three", "/heard_three"].map(|name| {
         let found = base.iter().find(|card| card.name.ends_with(name));
         found.expect("the base wrote it")

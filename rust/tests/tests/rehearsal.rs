@@ -1,48 +1,14 @@
 //! The program `rehearse` beside the second one: the same standard output,
 //! byte by byte, for two images of any content.
 
-use std::io::Write;
-use std::path::Path;
-use std::process::{Command, Stdio};
-use std::thread;
+mod rehearse;
 
-use second::rehearse;
+use rehearse::{compare, program};
 use tests::cases::{Seen, for_seeds, one_seed};
 use tests::draw::{Rng, image_of};
-use tests::drill::made_by_rt;
 
 /// How often each number and each way must be seen.
 const OFTEN: usize = 40;
-
-/// All that the program prints for this standard input.
-fn printed(program: &Path, input: &[u8]) -> String {
-    let mut child = Command::new(program)
-        .stdin(Stdio::piped())
-        .stdout(Stdio::piped())
-        .spawn()
-        .expect("rehearse starts");
-    let mut stdin = child.stdin.take().expect("a pipe was asked for");
-    let output = thread::scope(|scope| {
-        // A program that refuses may end before it has read everything.
-        scope.spawn(move || drop(stdin.write_all(input)));
-        child.wait_with_output().expect("rehearse ends")
-    });
-    String::from_utf8(output.stdout).expect("text")
-}
-
-fn compare(program: &Path, input: &[u8]) -> String {
-    let found = printed(program, input);
-    let wanted = rehearse(input);
-    assert!(
-        found == wanted,
-        "rehearse printed\n{found}\nand the second program\n{wanted}"
-    );
-    found
-}
-
-fn program() -> std::path::PathBuf {
-    made_by_rt("bin/rehearse", "rt check rehearse")
-}
 
 /// Document 01's example, in full.
 #[test]

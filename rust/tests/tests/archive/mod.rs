@@ -62,23 +62,26 @@ fn number_or(length: Result<usize, minutefrost::Refusal>) -> i64 {
 }
 
 impl Asked {
+    /// Both buffers as they are lent; a call without one has none.
+    fn lent(&self, seed: u64) -> (Vec<u8>, Vec<u8>) {
+        match self {
+            Asked::Take(_, _, lent) | Asked::Enter(_, _, lent) => (buffer(seed, *lent), Vec::new()),
+            Asked::Beat(_, lent, lent_frames) => (buffer(seed, *lent), buffer(!seed, *lent_frames)),
+            Asked::Count(_) => (Vec::new(), Vec::new()),
+        }
+    }
+
     /// Makes the call by one of the programs.
     pub fn by(&self, seed: u64, program: &Program) -> Left {
-        let (mut out, mut frames) = (Vec::new(), Vec::new());
+        let (mut out, mut frames) = self.lent(seed);
         let answer = match self {
             Asked::Take(image, frame, lent) => {
-                out = buffer(seed, *lent);
                 (program.take_frame)(image, frame, &mut out[..*lent])
             }
             Asked::Beat(image, lent, lent_frames) => {
-                out = buffer(seed, *lent);
-                frames = buffer(!seed, *lent_frames);
                 (program.beat)(image, &mut out[..*lent], &mut frames[..*lent_frames])
             }
-            Asked::Enter(image, key, lent) => {
-                out = buffer(seed, *lent);
-                (program.enter)(image, *key, &mut out[..*lent])
-            }
+            Asked::Enter(image, key, lent) => (program.enter)(image, *key, &mut out[..*lent]),
             Asked::Count(image) => (program.count)(image),
         };
         Left {
@@ -86,6 +89,28 @@ impl Asked {
             out,
             frames,
         }
+    }
+
+    /// What the call leaves if it answers this, having written these bytes to
+    /// the front of its buffers and nothing else.
+    pub fn leaving(&self, seed: u64, answer: i64, image: &[u8], sent: &[u8]) -> Left {
+        let (mut out, mut frames) = self.lent(seed);
+        out[..image.len()].copy_from_slice(image);
+        frames[..sent.len()].copy_from_slice(sent);
+        Left {
+            answer,
+            out,
+            frames,
+        }
+    }
+
+    /// The image that the call is given.
+    pub fn image(&self) -> &[u8] {
+        let (Asked::Take(image, ..)
+        | Asked::Beat(image, ..)
+        | Asked::Enter(image, ..)
+        | Asked::Count(image)) = self;
+        image
     }
 }
 
