@@ -1,6 +1,7 @@
 -- The twelve lettered cases hold, as one table (`cases-hold`; the table is `table` of specs/Cases), by computing both columns. Then the tables of the middle
--- key of three (`third-cases-hold`) and of replies on a lent run (`lent-cases-hold`), and two facts beside these: case k for every lo < hi and sum
--- (`judged-count`), and case a seen from its sender (`seven-matches`): a claim of one key matches, and not falsely. Assumes nothing.
+-- key of three (`third-cases-hold`), of claims of three that no store could make (`faulty-cases-hold`) and of replies on a lent run (`lent-cases-hold`), and
+-- two facts beside these: case k for every lo < hi and sum (`judged-count`), and case a seen from its sender (`seven-matches`): a claim of one key matches,
+-- and not falsely. Assumes nothing.
 use Prim.Native.Nat.{ℕ, _<_}
 use mathlib.Core.List.{[], _∷_, map}
 use mathlib.Core.Bool.{false}
@@ -14,7 +15,7 @@ use Rattle.claims.specs.Claim.{between}
 use Rattle.claims.specs.Reply.{third, answer, reply, falseMatch}
 use Rattle.claims.specs.Call.{made, replied, judged}
 use Rattle.claims.specs.Lent.{hearIn, replyIn}
-use Rattle.claims.specs.Cases.{Row, table, thirdTable, lentTable, claim}
+use Rattle.claims.specs.Cases.{Row, table, thirdTable, faultyTable, lentTable, claim}
 
 pub cases-hold : map (λ (r : Row). r .gives) table ≡ map (λ (r : Row). r .wanted) table
 unfolding zeros storeOf emptyStore inOrder third answer made replied judged
@@ -24,6 +25,11 @@ cases-hold = refl
 pub third-cases-hold : map (λ (r : Row). r .gives) thirdTable ≡ map (λ (r : Row). r .wanted) thirdTable
 unfolding zeros storeOf inOrder third answer replied
 third-cases-hold = refl
+
+-- claims of three that no store could make
+pub faulty-cases-hold : map (λ (r : Row). r .gives) faultyTable ≡ map (λ (r : Row). r .wanted) faultyTable
+unfolding zeros storeOf emptyStore inOrder third answer replied judged
+faulty-cases-hold = refl
 
 -- on a lent run: "A refusal returns .. the given store"; and a third key that does not fit is left out
 pub lent-cases-hold : map (λ (r : Row). r .gives) lentTable ≡ map (λ (r : Row). r .wanted) lentTable

@@ -1,6 +1,6 @@
 -- Claims as claims of spans: `claimOf`, `wholeClaim` of Claim and `same` of Reply. In order: two claims are equal by their fields, which is what
--- `same` tests; the claim of a list of keys (`spanClaim`), which is the claim for positions i to j of its store; it passes questions 2 to 5; the
--- middle key that the claim of three tells; the whole claim; the claim of the keys from lo to hi (`rangeClaim`).
+-- `same` tests; the claim of a list of keys (`spanClaim`), which is the claim for positions i to j of its store; the middle key that the claim of three
+-- tells; a claim that a store makes passes questions 2 to 5 and 16; the whole claim; the claim of the keys from lo to hi (`rangeClaim`).
 -- Not here: what the questions say of a claim (QuestionLaws). Assumes nothing.
 use Prim.Native.Nat.{ℕ, _+_, _-_, _≤_, _<_}
 use mathlib.Core.Bool.{true, _&&_}
@@ -69,7 +69,23 @@ claimOf-span i j l h g =
 pub claimOf-between : (i j : ℕ) (l : List ℕ) → Rising l → i ≤ j → j < length l → claimOf i j l ≡ spanClaim (between (getD l i 0) (getD l j 0) l)
 claimOf-between i j l r h g = claimOf-span i j l h g ∙ ap spanClaim (span-between i j l r h g)
 
--- ---- it passes questions 2 to 5
+-- ---- the middle key of three
+
+-- the key that the claim of three keys tells is the one between
+pub three-keys : (l : List ℕ) → length l ≡ 3 → l ≡ first l ∷ middleKey (spanClaim l) ∷ last l ∷ []
+three-keys [] e = absurd (omega arith)
+three-keys (j ∷ []) e = absurd (omega arith)
+three-keys (j ∷ (k ∷ [])) e = absurd (omega arith)
+three-keys (j ∷ (k ∷ (m ∷ []))) e = ap (λ (x : ℕ). j ∷ x ∷ m ∷ []) (sym (xorAll-three j k m))
+three-keys (j ∷ (k ∷ (m ∷ (x ∷ xs)))) e = absurd (omega arith)
+
+pub middleKey-span : (l : List ℕ) → length l ≡ 3 → List·Memᴰ (middleKey (spanClaim l)) l
+middleKey-span l e = subst (List·Memᴰ (middleKey (spanClaim l))) (sym (three-keys l e)) (List·Memᴰ·tail (List·Memᴰ·head refl))
+
+pub middleKey-inside : (l : List ℕ) → Rising l → length l ≡ 3 → (spanClaim l .lo < middleKey (spanClaim l)) × (middleKey (spanClaim l) < spanClaim l .hi)
+middleKey-inside l r e = let ((lower, _), ((upper, _), _)) = subst Rising (three-keys l e) r in (lower, upper)
+
+-- ---- it passes questions 2 to 5 and 16
 
 pub spanClaim-passes : (l : List ℕ) → Rising l → 0 < length l → length l ≤ limit → Passes (spanClaim l)
 spanClaim-passes [] r h g = absurd (not-suc-le-zero h)
@@ -81,6 +97,7 @@ spanClaim-passes (x ∷ xs) r h g = record {
   several = λ p. (more xs p, length-rising-range x (last (x ∷ xs)) (x ∷ xs) r (λ k m. (first-le (x ∷ xs) r k m, le-last (x ∷ xs) r k m)));
   sum-one = λ e. ap xorAll (one-key (x ∷ xs) e) ∙ xorAll-one x;
   sum-two = λ e. ap xorAll (two-keys (x ∷ xs) e) ∙ xorAll-two x (last (x ∷ xs));
+  sum-three = λ e. middleKey-inside (x ∷ xs) r e;
 }
   where
     ones : (ks : List ℕ) → Rising (x ∷ ks) → x ≡ last (x ∷ ks) → length (x ∷ ks) ≡ 1
@@ -98,19 +115,6 @@ claimOf-passes i j l r f h g =
 
 pub claimOf-firstNo : (i j : ℕ) (l : List ℕ) → Rising l → length l ≤ limit → i ≤ j → j < length l → firstNo (claimQuestions (claimOf i j l)) ≡ 0
 claimOf-firstNo i j l r f h g = passes-firstNo (claimOf i j l) (claimOf-passes i j l r f h g)
-
--- ---- the middle key of three
-
--- the key that the claim of three keys tells is the one between
-pub three-keys : (l : List ℕ) → length l ≡ 3 → l ≡ first l ∷ middleKey (spanClaim l) ∷ last l ∷ []
-three-keys [] e = absurd (omega arith)
-three-keys (j ∷ []) e = absurd (omega arith)
-three-keys (j ∷ (k ∷ [])) e = absurd (omega arith)
-three-keys (j ∷ (k ∷ (m ∷ []))) e = ap (λ (x : ℕ). j ∷ x ∷ m ∷ []) (sym (xorAll-three j k m))
-three-keys (j ∷ (k ∷ (m ∷ (x ∷ xs)))) e = absurd (omega arith)
-
-pub middleKey-span : (l : List ℕ) → length l ≡ 3 → List·Memᴰ (middleKey (spanClaim l)) l
-middleKey-span l e = subst (List·Memᴰ (middleKey (spanClaim l))) (sym (three-keys l e)) (List·Memᴰ·tail (List·Memᴰ·head refl))
 
 -- ---- the whole claim
 

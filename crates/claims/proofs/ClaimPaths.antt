@@ -1,6 +1,7 @@
 -- The questions of a single claim as the code puts them (src/claim.rt): one law for each way that the code goes. Assumes nothing.
-use mathlib.Core.Path.{_≡_, refl}
-use mathlib.Core.Bool.{Bool, true, false, not}
+use mathlib.Core.Path.{_≡_, refl, sym, _∙_}
+use mathlib.Core.Bool.{Bool, true, false, cond, not}
+use mathlib.Core.List.{[], _∷_}
 use Prim.Native.Nat.{ℕ, _+_, _-_, _≤_, _<_}
 use native.Mathlib.Omega.{arith}
 use borrow.Author.Tests.{lt-ltb, le-ltb, le-leb, lt-leb, leb-true, leb-false, eq-eqb, ne-eqb, not-true, not-false}
@@ -9,9 +10,10 @@ use lib.Dec.{ltb, leb, eqb}
 use Rattle.keys.specs.Store.{limit}
 use Rattle.claims.specs.declared.claim.Claim.{Claim}
 use Rattle.claims.specs.Claim.{middleKey, middleInside}
-use Rattle.claims.specs.Question.{question3, question4, question5}
+use Rattle.claims.specs.Question.{question3, question4, question5, question16, formerQuestions}
 use Rattle.claims.specs.Reply.{same}
-use Rattle.claims.specs.Call.{judged}
+use Rattle.claims.specs.Call.{judged, judgedFormerly}
+use Rattle.claims.proofs.QuestionLaws.{firstNo-append-zero, firstNo-append-no, formerQuestions-numbered}
 
 -- 1 taken off on both sides of a comparison
 pub leb-pred : (m n : ℕ) → 0 < m → leb (m - 1) n ≡ leb m (n + 1)
@@ -49,30 +51,55 @@ module _ (c : Claim) where
   pub sums-more : (c .cnt ≡ 1 → ⊥) → (c .cnt ≡ 2 → ⊥) → true ≡ question5 c .yes
   sums-more f g = rw (ne-eqb (c .cnt) 1 f, ne-eqb (c .cnt) 2 g)
 
-  -- the four in order
-  pub judged-2 : c .hi < c .lo → 2 ≡ judged c
-  unfolding judged
-  judged-2 h = rw (lt-leb (c .lo) (c .hi) h)
+  -- question 16
+  pub tells-other : (c .cnt ≡ 3 → ⊥) → true ≡ question16 c .yes
+  tells-other f = rw (ne-eqb (c .cnt) 3 f)
+
+  pub tells-middle : c .cnt ≡ 3 → (inside : Bool) → inside ≡ middleInside c → inside ≡ question16 c .yes
+  tells-middle e inside told = told ∙ rw (eq-eqb (c .cnt) 3 e)
+
+  -- 2 to 5 in order
+  pub formerly-2 : c .hi < c .lo → 2 ≡ judgedFormerly c
+  unfolding judgedFormerly
+  formerly-2 h = rw (lt-leb (c .lo) (c .hi) h)
 
   -- by what the code was told of 3, 4 and 5
   module _ (ordered : c .lo ≤ c .hi) (counted : Bool) (three : counted ≡ question3 c .yes) where
-    pub judged-3 : not counted ≡ true → 3 ≡ judged c
-    unfolding judged
-    judged-3 e = rw (le-leb (c .lo) (c .hi) ordered, ← three, not-true counted e)
+    pub formerly-3 : not counted ≡ true → 3 ≡ judgedFormerly c
+    unfolding judgedFormerly
+    formerly-3 e = rw (le-leb (c .lo) (c .hi) ordered, ← three, not-true counted e)
 
     module _ (counts : not counted ≡ false) (spanned : Bool) (four : spanned ≡ question4 c .yes) where
-      pub judged-4 : not spanned ≡ true → 4 ≡ judged c
-      unfolding judged
-      judged-4 e = rw (le-leb (c .lo) (c .hi) ordered, ← three, not-false counted counts, ← four, not-true spanned e)
+      pub formerly-4 : not spanned ≡ true → 4 ≡ judgedFormerly c
+      unfolding judgedFormerly
+      formerly-4 e = rw (le-leb (c .lo) (c .hi) ordered, ← three, not-false counted counts, ← four, not-true spanned e)
 
       module _ (spans : not spanned ≡ false) (summed : Bool) (five : summed ≡ question5 c .yes) where
-        pub judged-5 : not summed ≡ true → 5 ≡ judged c
-        unfolding judged
-        judged-5 e = rw (le-leb (c .lo) (c .hi) ordered, ← three, not-false counted counts, ← four, not-false spanned spans, ← five, not-true summed e)
+        pub formerly-5 : not summed ≡ true → 5 ≡ judgedFormerly c
+        unfolding judgedFormerly
+        formerly-5 e = rw (le-leb (c .lo) (c .hi) ordered, ← three, not-false counted counts, ← four, not-false spanned spans, ← five, not-true summed e)
 
-        pub judged-0 : not summed ≡ false → 0 ≡ judged c
-        unfolding judged
-        judged-0 e = rw (le-leb (c .lo) (c .hi) ordered, ← three, not-false counted counts, ← four, not-false spanned spans, ← five, not-false summed e)
+        pub formerly-0 : not summed ≡ false → 0 ≡ judgedFormerly c
+        unfolding judgedFormerly
+        formerly-0 e = rw (le-leb (c .lo) (c .hi) ordered, ← three, not-false counted counts, ← four, not-false spanned spans, ← five, not-false summed e)
+
+  -- .. and then 16
+  module _ (number : ℕ) (former : number ≡ judgedFormerly c) where
+    pub judged-former : (number ≡ 0 → ⊥) → number ≡ judged c
+    unfolding judged judgedFormerly
+    judged-former f = former ∙ sym (firstNo-append-no (formerQuestions c) (question16 c ∷ []) (λ z. f (former ∙ z)))
+
+    module _ (pass : number ≡ 0) (told : Bool) (sixteen : told ≡ question16 c .yes) where
+      judged-rest : judged c ≡ cond told 0 16
+      unfolding judged judgedFormerly
+      judged-rest =
+          firstNo-append-zero (formerQuestions c) (question16 c ∷ []) (formerQuestions-numbered c) (sym former ∙ pass) ∙ rw (← sixteen)
+
+      pub judged-16 : not told ≡ true → 16 ≡ judged c
+      judged-16 e = sym (judged-rest ∙ rw (not-true told e))
+
+      pub judged-0 : not told ≡ false → 0 ≡ judged c
+      judged-0 e = sym (judged-rest ∙ rw (not-false told e))
 
 -- equal in all four fields
 module _ (c d : Claim) where

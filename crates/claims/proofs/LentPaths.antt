@@ -1,7 +1,7 @@
 -- The calls on a lent run (src/lent.rt): one law for each way that the code goes, over the definitions of specs/Lent. What these mean where the run is
 -- a store in order is in LentLaws. Assumes nothing.
 use mathlib.Core.Path.{_≡_, sym, _∙_, ap, ap₂, subst}
-use mathlib.Core.Bool.{Bool, true, false, not, _&&_}
+use mathlib.Core.Bool.{Bool, true, false, not, _&&_, and-true}
 use mathlib.Core.List.{List}
 use Prim.Native.Nat.{ℕ, _+_, _-_, _^_, _≤_, _<_}
 use native.Mathlib.Omega.{arith}
@@ -20,10 +20,12 @@ use Rattle.claims.specs.declared.answer.Answer.the-variants.{Refused, Ma
 use Rattle.claims.specs.declared.claim.Claim.{Claim}
 use Rattle.claims.specs.declared.lent.Heard.{Heard}
 use Rattle.claims.specs.Claim.{xorAll, span, claimOf, noClaim, middleKey, middleInside}
+use Rattle.claims.specs.Question.{question16}
 use Rattle.claims.specs.Reply.{same, zOf, decide}
 use Rattle.claims.specs.Call.{judged}
 use Rattle.claims.specs.Lent.{Hearing, hearingWith, tellsThird, thirdHeard, heard, unheard, notHeard, hearIn}
 use Rattle.claims.specs.Lent.{within, Positions, makeIn, middle, helpIn, answerAt, answerIn, repliedWith, replyIn}
+use Rattle.claims.proofs.QuestionLaws.{judged-formerly}
 use Rattle.claims.proofs.LentLaws.{hearIn-judged, hearIn-unfit, hearIn-fit, hearIn-kept, hearIn-laid, part, middle-zOf}
 
 -- `tells_third`
@@ -32,11 +34,11 @@ module _ (first last : ℕ) (c : Claim) where
   pub tells-count : (c .cnt ≡ 3 → ⊥) → false ≡ tellsThird first last c
   tells-count f = rw (ne-eqb (c .cnt) 3 f)
 
-  pub tells-others : c .cnt ≡ 3 → (last - first ≡ 1 → ⊥) → false ≡ tellsThird first last c
-  tells-others e f = rw (eq-eqb (c .cnt) 3 e, ne-eqb (last - first) 1 f)
-
-  pub tells-inside : c .cnt ≡ 3 → last - first ≡ 1 → (b : Bool) → b ≡ middleInside c → b ≡ tellsThird first last c
-  tells-inside e f b g = g ∙ rw (eq-eqb (c .cnt) 3 e, eq-eqb (last - first) 1 f)
+  -- a claim that has passed 16 tells a key between its ends
+  pub tells-beside : question16 c .yes ≡ true → c .cnt ≡ 3 → eqb (last - first) 1 ≡ tellsThird first last c
+  tells-beside told e =
+      let inside : middleInside c ≡ true = rw (eq-eqb (c .cnt) 3 e) at told in
+      rw (eq-eqb (c .cnt) 3 e, inside, and-true (eqb (last - first) 1))
 
 -- `hear_in`
 
@@ -71,6 +73,10 @@ module _ (keys : List ℕ) (count : ℕ) (c : Claim) where
 
       pub ends-rise : a .first ≤ a .last
       ends-rise = laid .rise
+
+      -- 16 was answered yes
+      pub third-told : question16 c .yes ≡ true
+      third-told = judged-formerly c (sym asked ∙ pass) .1
 
       module _ (told : Bool) (tells : told ≡ tellsThird (a .first) (a .last) c) where
         pub heard-ends : not told ≡ true

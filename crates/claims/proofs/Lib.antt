@@ -3,7 +3,7 @@
 --   Xor           the XOR of a list
 --   Between       the keys from lo to hi
 --   Span          the keys at positions i to j, which are those from key i to key j
---   QuestionLaws  the first question answered no; a claim that passes 2 to 5
+--   QuestionLaws  the first question answered no; a claim that passes 2 to 5 and 16
 --   ClaimLaws     claims of spans
 --   ReplyLaws     what a reply says; a match that is not false
 --   ThirdLaws     the middle key of three: where it is added the reply is a match

@@ -1,5 +1,5 @@
 -- The first question answered no: `firstNo`, `settle` and the questions of Question. In order: a question in front; questions behind others;
--- `settle`; what it says of a claim that 2 to 5 are answered yes (`Passes`), both ways.
+-- `settle`; what it says of a claim that 2 to 5 and 16 are answered yes (`Passes`), both ways; 2 to 5 and 16, each by itself.
 -- Not here: which claims pass (ClaimLaws). Assumes nothing.
 use Prim.Native.Nat.{ℕ, _+_, _-_, _≤_, _<_}
 use mathlib.Core.Bool.{Bool, true, false, cond, _&&_}
@@ -7,14 +7,16 @@ use mathlib.Core.List.{List, [], _∷_, _++_}
 use mathlib.Core.Logic.{_⊎_, inl, inr, ⊎-elim}
 use mathlib.Core.Path.{_≡_, refl, sym, ap, _∙_}
 use native.Mathlib.Omega.{arith}
-use borrow.Author.Tests.{leb-true, le-leb, eqb-true, eq-eqb, ne-eqb}
+use borrow.Author.Tests.{ltb-true, lt-ltb, leb-true, le-leb, eqb-true, eq-eqb, ne-eqb}
 use lib.Bits.{bitXor}
-use lib.Dec.{leb, eqb}
+use lib.Dec.{ltb, leb, eqb}
 use Rattle.keys.specs.Store.{limit}
 use Rattle.keys.proofs.Tests.{and-left, and-right, and-both, lt-or-le, eq-or-ne}
 use Rattle.claims.specs.declared.claim.Claim.{Claim}
-use Rattle.claims.specs.Question.{Question, firstNo, settle, question2, question3, question4, question5, claimQuestions}
-use Rattle.claims.specs.Call.{judged}
+use Rattle.claims.specs.Claim.{middleKey, middleInside}
+use Rattle.claims.specs.Question.{Question, firstNo, settle, question2, question3, question4, question5, question16, formerQuestions}
+use Rattle.claims.specs.Question.{claimQuestions}
+use Rattle.claims.specs.Call.{judged, judgedFormerly}
 
 -- ---- a question in front
 
@@ -88,7 +90,7 @@ settle-kept {given = given} number kept done refused zero same n = go (eqb n 0)
     go true f = absurd (f zero)
     go false f = same n
 
--- ---- a claim that passes 2 to 5
+-- ---- a claim that passes 2 to 5 and 16
 
 pub record Passes (c : Claim) : Type 0 where
   pub ordered : c .lo ≤ c .hi
@@ -98,18 +100,23 @@ pub record Passes (c : Claim) : Type 0 where
   pub several : c .lo < c .hi → (2 ≤ c .cnt) × (c .cnt ≤ c .hi - c .lo + 1)
   pub sum-one : c .cnt ≡ 1 → c .sum ≡ c .lo
   pub sum-two : c .cnt ≡ 2 → c .sum ≡ bitXor (c .lo) (c .hi)
+  pub sum-three : c .cnt ≡ 3 → (c .lo < middleKey c) × (middleKey c < c .hi)
+
+pub formerQuestions-numbered : (c : Claim) → Numbered (formerQuestions c)
+formerQuestions-numbered c = (omega arith, (omega arith, (omega arith, (omega arith, tt))))
 
 pub claimQuestions-numbered : (c : Claim) → Numbered (claimQuestions c)
-claimQuestions-numbered c = (omega arith, (omega arith, (omega arith, (omega arith, tt))))
+claimQuestions-numbered c = (omega arith, (omega arith, (omega arith, (omega arith, (omega arith, tt)))))
 
 pub passes : (c : Claim) → firstNo (claimQuestions c) ≡ 0 → Passes c
 passes c h =
-    let a = firstNo-zero (question2 c) (question3 c ∷ question4 c ∷ question5 c ∷ []) (omega arith) h in
-    let b = firstNo-zero (question3 c) (question4 c ∷ question5 c ∷ []) (omega arith) (a .1) in
-    let d = firstNo-zero (question4 c) (question5 c ∷ []) (omega arith) (b .1) in
+    let a = firstNo-zero (question2 c) (question3 c ∷ question4 c ∷ question5 c ∷ question16 c ∷ []) (omega arith) h in
+    let b = firstNo-zero (question3 c) (question4 c ∷ question5 c ∷ question16 c ∷ []) (omega arith) (a .1) in
+    let d = firstNo-zero (question4 c) (question5 c ∷ question16 c ∷ []) (omega arith) (b .1) in
+    let e = firstNo-zero (question5 c) (question16 c ∷ []) (omega arith) (d .1) in
     let y4 : cond (eqb (c .lo) (c .hi)) (eqb (c .cnt) 1) (leb 2 (c .cnt) && leb (c .cnt) (c .hi - c .lo + 1)) ≡ true = d .0 in
-    let y5 : cond (eqb (c .cnt) 1) (eqb (c .sum) (c .lo)) (cond (eqb (c .cnt) 2) (eqb (c .sum) (bitXor (c .lo) (c .hi))) true) ≡ true
-    = firstNo-zero (question5 c) [] (omega arith) (d .1) .0 in
+    let y5 : cond (eqb (c .cnt) 1) (eqb (c .sum) (c .lo)) (cond (eqb (c .cnt) 2) (eqb (c .sum) (bitXor (c .lo) (c .hi))) true) ≡ true = e .0 in
+    let y16 : cond (eqb (c .cnt) 3) (middleInside c) true ≡ true = firstNo-zero (question16 c) [] (omega arith) (e .1) .0 in
     record {
       ordered = leb-true (c .lo) (c .hi) (a .0);
       at-least = leb-true 1 (c .cnt) (and-left (leb 1 (c .cnt)) (leb (c .cnt) limit) (b .0));
@@ -122,6 +129,11 @@ passes c h =
           );
       sum-one = λ e. eqb-true (c .sum) (c .lo) (rw (eq-eqb (c .cnt) 1 e) at y5);
       sum-two = λ e. eqb-true (c .sum) (bitXor (c .lo) (c .hi)) (rw (ne-eqb (c .cnt) 1 (λ (f : c .cnt ≡ 1). omega arith), eq-eqb (c .cnt) 2 e) at y5);
+      sum-three = λ e.
+          let z : middleInside c ≡ true = rw (eq-eqb (c .cnt) 3 e) at y16 in (
+            ltb-true (c .lo) (middleKey c) (and-left (ltb (c .lo) (middleKey c)) (ltb (middleKey c) (c .hi)) z),
+            ltb-true (middleKey c) (c .hi) (and-right (ltb (c .lo) (middleKey c)) (ltb (middleKey c) (c .hi)) z),
+          );
     }
 
 pub passes-question4 : (c : Claim) → Passes c → (question4 c) .yes ≡ true
@@ -146,14 +158,37 @@ passes-question5 c p = go (eq-or-ne (c .cnt) 1) (eq-or-ne (c .cnt) 2)
     go (inr f) (inl e) = rw (ne-eqb (c .cnt) 1 f, eq-eqb (c .cnt) 2 e) (eq-eqb (c .sum) (bitXor (c .lo) (c .hi)) (p .sum-two e))
     go (inr f) (inr g) = rw (ne-eqb (c .cnt) 1 f, ne-eqb (c .cnt) 2 g)
 
+pub passes-question16 : (c : Claim) → Passes c → (question16 c) .yes ≡ true
+passes-question16 c p = go (eq-or-ne (c .cnt) 3)
+  where
+    go : (c .cnt ≡ 3) ⊎ (c .cnt ≡ 3 → ⊥) → (question16 c) .yes ≡ true
+    go (inl e) =
+        rw (eq-eqb (c .cnt) 3 e, lt-ltb (c .lo) (middleKey c) (p .sum-three e .0), lt-ltb (middleKey c) (c .hi) (p .sum-three e .1))
+    go (inr f) = rw (ne-eqb (c .cnt) 3 f)
+
 pub passes-firstNo : (c : Claim) → Passes c → firstNo (claimQuestions c) ≡ 0
 passes-firstNo c p =
-    firstNo-yes (question2 c) (question3 c ∷ question4 c ∷ question5 c ∷ []) (le-leb (c .lo) (c .hi) (p .ordered))
-    ∙ firstNo-yes (question3 c) (question4 c ∷ question5 c ∷ [])
+    firstNo-yes (question2 c) (question3 c ∷ question4 c ∷ question5 c ∷ question16 c ∷ []) (le-leb (c .lo) (c .hi) (p .ordered))
+    ∙ firstNo-yes (question3 c) (question4 c ∷ question5 c ∷ question16 c ∷ [])
     (and-both (leb 1 (c .cnt)) (leb (c .cnt) limit) (le-leb 1 (c .cnt) (p .at-least)) (le-leb (c .cnt) limit (p .at-most)))
-    ∙ firstNo-yes (question4 c) (question5 c ∷ []) (passes-question4 c p)
-    ∙ firstNo-yes (question5 c) [] (passes-question5 c p)
+    ∙ firstNo-yes (question4 c) (question5 c ∷ question16 c ∷ []) (passes-question4 c p)
+    ∙ firstNo-yes (question5 c) (question16 c ∷ []) (passes-question5 c p)
+    ∙ firstNo-yes (question16 c) [] (passes-question16 c p)
 
 pub judged-firstNo : (c : Claim) → judged c ≡ firstNo (claimQuestions c)
 unfolding judged
 judged-firstNo c = refl
+
+-- ---- 2 to 5, and 16, each by itself
+
+pub judged-formerly : (c : Claim) → judged c ≡ 0 → (judgedFormerly c ≡ 0) × (question16 c .yes ≡ true)
+unfolding judged judgedFormerly
+judged-formerly c h = (
+  firstNo-front (formerQuestions c) (question16 c ∷ []) h,
+  firstNo-zero (question16 c) [] (omega arith) (firstNo-rest (formerQuestions c) (question16 c ∷ []) (formerQuestions-numbered c) h) .0,
+)
+
+pub formerly-judged : (c : Claim) → judgedFormerly c ≡ 0 → question16 c .yes ≡ true → judged c ≡ 0
+unfolding judged judgedFormerly
+formerly-judged c h told =
+    firstNo-append-zero (formerQuestions c) (question16 c ∷ []) (formerQuestions-numbered c) h ∙ firstNo-yes (question16 c) [] told

@@ -11,12 +11,17 @@ use Rattle.claims.specs.declared.answer.Made.{Made}
 use Rattle.claims.specs.declared.answer.Replied.{Replied}
 use Rattle.claims.specs.declared.answer.Answer.the-variants.{Refused}
 use Rattle.claims.specs.Claim.{claimOf, noClaim}
-use Rattle.claims.specs.Question.{Question, firstNo, settle, question1, question6, question7, claimQuestions}
+use Rattle.claims.specs.Question.{Question, firstNo, settle, question1, question6, question7}
+use Rattle.claims.specs.Question.{formerQuestions, claimQuestions}
 use Rattle.claims.specs.Reply.{ends, hear, reply, numberOf}
 
--- the questions of a single claim: 2 to 5
+-- the questions of a single claim: 2 to 5 and 16
 unfoldable pub judged : Claim → ℕ
 judged c = firstNo (claimQuestions c)
+
+-- those that were put before 16 came: by them the pending claims of an image are judged, "as before" (document 02, slip 2)
+unfoldable pub judgedFormerly : Claim → ℕ
+judgedFormerly c = firstNo (formerQuestions c)
 
 -- `enter` asks 1 and 6.
 abbrev pub enterQuestions : Store → ℕ → List Question
@@ -38,7 +43,7 @@ made s i j =
     (record { number = 0; claim = claimOf i j (keysOf s) })
     (λ n. record { number = n; claim = noClaim })
 
--- `reply` asks 1, 2 to 5 and 6: "6 doesn't count the middle one" (document 02, slip 1).
+-- `reply` asks 1, 2 to 5, 16 and 6: "6 doesn't count the middle one" (document 02, slip 1).
 abbrev pub replyQuestions : Store → Claim → List Question
 replyQuestions s c = question1 s ∷ (claimQuestions c ++ (question6 (ends c) (keysOf s) ∷ []))
 

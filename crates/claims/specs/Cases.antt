@@ -1,5 +1,6 @@
 -- Slips from the desk drawer (document 01, the section of that name): the twelve lettered cases, as one table over the call definitions; then rows for the
--- middle key of three, and for replies on a lent run. That each row gives what is wanted is one law for each table, in proofs/Cases. Assumes nothing.
+-- middle key of three, for claims of three that no store could make, and for replies on a lent run. That each row gives what is wanted is one law for each
+-- table, in proofs/Cases. Assumes nothing.
 use Prim.Native.Nat.{ℕ, zero, suc, _-_}
 use mathlib.Core.Bool.{Bool, true}
 use mathlib.Core.List.{List, [], _∷_}
@@ -91,10 +92,6 @@ thirdTable =
     hears (storeOf (1 ∷ [])) (claim 1 16 19 3) (storeOf (1 ∷ 2 ∷ 16 ∷ [])) Match
     ∷ hears (storeOf (16 ∷ [])) (claim 1 16 19 3) (storeOf (1 ∷ 2 ∷ 16 ∷ [])) Match
     ∷ hears (storeOf (1 ∷ 16 ∷ [])) (claim 1 16 19 3) (storeOf (1 ∷ 2 ∷ 16 ∷ [])) Match
-    -- it would be lo, hi or beyond: "only if it lies strictly between lo and hi"
-    ∷ keeps (1 ∷ 16 ∷ []) (claim 1 16 16 3) (Ask (claim 1 16 17 2))
-    ∷ keeps (1 ∷ 16 ∷ []) (claim 1 16 1 3) (Ask (claim 1 16 17 2))
-    ∷ keeps (1 ∷ 16 ∷ []) (claim 1 16 5 3) (Ask (claim 1 16 17 2))
     -- own has another key beside lo and hi (case c), or the claim is of four
     ∷ keeps (1 ∷ 4 ∷ 16 ∷ []) (claim 1 16 19 3) (One (claim 4 4 4 1))
     ∷ keeps (1 ∷ 16 ∷ []) (claim 1 16 19 4) (Ask (claim 1 16 17 2))
@@ -102,6 +99,28 @@ thirdTable =
     ∷ hears (storeOf (upFrom 20 (limit - 3))) (claim 1 16 19 3) (storeOf (1 ∷ 2 ∷ 16 ∷ upFrom 20 (limit - 3))) Match
     ∷ hears (storeOf (upFrom 20 (limit - 2))) (claim 1 16 19 3) (storeOf (1 ∷ 16 ∷ upFrom 20 (limit - 2))) (Ask (claim 1 16 17 2))
     ∷ keeps (upFrom 20 (limit - 1)) (claim 1 16 19 3) (Refused 6)
+    ∷ []
+
+-- ---- claims of three that no store could make (document 02, slip 2)
+
+abbrev pub faultyTable : List Row
+faultyTable =
+    -- the middle key would be lo, hi, below lo, above hi: 16
+    keeps (1 ∷ 16 ∷ []) (claim 1 16 16 3) (Refused 16)
+    ∷ keeps (1 ∷ 16 ∷ []) (claim 1 16 1 3) (Refused 16)
+    ∷ keeps (1 ∷ 16 ∷ []) (claim 1 16 17 3) (Refused 16)
+    ∷ keeps (1 ∷ 16 ∷ []) (claim 1 16 5 3) (Refused 16)
+    -- right beside lo and beside hi it lies between them, and so does the only key that can
+    ∷ hears (storeOf (1 ∷ 16 ∷ [])) (claim 1 16 19 3) (storeOf (1 ∷ 2 ∷ 16 ∷ [])) Match
+    ∷ hears (storeOf (1 ∷ 16 ∷ [])) (claim 1 16 30 3) (storeOf (1 ∷ 15 ∷ 16 ∷ [])) Match
+    ∷ hears emptyStore (claim 1 3 0 3) (storeOf (1 ∷ 2 ∷ 3 ∷ [])) Match
+    -- 4 comes before 16 (case j), and 16 before 6
+    ∷ refuses (claim 5 6 3 3) 4
+    ∷ refuses (claim 1 3 2 3) 16
+    ∷ keeps (upFrom 20 (limit - 1)) (claim 1 16 5 3) (Refused 16)
+    -- of other claims it asks nothing
+    ∷ keeps (1 ∷ 16 ∷ []) (claim 1 16 17 2) Match
+    ∷ keeps (1 ∷ 16 ∷ []) (claim 1 16 5 4) (Ask (claim 1 16 17 2))
     ∷ []
 
 -- ---- the reply on a lent run, of any content
@@ -120,8 +139,9 @@ lentTable =
     unmoved (storeOf (3 ∷ 5 ∷ 9 ∷ [])) (claim 9 4 0 7) 2
     -- case l
     ∷ unmoved (storeOf (3 ∷ 5 ∷ 9 ∷ [])) (claim 9 5 12 2) 2
-    -- a run that is out of order and full
-    ∷ unmoved (storeWith (zeros limit) limit) (claim 4 7 0 3) 6
+    -- a run that is out of order and full; and 16 comes before 6
+    ∷ unmoved (storeWith (zeros limit) limit) (claim 4 7 6 3) 6
+    ∷ unmoved (storeWith (zeros limit) limit) (claim 4 7 0 3) 16
     -- a full store that has both ends hears a claim of three: 6 is not answered no, and the third key is left out
     ∷ hearsLent (storeOf (1 ∷ upFrom 16 (limit - 1))) (claim 1 16 19 3) (storeOf (1 ∷ upFrom 16 (limit - 1))) (Ask (claim 1 16 17 2))
     -- with a place left it comes in

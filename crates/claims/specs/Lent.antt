@@ -24,7 +24,7 @@ use Rattle.claims.specs.Reply.{decide, help}
 
 -- ---- a claim heard
 
--- what is asked where a store hears a claim: 2 to 5, and 6, whether its ends fit
+-- what is asked where a store hears a claim: 2 to 5 and 16, and 6, whether its ends fit
 abbrev pub hearQuestions : Store → Claim → List Question
 hearQuestions s c = claimQuestions c ++ (question 6 (addBothIn s (c .lo) (c .hi) .fits) ∷ [])
 

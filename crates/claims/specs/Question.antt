@@ -1,14 +1,15 @@
--- Questions, each with its number when the answer is no (document 01, the section of that name): 1 to 7, and the first one answered no.
+-- Questions, each with its number when the answer is no (document 01, the section of that name; document 02): 1 to 7 and 16, and the first one answered no.
 -- A call's questions are a list in the order in which they are put. Assumes nothing.
 use Prim.Native.Nat.{ℕ, _+_, _-_}
 use mathlib.Core.Bool.{Bool, true, cond, _&&_}
-use mathlib.Core.List.{List, [], _∷_}
+use mathlib.Core.List.{List, [], _∷_, _++_}
 use lib.Bits.{bitXor}
 use lib.Dec.{ltb, leb, eqb}
 use lib.ListN.{length}
 use Rattle.keys.specs.declared.store.Store.{Store}
 use Rattle.keys.specs.Store.{limit, inOrder, insertAll}
 use Rattle.claims.specs.declared.claim.Claim.{Claim}
+use Rattle.claims.specs.Claim.{middleInside}
 
 -- a question that was put: its number, and whether the answer was yes
 pub record Question : Type 0 where
@@ -55,6 +56,14 @@ question6 ks l = question 6 (ltb (length (insertAll ks l)) (limit + 1))
 abbrev pub question7 : ℕ → ℕ → ℕ → Question
 question7 i j count = question 7 (leb i j && ltb j count)
 
--- the questions of a single claim, in order
+-- "16, for a claim with cnt 3 and sum XOR lo XOR hi not strictly between lo and hi" (document 02, slip 2)
+abbrev pub question16 : Claim → Question
+question16 c = question 16 (cond (eqb (c .cnt) 3) (middleInside c) true)
+
+-- the questions that were put to a single claim before 16 came, in order
+abbrev pub formerQuestions : Claim → List Question
+formerQuestions c = question2 c ∷ question3 c ∷ question4 c ∷ question5 c ∷ []
+
+-- the questions of a single claim, in order: 16 is "asked straight after 5" (document 02, slip 2)
 abbrev pub claimQuestions : Claim → List Question
-claimQuestions c = question2 c ∷ question3 c ∷ question4 c ∷ question5 c ∷ []
+claimQuestions c = formerQuestions c ++ (question16 c ∷ [])

@@ -52,7 +52,7 @@ pub fn make(store: Store, first: usize, last: usize) -> Made
     make_in(&store.keys, count, first, last)
 }
 
-// Replies to a claim. Asks 1, 2 to 5 and 6.
+// Replies to a claim. Asks 1, 2 to 5, 16 and 6.
 pub fn reply(store: Store, claim: Claim) -> Replied
     ensures { λ r. ⌜ Replying store claim r ⌝ }
 {

@@ -2,9 +2,9 @@
 ghost use mathlib.Core.Path.{_≡_};
 ghost use Prim.Native.Nat.{_≤_};
 ghost use Rattle.claims.specs.Claim.{middleKey, middleInside};
-ghost use Rattle.claims.specs.Question.{question3, question4, question5};
+ghost use Rattle.claims.specs.Question.{question3, question4, question5, question16};
 ghost use Rattle.claims.specs.Reply.{same};
-ghost use Rattle.claims.specs.Call.{judged};
+ghost use Rattle.claims.specs.Call.{judged, judgedFormerly};
 use keys::Store;
 
 // What a claim says: "from lo to hi I hold cnt keys, whose XOR is sum".
@@ -28,9 +28,23 @@ impl Claim {
     };
 }
 
-// The number of the first question of 2 to 5 that the claim answers no, or 0.
+// The number of the first question of 2 to 5 and 16 that the claim answers no, or 0.
 pub fn judge(claim: Claim) -> u8
     ensures { λ r. ⌜ r ≡ judged claim ⌝ }
+{
+    let number = judge_formerly(claim);
+    if number != 0 {
+        return number;
+    }
+    if !tells(claim) {
+        return 16;
+    }
+    0
+}
+
+// The number of the first question of 2 to 5 that the claim answers no, or 0: as claims were judged before 16 came, and as those in an image still are.
+pub fn judge_formerly(claim: Claim) -> u8
+    ensures { λ r. ⌜ r ≡ judgedFormerly claim ⌝ }
 {
     if claim.hi < claim.lo {
         return 2;
@@ -84,6 +98,16 @@ fn summed(claim: Claim) -> bool
     true
 }
 
+// Question 16: is the key that a claim of three keys tells strictly between lo and hi?
+pub fn tells(claim: Claim) -> bool
+    ensures { λ r. ⌜ r ≡ question16 claim .yes ⌝ }
+{
+    if claim.cnt != 3 {
+        return true;
+    }
+    middle_inside(claim)
+}
+
 // Whether two claims are equal in all four fields.
 pub(crate) fn same(one: Claim, other: Claim) -> bool
     ensures { λ r. ⌜ r ≡ same one other ⌝ }
@@ -108,7 +132,7 @@ pub(crate) fn middle_key(claim: Claim) -> u64
 }
 
 // Whether that key lies strictly between lo and hi.
-pub(crate) fn middle_inside(claim: Claim) -> bool
+fn middle_inside(claim: Claim) -> bool
     ensures { λ r. ⌜ r ≡ middleInside claim ⌝ }
 {
     let middle = middle_key(claim);

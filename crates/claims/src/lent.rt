@@ -4,7 +4,6 @@ use crate::answer::Answer;
 use crate::answer::Made;
 use crate::claim::Claim;
 use crate::claim::judge;
-use crate::claim::middle_inside;
 use crate::claim::middle_key;
 use crate::claim::same;
 use crate::sums::sums_of;
@@ -14,8 +13,10 @@ use keys::add_both_in;
 use keys::add_in;
 use keys::place_in;
 ghost use mathlib.Core.Path.{_≡_};
+ghost use mathlib.Core.Bool.{true};
 ghost use Prim.Native.Nat.{_≤_};
 ghost use Rattle.claims.specs.Claim.{span, xorAll, claimOf};
+ghost use Rattle.claims.specs.Question.{question16};
 ghost use Rattle.keys.specs.Lent.{storeWith};
 ghost use Rattle.claims.specs.Lent.{hearingWith, notHeard, tellsThird, hearIn, within, Positions, makeIn};
 ghost use Rattle.claims.specs.Lent.{Halves, helpIn, answerAt, answerIn, repliedWith, replyIn};
@@ -46,22 +47,20 @@ fn not_heard(number: u8, count: usize) -> Heard
     }
 }
 
-// Whether the claim tells a third key to be added: it is of three keys, its ends stand side by side at first and last, and the key lies between them.
+// Whether the claim tells a third key to be added: it is of three keys, and its ends stand side by side at first and last. That the key lies between them
+// need not be tested: the claim has passed 16.
 fn tells_third(first: usize, last: usize, claim: Claim) -> bool
-    requires { ⌜ first ≤ last ⌝ }
+    requires { ⌜ (first ≤ last) × (question16 claim .yes ≡ true) ⌝ }
     ensures { λ r. ⌜ r ≡ tellsThird first last claim ⌝ }
 {
     if claim.cnt != 3 {
         return false;
     }
     let apart = last - first;
-    if apart != 1 {
-        return false;
-    }
-    middle_inside(claim)
+    apart == 1
 }
 
-// Adds what hearing a claim adds, and says where its lo and hi stand then. Asks 2 to 5 and 6.
+// Adds what hearing a claim adds, and says where its lo and hi stand then. Asks 2 to 5, 16 and 6.
 pub fn hear_in(keys: &mut [u64; Store::LIMIT], count: usize, claim: Claim) -> Heard
     ensures { λ r. ⌜ hearingWith (now (keys .exit)) r ≡ hearIn (storeWith (now (keys .entry)) count) claim ⌝ }
 {
@@ -209,7 +208,7 @@ pub fn answer_in(keys: &[u64], count: usize, claim: Claim) -> Answer
     answer_at(keys, lower.at, upper.at, claim)
 }
 
-// The reply to a claim. Asks 2 to 5 and 6.
+// The reply to a claim. Asks 2 to 5, 16 and 6.
 pub fn reply_in(keys: &mut [u64; Store::LIMIT], count: usize, claim: Claim) -> Told
     ensures { λ r. ⌜ repliedWith (now (keys .exit)) r ≡ replyIn (storeWith (now (keys .entry)) count) claim ⌝ }
 {

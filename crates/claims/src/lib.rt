@@ -15,6 +15,8 @@ pub use calls::make;
 pub use calls::reply;
 pub use claim::Claim;
 pub use claim::judge;
+pub use claim::judge_formerly;
+pub use claim::tells;
 pub use keys::Store;
 pub use lent::Heard;
 pub use lent::Told;

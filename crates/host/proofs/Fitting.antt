@@ -14,7 +14,7 @@ use Rattle.keys.proofs.StoreLaws.{keys-storeOf, keysOf-storeOf, length-keys-sto
 use Rattle.keys.proofs.Rising.{Rising}
 use Rattle.claims.specs.declared.claim.Claim.{Claim}
 use Rattle.claims.specs.Claim.{noClaim, middleKey}
-use Rattle.claims.specs.Question.{firstNo}
+use Rattle.claims.specs.Question.{firstNo, question16}
 use Rattle.claims.specs.Reply.{withEnds, adding, hear}
 use Rattle.claims.proofs.ReplyLaws.{Wanted, adding-mem, hear-mem, hear-fits, Spanned, spanned-keys}
 use Rattle.claims.proofs.Span.{mem-first, mem-last}
@@ -22,16 +22,16 @@ use Rattle.claims.proofs.Xor.{xorAll-lt}
 use Rattle.rule.specs.declared.node.Node.{Node}
 use Rattle.rule.specs.declared.answer.Taken.{Taken}
 use Rattle.rule.specs.Table.{tableLimit, insertClaim, tableWith, serve, sending}
-use Rattle.rule.specs.Node.{blanks, nodeKeys, pendingOf, nodeOf}
+use Rattle.rule.specs.Node.{blanks, nodeKeys, pendingOf, nodeOf, telling}
 use Rattle.rule.specs.Call.{takeQuestions, taken}
-use Rattle.rule.proofs.NodeLaws.{Ordered, nodeKeys-nodeOf, pendingOf-nodeOf, nodeOf-same}
+use Rattle.rule.proofs.NodeLaws.{Ordered, ordered-nodeInOrder, savedInOrder-saved, ordered-telling, nodeKeys-nodeOf, pendingOf-nodeOf, nodeOf-same}
 use Rattle.rule.proofs.CallLaws.{takeQuestions-yes, taken-done, taken-refused, length-nodeKeys, length-pendingOf}
-use Rattle.rule.proofs.TableLaws.{insertClaim-mem, length-tableWith, kept-mem, length-kept}
+use Rattle.rule.proofs.TableLaws.{those-mem, insertClaim-mem, length-tableWith, kept-mem, length-kept}
 use Rattle.wire.specs.declared.answer.Imaged.{Imaged}
 use Rattle.wire.specs.Number.{byte, Below}
 use Rattle.wire.specs.Claim.{keyWidth, countWidth, ClaimFits}
 use Rattle.wire.specs.Run.{Each}
-use Rattle.wire.specs.Image.{keySection, sectionLength, countOf, behind, parse, nodeFrom, readImage, Shaped, NodeFits}
+use Rattle.wire.specs.Image.{keySection, sectionLength, countOf, behind, parse, nodeFrom, used, readImage, Shaped, NodeFits}
 use Rattle.wire.proofs.NumberLaws.{below-drop}
 use Rattle.wire.proofs.RunLaws.{each-mem, mem-each, each-append, each-replicate, each-take, key-faithful, claim-faithful, readRun-fits}
 use Rattle.wire.proofs.ImageLaws.{readImage-yes, readImage-0, ordered-counts}
@@ -82,14 +82,17 @@ narrow-fits n o w =
 pub narrow-read : (image : List ℕ) → Below byte image → readImage image .number ≡ 0 → Narrow (nodeIn image)
 unfolding parse nodeOf storeOf
 narrow-read image below done =
-    let (told, o) = readImage-yes image done in
-    let (few, several) = ordered-counts (nodeFrom (parse image)) o in
+    let (told, saved) = readImage-yes image done in
+    let t = parse image .pending in
+    let o = ordered-telling (parse image .keys) t (savedInOrder-saved (nodeFrom (parse image)) saved) in
+    let (few, several) = ordered-counts (nodeFrom (used (parse image))) (ordered-nodeInOrder _ o) in
     let tail = behind keySection image in
     let under = below-drop (sectionLength keySection (countOf image)) image below in
-    subst (λ (r : Imaged). Narrow (r .node)) (readImage-0 told o)
-    (narrow-nodeOf (parse image .keys) (parse image .pending) few several
+    let fit : Each ClaimFits t = readRun-fits claim-faithful (countOf tail) (drop countWidth tail) (below-drop countWidth tail under) in
+    subst (λ (r : Imaged). Narrow (r .node)) (readImage-0 told saved)
+    (narrow-nodeOf (parse image .keys) (telling t) few several
     (readRun-fits key-faithful (countOf image) (drop countWidth image) (below-drop countWidth image below))
-    (readRun-fits claim-faithful (countOf tail) (drop countWidth tail) (below-drop countWidth tail under)))
+    (each-mem ClaimFits (telling t) (λ d m. mem-each ClaimFits t fit d (those-mem (λ (c : Claim). question16 c .yes) t d m .0))))
 
 -- ---- claims taken
 

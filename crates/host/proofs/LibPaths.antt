@@ -4,6 +4,7 @@ use Prim.Native.Nat.{ℕ, _≤_, _<_}
 use native.Mathlib.Omega.{arith}
 use mathlib.Core.Bool.{true, false, cond, not}
 use mathlib.Core.List.{List, [], _∷_, _++_}
+use mathlib.Core.Logic.{⊎-elim}
 use mathlib.Core.Path.{_≡_, ap, sym, _∙_, subst}
 use borrow.Author.Tests.{le-leb, lt-leb, ne-eqb, not-true, not-false}
 use lib.Dec.{lit<}
@@ -12,9 +13,10 @@ use lib.ListN.{length, take, drop}
 use mir.Syntax.{w64}
 use mir.Val.{toZ, ofZ}
 use Rattle.keys.specs.declared.lent.Added.{Added}
-use Rattle.keys.specs.Store.{limit}
+use Rattle.keys.specs.Store.{limit, zeros, emptyStore}
 use Rattle.keys.specs.Lent.{storeWith, grownWith, addIn}
 use Rattle.keys.specs.Place.{putAt}
+use Rattle.keys.proofs.Tests.{eq-or-ne}
 use Rattle.keys.proofs.StoreLaws.{inOrder-count, length-keysOf}
 use Rattle.claims.specs.Question.{Question, firstNo, question6}
 use Rattle.claims.proofs.QuestionLaws.{Numbered, firstNo-append-zero, firstNo-append-no}
@@ -24,14 +26,17 @@ use Rattle.rule.specs.declared.answer.Taken.{Taken}
 use Rattle.rule.specs.Node.{nodeInOrder, nodeKeys}
 use Rattle.rule.specs.Question.{question15}
 use Rattle.rule.proofs.NodeLaws.{Ordered, nodeInOrder-ordered, ordered-nodeInOrder}
-use Rattle.nodes.specs.Lent.{nodeWith, takenWith}
+use Rattle.nodes.specs.Lent.{nodeWith, admitIn, takenWith}
 use Rattle.wire.specs.declared.answer.Framed.{Framed}
 use Rattle.wire.specs.declared.answer.Imaged.{Imaged}
 use Rattle.wire.specs.Run.{claim}
 use Rattle.wire.specs.Frame.{frameLimit, headSize, frameCount, frameClaims, allPass, readFrameQuestions, readFrame}
 use Rattle.wire.specs.Image.{imageLimit, nodeBytes, readImageQuestions, readImage}
+use Rattle.wire.specs.Lent.{readImageIn, readImageInLent}
 use Rattle.wire.proofs.FrameLaws.{frame-numbered, head-yes, sized-yes, take-fourOf, readFrame-number, readFrame-yes, readFrame-0}
-use Rattle.wire.proofs.ImageLaws.{image-numbered, readImage-number, readImage-yes, readImage-0}
+use Rattle.wire.proofs.ImageLaws.{image-numbered, readImage-number}
+use Rattle.wire.proofs.ImageTrips.{image-read-ordered}
+use Rattle.wire.proofs.LentLaws.{readImageIn-part, readImage-no, readImage-lent}
 use Rattle.wire.proofs.RunLaws.{length-readRun}
 use Rattle.host.specs.Taking.{questions6, takenUntil}
 use Rattle.host.specs.Frames.{framesLimit}
@@ -44,12 +49,6 @@ use Rattle.host.proofs.EnterPaths.{six, ordered-entered, added-six, unf
 use Rattle.host.proofs.SavePaths.{known-refused}
 
 -- ---- what reading tells
-
--- an image that is accepted holds a node in order
-pub readImage-ordered : (image : List ℕ) → readImage image .number ≡ 0 → nodeInOrder (nodeIn image) ≡ true
-readImage-ordered image h =
-    let (told, o) = readImage-yes image h in
-    subst (λ (r : Imaged). nodeInOrder (r .node) ≡ true) (readImage-0 told o) o
 
 -- a frame that is accepted: its claims are those below the count, at most 4, and pass 13
 pub record Accepted (frame : List ℕ) (f : Framed) : Type 0 where
@@ -83,7 +82,7 @@ entering-numbered image key = (lit< tt, (lit< tt, (lit< tt, tt)))
 
 -- ---- an image that was loaded
 
-pub loaded-lent : (image : List ℕ) {keys : List ℕ} {r : Rest} → r .number ≡ 0 → record { number = 0; node = nodeHeld keys r } ≡ readImage image
+loaded-lent : (image : List ℕ) {keys : List ℕ} {r : Rest} → r .number ≡ 0 → record { number = 0; node = nodeHeld keys r } ≡ readImage image
     → length keys ≡ limit → Loaded image keys r
 loaded-lent image {keys} {r} none e long =
     let number : 0 ≡ readImage image .number = ap (λ (x : Imaged). x .number) e in
@@ -91,8 +90,24 @@ loaded-lent image {keys} {r} none e long =
     record {
       number = none ∙ (number ∙ readImage-number image);
       node = λ z. node;
-      sound = record { long = long; ordered = λ z. rw node (readImage-ordered image (sym number)) };
+      sound = record { long = long; ordered = λ z. rw node (image-read-ordered image (sym number)) };
     }
+
+-- an image read into a run of zeros, and what is admitted of it
+module _ (image : List ℕ) {before : List ℕ} (empty : before ≡ zeros limit) {r : Rest} (read : r ≡ readImageIn image) {keys : List ℕ}
+    (lent : keys ≡ readImageInLent image before) where
+  fresh : keys ≡ readImageInLent image (emptyStore .keys)
+  unfolding emptyStore
+  fresh = lent ∙ ap (readImageInLent image) empty
+
+  pub loaded-part : length keys ≡ limit → r .held ≡ length (take (r .held) keys)
+  loaded-part = readImageIn-part image read fresh
+
+  pub loaded-admitted : {a : Rest} → a ≡ admitIn (take (r .held) keys) r → length keys ≡ limit → Loaded image keys a
+  loaded-admitted {a} admitted long = ⊎-elim {C = Loaded image keys a}
+      (λ (z : a .number ≡ 0). loaded-lent image z (readImage-lent image read fresh admitted z) long)
+      (λ (f : a .number ≡ 0 → ⊥). known-refused (ap (λ (x : Imaged). x .number) (readImage-no image read fresh admitted f) ∙ readImage-number image) long f)
+      (eq-or-ne (a .number) 0)
 
 module _ (image : List ℕ) {keys : List ℕ} {r : Rest} (loaded : Loaded image keys r) where
   -- refused, whatever is asked behind 14 and 1

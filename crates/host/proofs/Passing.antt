@@ -1,4 +1,4 @@
--- Every claim that a beat sends is the claim of some keys of the store, so it passes questions 2 to 5 and may go into a frame. Assumes nothing.
+-- Every claim that a beat sends is the claim of some keys of the store, so it passes questions 2 to 5 and 16 and may go into a frame. Assumes nothing.
 use Prim.Native.Nat.{ℕ, _≤_, _<_}
 use native.Mathlib.Omega.{arith}
 use mathlib.Core.Bool.{true}

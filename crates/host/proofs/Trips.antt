@@ -3,6 +3,7 @@
 -- too, and each frame of a beat as exactly its claims. The lemmas come first, the theorems last. Assumes nothing.
 use Prim.Native.Nat.{ℕ, zero, suc, _^_, _<_}
 use native.Mathlib.Omega.{arith}
+use mathlib.Core.Bool.{true}
 use mathlib.Core.List.{List, [], _∷_, _++_, List·Memᴰ, flatten}
 use mathlib.Core.Logic.{⊎-elim}
 use mathlib.Core.Path.{_≡_, refl, sym, _∙_, ap}
@@ -17,21 +18,21 @@ use Rattle.claims.specs.Question.{Question, firstNo, settle, question6}
 use Rattle.claims.proofs.QuestionLaws.{firstNo-front, firstNo-rest, settle-done, settle-refused}
 use Rattle.rule.specs.declared.node.Node.{Node}
 use Rattle.rule.specs.Table.{sending}
-use Rattle.rule.specs.Node.{nodeKeys, pendingOf}
+use Rattle.rule.specs.Node.{nodeKeys, pendingOf, allTell}
 use Rattle.rule.specs.Question.{question15}
-use Rattle.rule.proofs.NodeLaws.{Ordered, nodeInOrder-ordered, ordered-nodeInOrder}
+use Rattle.rule.proofs.NodeLaws.{Ordered, nodeInOrder-ordered, ordered-nodeInOrder, ordered-tells}
 use Rattle.rule.proofs.CallLaws.{ordered-beaten, length-nodeKeys, length-pendingOf}
 use Rattle.wire.specs.declared.answer.Imaged.{Imaged}
 use Rattle.wire.specs.Number.{byte, Below}
 use Rattle.wire.specs.Claim.{keyWidth, ClaimFits}
 use Rattle.wire.specs.Frame.{headSize, frameCount, frameClaims, frameBytes, fourOf, readFrameQuestions, readFrame}
-use Rattle.wire.specs.Image.{imageLimit, nodeBytes, readImageQuestions, readImage, imageLength}
+use Rattle.wire.specs.Image.{imageLimit, nodeBytes, readImageQuestions, readImage, usedBytes, imageLength}
 use Rattle.wire.proofs.NumberLaws.{below-drop}
 use Rattle.wire.proofs.RunLaws.{each-mem, mem-each, claim-faithful, readRun-fits}
 use Rattle.wire.proofs.FrameLaws.{frame-numbered, readFrame-yes}
 use Rattle.wire.proofs.FrameTrips.{frame-accepted}
 use Rattle.wire.proofs.ImageLaws.{image-numbered, readImage-number}
-use Rattle.wire.proofs.ImageTrips.{image-accepted, image-length-is-told}
+use Rattle.wire.proofs.ImageTrips.{image-accepted, image-length-is-told, image-read-ordered, image-read-bytes}
 use Rattle.host.specs.Frames.{fours, inFrames, framesBytes, framesLimit}
 use Rattle.host.specs.Call.{minus, nodeIn, savingQuestions, saved, savedOut, takingQuestions, nodeAfter, frameTaken, frameTakenOut}
 use Rattle.host.specs.Call.{enteringQuestions, nodeEntered, keyEntered, keyEnteredOut, beatImageQuestions, nodeServed, framesSent}
@@ -40,7 +41,7 @@ use Rattle.host.proofs.TurnPaths.{ordered-takenInTurn}
 use Rattle.host.proofs.FramesLaws.{flatten-fours, fours-mem}
 use Rattle.host.proofs.Passing.{allPass-mem, sending-spanned, spanned-passes}
 use Rattle.host.proofs.EnterPaths.{fits-six, ordered-entered}
-use Rattle.host.proofs.LibPaths.{sixes, readImage-ordered}
+use Rattle.host.proofs.LibPaths.{sixes}
 use Rattle.host.proofs.Fitting.{Narrow, narrow-fits, narrow-read, narrow-takenInTurn, narrow-served, narrow-entered, sending-fits}
 
 -- ---- a call that returned a length was not refused
@@ -83,7 +84,7 @@ module _ (image : List ℕ) (b : List Question) (z : firstNo (readImageQuestions
   behind = firstNo-rest (readImageQuestions image) b (image-numbered image) z
 
   ordered : Ordered (nodeIn image)
-  ordered = nodeInOrder-ordered (nodeIn image) (readImage-ordered image read)
+  ordered = nodeInOrder-ordered (nodeIn image) (image-read-ordered image read)
 
   narrow : Below byte image → Narrow (nodeIn image)
   narrow below = narrow-read image below read
@@ -94,6 +95,16 @@ module _ (image : List ℕ) (b : List Question) (z : firstNo (readImageQuestions
 pub next-call-takes : (image : List ℕ) (n : Node) → readImage image ≡ record { number = 0; node = n }
     → (firstNo (readImageQuestions image) ≡ 0) × (nodeIn image ≡ n)
 next-call-takes image n e = (sym (readImage-number image) ∙ ap (λ (r : Imaged). r .number) e, ap (λ (r : Imaged). r .node) e)
+
+-- An image already saved is left behind once: without the claims that were left out it is read as the same node, and none is left out any more.
+pub used-image-is-read : (image : List ℕ) → Below byte image → readImage image .number ≡ 0
+    → (readImage (usedBytes image) ≡ readImage image) × (allTell (pendingOf (nodeIn image)) ≡ true)
+used-image-is-read image below done =
+    let n = nodeIn image in
+    let o = nodeInOrder-ordered n (image-read-ordered image done) in (
+      ap readImage (sym (image-read-bytes image done)) ∙ (node-read n o (narrow-read image below done) ∙ (λ i. record { number = sym done i; node = n })),
+      ordered-tells n o,
+    )
 
 -- The image that is written once a frame is taken is as long as the call says, and is read as the node that took the frame's claims.
 pub taken-image-is-read : (image frame out : List ℕ) (n : ℕ) → Below byte image → Below byte frame → frameTaken image frame (length out) ≡ pos n

@@ -80,7 +80,7 @@ takenUntil-end r cs i h e = rw (drop-of-length-le cs h) (λ j. record { number =
 
 -- ---- all of them
 
--- a claim that passes 2 to 5
+-- a claim that passes 2 to 5 and 16
 module _ (n : Node) (c : Claim) (o : Ordered n) (pass : judged c ≡ 0) where
   module _ (yes : question6 (ends c) (nodeKeys n) .yes ≡ true) where
     asked : firstNo (takeQuestions n c) ≡ 0

@@ -1,31 +1,19 @@
 // The node of an image: its keys in a lent run of zeros, and the rest.
 use keys::Store;
-use nodes::front_in;
+use nodes::admit_in;
 use rule::Rest;
 use wire::read_image_in;
 ghost use mathlib.Core.Path.{_≡_};
 ghost use Rattle.keys.specs.Store.{limit, zeros};
 ghost use Rattle.host.specs.Known.{Loaded};
 
-// Loads an image. Asks 14 and 1.
+// Loads an image. Asks 14 and 1; then pending claims that fail 16 are left out.
 pub(crate) fn load(image: &[u8], keys: &mut [u64; Store::LIMIT]) -> Rest
     requires { ⌜ now keys ≡ zeros limit ⌝ }
     ensures { λ r. ⌜ Loaded (now (image .entry)) (now (keys .exit)) r ⌝ }
 {
     let read = read_image_in(image, keys);
-    if read.number != 0 {
-        return read;
-    }
-    let table = read.table;
     let held = read.held;
     let places = &keys[..];
-    if !front_in(&places[..held], table, read.count) {
-        return Rest {
-            number: 1,
-            held,
-            table,
-            count: read.count,
-        };
-    }
-    read
+    admit_in(&places[..held], read)
 }

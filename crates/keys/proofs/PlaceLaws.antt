@@ -86,6 +86,12 @@ module _ {A : Type 0} where
       let long : length (new ++ (x ∷ [])) ≡ suc n = rw (length-append, e) (omega arith) in
       rw (putAt-zero, putAt-zero, e, drop-cons lent n x h, set-at new (getD lent n x) (drop (suc n) lent) x n e, long, append-assoc)
 
+  -- one element of what was written, once more
+  pub set-written : (xs ys lent : List A) (y x : A) (n : ℕ) → length xs ≡ n → set (putAt lent 0 (xs ++ y ∷ ys)) n x ≡ putAt lent 0 (xs ++ x ∷ ys)
+  set-written xs ys lent y x n e =
+      rw (putAt-zero, putAt-zero, length-append, length-append, append-assoc xs (y ∷ ys), append-assoc xs (x ∷ ys))
+      (set-at xs y (ys ++ drop (length xs + suc (length ys)) lent) x n e)
+
   -- what was written stands in front
   pub take-front : (lent xs : List A) (n : ℕ) → length xs ≡ n → take n (putAt lent 0 xs) ≡ xs
   take-front lent xs n e = rw putAt-zero (take-at xs (drop (length xs) lent) n e)

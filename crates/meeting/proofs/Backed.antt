@@ -1,5 +1,5 @@
 -- What a claim is worth, whoever made it and whenever it arrives: it is the claim of some span of keys of u (`Backed`). In order: the record; it
--- stays so while u grows, however late or often the claim is delivered; such a claim passes questions 2 to 5 and adds only keys of u; all claims that
+-- stays so while u grows, however late or often the claim is delivered; such a claim passes questions 2 to 5 and 16 and adds only keys of u; all claims that
 -- the calls make are backed: of positions, of a reply, of a beat, of a round. Assumes nothing.
 use Prim.Native.Nat.{ℕ, zero, suc, _+_, _-_, _≤_, _<_}
 use mathlib.Core.List.{List, [], _∷_, _++_, List·Memᴰ, List·Memᴰ·head}

@@ -1,7 +1,7 @@
 -- What follows besides. In order: any beginning of a list that is meant is one, with no more keys entered; at any time in a list with at most 1,024 different
 -- keys entered in all, no round gets 8 (`never-8`), no delivery of a claim made before is refused (`made-accepted`), and entering gets 6 only when 1,024
 -- different keys are entered already and this is none of them (`entering-6`): nothing is turned away for want of space before the limit is really reached.
--- Then, without that premise: claims once made pass questions 2 to 5 for ever; both stores stay within their union and lose no key.
+-- Then, without that premise: claims once made pass questions 2 to 5 and 16 for ever; both stores stay within their union and lose no key.
 -- Assumes nothing.
 use Prim.Native.Nat.{ℕ, suc, _+_, _≤_}
 use mathlib.Core.Bool.{Bool, true, false}
@@ -207,7 +207,7 @@ pub entering-6 : (n : ℕ) (es : List Event) → AllMeant n es start → differe
     (k x : ℕ) → outcome (enters k x) (end before .kiosks) .number ≡ 6 → (different (enteredIn before) ≡ limit) × (List·Memᴰ x (enteredIn before) → ⊥)
 entering-6 n es m h before others e = good-entering-6 n (end before) (enteredIn before) (good-before n before others es m e) (few-before before others es e h)
 
--- ---- claims once made pass questions 2 to 5 for ever, however many keys are entered
+-- ---- claims once made pass questions 2 to 5 and 16 for ever, however many keys are entered
 
 pub made-judged : (n : ℕ) (es : List Event) → AllMeant n es start → (c : Claim) → List·Memᴰ c (end es .made) → judged c ≡ 0
 made-judged n es m c i = judged-firstNo c ∙ passes-firstNo c (backed-passes (enteredIn es) c (good-end n es m .backed c i))

@@ -12,8 +12,8 @@ use Rattle.keys.specs.Store.{limit, zeros, storeOf, emptyStore, inOrder, allZer
 use Rattle.keys.specs.Place.{putAt}
 use Rattle.claims.specs.Cases.{claim}
 use Rattle.claims.specs.Reply.{third, answer}
-use Rattle.claims.specs.Call.{judged, entered, made, replied}
-use Rattle.rule.specs.Node.{blanks, nodeOf, emptyNode, nodeInOrder}
+use Rattle.claims.specs.Call.{judged, judgedFormerly, entered, made, replied}
+use Rattle.rule.specs.Node.{blanks, nodeOf, emptyNode, savedInOrder, nodeInOrder}
 use Rattle.rule.specs.Round.{leftEnd, Entry, run, runAll, half, roundOf}
 use Rattle.rule.specs.Call.{taken, beaten, beatenLent, met, metLent}
 use Rattle.rule.proofs.Half.{opening}
@@ -26,8 +26,8 @@ use Rattle.meeting.proofs.Meeting.{BothEnd}
 
 -- all that has to be opened to compute with the calls
 opened : Unit {0}
-unfolding zeros storeOf emptyStore inOrder putAt third answer judged entered made replied blanks nodeOf emptyNode nodeInOrder
-    run runAll half roundOf taken beaten beatenLent met metLent outcome
+unfolding zeros storeOf emptyStore inOrder putAt third answer judged judgedFormerly entered made replied blanks nodeOf emptyNode savedInOrder
+    nodeInOrder run runAll half roundOf taken beaten beatenLent met metLent outcome
 opened = tt
 
 zero-one : _≡_ {A = ℕ} 0 1 → ⊥
@@ -36,6 +36,9 @@ zero-one e = omega arith
 two-zero : _≡_ {A = ℕ} 2 0 → ⊥
 two-zero e = omega arith
 
+no-16 : _≡_ {A = ℕ} 16 0 → ⊥
+no-16 e = omega arith
+
 -- ---- a list in which keys cross in every way
 
 -- it is meant: each delivered claim was made before, or is refused
@@ -43,11 +46,11 @@ pub crossing-meant : AllMeant 3 crossing start
 unfolding opened
 crossing-meant =
     let late = List·Memᴰ·head refl in
-    let by-the-beat = List·Memᴰ·tail (List·Memᴰ·tail (List·Memᴰ·tail (List·Memᴰ·head refl))) in
+    let sent = List·Memᴰ·tail (List·Memᴰ·tail (List·Memᴰ·tail (List·Memᴰ·head refl))) in
     let k0 = lit< tt in
     let k1 = lit< tt in
     let k2 = lit< tt in
-    (k0, (k0, (k1, ((k0, k1, zero-one), (k0, (k0, ((k2, inl by-the-beat), (k2, ((k2, inl late), ((k2, inl late), ((k1, inr two-zero), tt)))))))))))
+    (k0, (k0, (k1, ((k0, k1, zero-one), (k0, (k0, ((k2, inl sent), (k2, ((k2, inl late), ((k2, inl late), ((k1, inr two-zero), ((k1, inr no-16), tt))))))))))))
 
 pub crossing-few : different (enteredIn crossing) ≤ limit
 unfolding opened
@@ -58,8 +61,8 @@ pub crossing-made : end crossing .made ≡ claim 5 5 5 1 ∷ claim 5 5 5 1 ∷ c
 unfolding opened
 crossing-made = refl
 
--- two calls are refused, the others are carried out
-pub crossing-numbers : numbers crossing start ≡ 0 ∷ 0 ∷ 0 ∷ 0 ∷ 0 ∷ 0 ∷ 0 ∷ 7 ∷ 0 ∷ 0 ∷ 2 ∷ []
+-- three calls are refused, the others are carried out
+pub crossing-numbers : numbers crossing start ≡ 0 ∷ 0 ∷ 0 ∷ 0 ∷ 0 ∷ 0 ∷ 0 ∷ 7 ∷ 0 ∷ 0 ∷ 2 ∷ 16 ∷ []
 unfolding opened
 crossing-numbers = refl
 

@@ -15,7 +15,8 @@ abbrev pub lentRecords : ℕ → List Delivery
 lentRecords n = replicate n stale
 
 -- Three kiosks. The keys 5 and 9 cross by a round; by a beat and a delivery to the table they come to a third kiosk, and 7 between them; the claim of 5, made
--- first of all, arrives late and twice; a claim that no store made is refused, and so is one made of positions that are not there.
+-- first of all, arrives late and twice; claims that no store made are refused, one of three that none could make among them, and so is one made of positions
+-- that are not there.
 abbrev pub crossing : List Event
 crossing =
     enters 0 5
@@ -29,6 +30,7 @@ crossing =
     ∷ delivers 2 To.reply (claim 5 5 5 1)
     ∷ delivers 2 To.reply (claim 5 5 5 1)
     ∷ delivers 1 To.reply (claim 9 5 12 2)
+    ∷ delivers 1 To.table (claim 5 9 0 3)
     ∷ []
 
 -- Three kiosks, and claims that are passed on. Kiosk 1, empty, hears the claim of kiosk 0 and asks; what it asks goes to kiosk 2, which helps; what helps

@@ -1,26 +1,27 @@
--- What taking a claim into a lent node means (specs/Lent against rule's Table and Call). In order: how many claims of a table come before one, which is
--- what halving finds where the table rises; what is found and put in is `tableWith` then; what a refusal leaves; and of a node in order, `takeIn` is
--- `taken`. Assumes nothing.
+-- What the calls of specs/Lent mean, by rule's Table, Node and Call. In order: what an image holds, admitted; how many claims of a table come before one,
+-- which is what halving finds where the table rises; what is found and put in is `tableWith` then; what a refusal leaves; and of a node in order,
+-- `takeIn` is `taken`. Assumes nothing.
 use mathlib.Core.Path.{_≡_, refl, sym, _∙_, ap, subst}
 use mathlib.Core.Bool.{Bool, true, false, cond, not, _&&_, false≢true}
 use mathlib.Core.Logic.{⊎-elim}
-use mathlib.Core.List.{List, [], _∷_, _++_}
+use mathlib.Core.List.{List, [], _∷_, _++_, append-assoc}
 use Prim.Native.Nat.{ℕ, zero, suc, _+_, _-_, _/_, _≤_, _<_, min}
 use native.Mathlib.Omega.{arith}
-use borrow.Author.Tests.{lt-ltb, le-ltb, ltb-true, eqb-true, eqb-false, eq-eqb, ne-eqb}
+use borrow.Author.Tests.{le-leb, lt-ltb, le-ltb, ltb-true, eqb-true, eqb-false, eq-eqb, ne-eqb}
 use lib.Dec.{ltb, eqb}
-use lib.ListN.{length, take, drop, getD, length-take, length-drop}
-use lib.Seq.{length-take-le, take-all, drop-drop}
+use lib.ListN.{length, take, drop, getD, length-append, length-take, length-drop}
+use lib.Seq.{length-take-le, take-all, take-append-seam, drop-append-seam, drop-drop}
 use Rattle.keys.specs.declared.store.Store.{Store}
 use Rattle.keys.specs.Store.{limit, storeOf, insertAll}
 use Rattle.keys.specs.Place.{putAt}
 use Rattle.keys.proofs.Tests.{and-left, and-right, lt-or-le, eq-or-ne}
 use Rattle.keys.proofs.Rising.{Rising}
+use Rattle.keys.proofs.PlaceLaws.{putAt-zero}
 use Rattle.keys.proofs.StoreLaws.{inOrder-rising, storeOf-keysOf}
 use Rattle.claims.specs.declared.claim.Claim.{Claim}
 use Rattle.claims.specs.Claim.{noClaim}
 use Rattle.claims.specs.Reply.{same, ends, withEnds, hear}
-use Rattle.claims.specs.Question.{firstNo, question6, claimQuestions}
+use Rattle.claims.specs.Question.{firstNo, question6, question16, claimQuestions}
 use Rattle.claims.specs.Call.{judged}
 use Rattle.claims.specs.Lent.{hearIn}
 use Rattle.claims.proofs.ClaimLaws.{same-claim}
@@ -30,11 +31,42 @@ use Rattle.rule.specs.Table.{tableLimit, before, climbsFrom, climbs, insertClai
 use Rattle.rule.specs.Call.{takeQuestions, taken}
 use Rattle.rule.specs.declared.node.Node.{Node}
 use Rattle.rule.specs.declared.answer.Taken.{Taken}
-use Rattle.rule.specs.Node.{blanks, pendingOf, nodeKeys, nodeOf}
-use Rattle.rule.proofs.TableLaws.{before-trans, before-total, climbsFrom-climbs}
-use Rattle.rule.proofs.NodeLaws.{Ordered, ordered-nodeInOrder, blanks-allUnused, drop-blanks}
+use Rattle.rule.specs.Node.{blanks, pendingOf, nodeKeys, nodeOf, telling, savedInOrder}
+use Rattle.rule.proofs.TableLaws.{before-trans, before-total, climbsFrom-climbs, length-those}
+use Rattle.rule.proofs.NodeLaws.{Ordered, ordered-nodeInOrder, length-blanks, blanks-append, blanks-allUnused, drop-blanks, pendingOf-nodeOf}
 use Rattle.rule.proofs.CallLaws.{takeQuestions-yes, takeQuestions-6, taken-done, taken-refused, ordered-taken, length-pendingOf}
-use Rattle.nodes.specs.Lent.{halvedTo, placeAmong, isAt, placedAt, tableIn, takeIn}
+use Rattle.nodes.specs.Lent.{restOf, frontIn, leftOut, admitIn, halvedTo, placeAmong, isAt, placedAt, tableIn, takeIn}
+
+-- ---- what an image holds, admitted
+
+module _ (l : List ℕ) (t : List Claim) (few : length t ≤ tableLimit) where
+  judged-is : frontIn l (nodeOf l t .pending) (nodeOf l t .count) ≡ savedInOrder (nodeOf l t)
+  unfolding nodeOf
+  judged-is = rw (le-leb (length t) tableLimit few, take-append-seam t (blanks (tableLimit - length t)))
+
+  -- the claims that pass 16, and zeros
+  left-is : leftOut (nodeOf l t .pending) (nodeOf l t .count) ≡ nodeOf l (telling t) .pending
+  unfolding nodeOf
+  left-is =
+      let rest = blanks (tableLimit - length t) in
+      let zeros = blanks (length t - length (telling t)) in
+      let fewer : length (telling t) ≤ length t = length-those (λ (c : Claim). question16 c .yes) t in
+      let many : length (telling t ++ zeros) ≡ length t = omega (arith, length-append (telling t) zeros, length-blanks (length t - length (telling t))) in
+      let all : length t - length (telling t) + (tableLimit - length t) ≡ tableLimit - length (telling t) = omega arith in
+      rw (take-append-seam t rest, putAt-zero (t ++ rest) (telling t ++ zeros), many, drop-append-seam t rest, append-assoc (telling t) zeros rest)
+      (ap (λ (x : List Claim). telling t ++ x) (blanks-append (length t - length (telling t)) (tableLimit - length t) ∙ ap blanks all))
+
+  -- An image that passes 1 is admitted as the node of its keys and of the claims that pass 16.
+  pub admitIn-saved : savedInOrder (nodeOf l t) ≡ true → admitIn l (restOf (nodeOf l t)) ≡ restOf (nodeOf l (telling t))
+  unfolding admitIn nodeOf
+  admitIn-saved e =
+      let many : length (telling (pendingOf (nodeOf l t))) ≡ length (telling t) = ap (λ (x : List Claim). length (telling x)) (pendingOf-nodeOf l t) in
+      rw (judged-is, e) (λ i. record { number = 0; held = storeOf l .count; table = left-is i; count = many i })
+
+  -- One that does not is refused with 1.
+  pub admitIn-unsaved : savedInOrder (nodeOf l t) ≡ false → admitIn l (restOf (nodeOf l t)) .number ≡ 1
+  unfolding admitIn
+  admitIn-unsaved e = rw (judged-is, e)
 
 -- ---- how many claims of a table come before one
 

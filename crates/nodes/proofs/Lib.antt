@@ -1,9 +1,11 @@
 -- The laws of `nodes`. A file uses only those named before it.
---   LentLaws      what taking a claim into a lent node means (specs/Lent)
---   OrderPaths    one law for each way that the code of src/order.rt goes
---   TakingPaths   the same of src/taking.rt
---   Cases         a refusal that leaves the node as it was
+--   LentLaws        what admitting an image and taking a claim into a lent node mean (specs/Lent)
+--   OrderPaths      one law for each way that the code of src/order.rt goes
+--   AdmittingPaths  the same of src/admitting.rt
+--   TakingPaths     the same of src/taking.rt
+--   Cases           a refusal that leaves the node as it was
 pub mod LentLaws
 mod OrderPaths
+mod AdmittingPaths
 mod TakingPaths
 mod Cases

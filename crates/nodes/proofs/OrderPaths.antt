@@ -2,7 +2,7 @@
 -- zeros, before which none comes; a claim that fits; the loops over the table, of which what is left computes the answer; the node.
 -- Assumes nothing.
 use mathlib.Core.Path.{_≡_, refl, sym, _∙_, ap}
-use mathlib.Core.Bool.{Bool, true, false, cond, not, _&&_, false≢true, and-true, and-false, and-assoc}
+use mathlib.Core.Bool.{Bool, true, false, cond, not, _&&_, false≢true, and-true, and-false, and-assoc, and-comm}
 use mathlib.Core.List.{List, [], _∷_, _++_}
 use Prim.Native.Nat.{ℕ, _+_, _-_, _≤_, _<_}
 use native.Mathlib.Numerals.{add-one}
@@ -19,13 +19,16 @@ use Rattle.keys.proofs.LentLaws.{orderedIn-inOrder, orderedIn-all, placeIn-orde
 use Rattle.claims.specs.declared.claim.Claim.{Claim}
 use Rattle.claims.specs.Claim.{noClaim}
 use Rattle.claims.specs.Reply.{ends, same}
-use Rattle.claims.specs.Call.{judged}
+use Rattle.claims.specs.Question.{question16}
+use Rattle.claims.specs.Call.{judgedFormerly}
 use Rattle.claims.proofs.ClaimLaws.{same-claim}
+use Rattle.rule.specs.declared.node.Node.{Node}
 use Rattle.rule.specs.Table.{tableLimit, before, climbsFrom, climbs}
-use Rattle.rule.specs.Node.{blanks, holdsAll, allFit, allUnused, nodeOf, nodeInOrder}
+use Rattle.rule.specs.Node.{blanks, holdsAll, allFit, allTell, allUnused, nodeOf, savedInOrder, nodeInOrder}
 use Rattle.rule.proofs.NodeLaws.{allUnused-blanks}
 use Rattle.rule.proofs.TableLaws.{before-total}
-use Rattle.nodes.specs.Lent.{nodeWith, pending, frontIn}
+use Rattle.nodes.specs.declared.order.Order.{Order}
+use Rattle.nodes.specs.Lent.{nodeWith, pending, orderOf, frontIn}
 use Rattle.nodes.proofs.LentLaws.{before-not-same}
 
 -- ---- two claims compared
@@ -73,8 +76,8 @@ before-noClaim-not c h = go (same c noClaim) refl
     go false e = absurd (false≢true (sym h ∙ before-total noClaim c (before-noClaim c) e))
 
 -- it is refused with 3
-judged-noClaim : judged noClaim ≡ 3
-unfolding judged
+judged-noClaim : judgedFormerly noClaim ≡ 3
+unfolding judgedFormerly
 judged-noClaim = refl
 
 -- ---- a claim that fits: the store, seen as a run of keys
@@ -88,16 +91,16 @@ module _ (keys : List ℕ) (held : ℕ) (c : Claim) (yes : orderedIn keys held �
   held-place : (k : ℕ) (p : Place) → p ≡ placeIn keys held k → holds k (take held keys) ≡ p .held
   held-place k p found = sym (ap (λ (x : Place). x .held) (found ∙ placeIn-ordered keys held k yes))
 
-  module _ (n : ℕ) (number : n ≡ judged c) where
-    pub fits-judged : (n ≡ 0 → ⊥) → false ≡ (eqb (judged c) 0 && holdsAll (ends c) (take held keys))
+  module _ (n : ℕ) (number : n ≡ judgedFormerly c) where
+    pub fits-judged : (n ≡ 0 → ⊥) → false ≡ (eqb (judgedFormerly c) 0 && holdsAll (ends c) (take held keys))
     fits-judged f = rw (← number, ne-eqb n 0 f)
 
     module _ (pass : n ≡ 0) (p : Place) (lower : p ≡ placeIn keys held (c .lo)) where
-      pub fits-lo : not (p .held) ≡ true → false ≡ (eqb (judged c) 0 && holdsAll (ends c) (take held keys))
+      pub fits-lo : not (p .held) ≡ true → false ≡ (eqb (judgedFormerly c) 0 && holdsAll (ends c) (take held keys))
       fits-lo e = rw (← number, eq-eqb n 0 pass, held-place (c .lo) p lower, not-true (p .held) e)
 
       pub fits-hi : not (p .held) ≡ false → (q : Place) → q ≡ placeIn keys held (c .hi)
-          → q .held ≡ (eqb (judged c) 0 && holdsAll (ends c) (take held keys))
+          → q .held ≡ (eqb (judgedFormerly c) 0 && holdsAll (ends c) (take held keys))
       fits-hi e q upper =
           rw (← number, eq-eqb n 0 pass, held-place (c .lo) p lower, not-false (p .held) e, and-true) (sym (held-place (c .hi) q upper))
 
@@ -116,7 +119,7 @@ pending-first (c ∷ cs) l = go (before noClaim c) refl
     go true e = refl
     go false e =
         let zeros : c ≡ noClaim = same-claim c noClaim (before-noClaim-not c e) in
-        let refused : judged c ≡ 3 = ap judged zeros ∙ judged-noClaim in
+        let refused : judgedFormerly c ≡ 3 = ap judgedFormerly zeros ∙ judged-noClaim in
         rw (refused, and-false)
 
 -- the next claim of the first `count` places
@@ -126,34 +129,78 @@ drop-take-cons table count i d h g =
     rw (add-one, ← getD-take count table i d h)
     (drop-cons (take count table) i d (let n : length (take count table) ≡ count = length-take-le count table g in omega arith))
 
-module _ (t : List Claim) (l : List ℕ) (last : Claim) (i : ℕ) (left : pending t l ≡ pendingFrom last (drop i t) l)
-    (c : Claim) (next : drop i t ≡ c ∷ drop (i + 1) t) where
-  -- by what the comparison said, and then the test whether the claim fits
-  module _ (rose : Bool) (compared : rose ≡ before last c) where
-    pub pending-fall : not rose ≡ true → false ≡ pending t l
-    pending-fall e = rw (left, next, ← compared, not-true rose e)
+-- Before claim i: all of them rise and fit exactly if those from i on rise from above `last` and fit, and all pass 16 exactly if none before i failed it and
+-- those from i on pass it.
+pub record Looking (table : List Claim) (count : ℕ) (l : List ℕ) (last : Claim) (i : ℕ) (given : Bool) : Type 0 where
+  pub passed : i ≤ count
+  pub left : pending (take count table) l ≡ pendingFrom last (drop i (take count table)) l
+  pub told : allTell (take count table) ≡ (given && allTell (drop i (take count table)))
 
-    module _ (rises : not rose ≡ false) (fits : Bool) (tested : fits ≡ (eqb (judged c) 0 && holdsAll (ends c) l)) where
-      -- what is left to ask: this claim, and those behind it
-      left-is : pending t l ≡ (climbsFrom c (drop (i + 1) t) && (fits && allFit (drop (i + 1) t) l))
-      left-is =
-          rw (
-            left,
-            next,
-            ← compared,
-            not-false rose rises,
-            ← and-assoc (eqb (judged c) 0) (holdsAll (ends c) l) (allFit (drop (i + 1) t) l),
-            ← tested,
-          )
+-- what the code is to return
+abbrev looked : List Claim → ℕ → List ℕ → Order
+looked table count l = orderOf (pending (take count table) l) (allTell (take count table))
 
-      pub pending-unfit : not fits ≡ true → false ≡ pending t l
-      pending-unfit e = sym (left-is ∙ rw (not-true fits e, and-false))
+pub looking-first : (table : List Claim) (count : ℕ) (l : List ℕ) → Looking table count l noClaim 0 true
+looking-first table count l = record { passed = omega arith; left = pending-first (take count table) l; told = refl }
 
-      pub pending-on : not fits ≡ false → pending t l ≡ pendingFrom c (drop (i + 1) t) l
-      pending-on e = left-is ∙ rw (not-false fits e)
+module _ (table : List Claim) (count : ℕ) (l : List ℕ) (few : count ≤ tableLimit) (whole : length table ≡ tableLimit) {last : Claim} {i : ℕ} {given : Bool}
+    (k : Looking table count l last i given) where
+  module _ (inside : i < count) where
+    abbrev c : Claim
+    c = getD table i noClaim
 
-pub pending-all : (t : List Claim) (l : List ℕ) (last : Claim) (i : ℕ) → pending t l ≡ pendingFrom last (drop i t) l → length t ≤ i → true ≡ pending t l
-pending-all t l last i left h = rw (left, drop-of-length-le t)
+    abbrev rest : List Claim
+    rest = drop (i + 1) (take count table)
+
+    next : drop i (take count table) ≡ c ∷ rest
+    next = drop-take-cons table count i noClaim inside (omega arith)
+
+    -- by what the comparison said, and then the tests whether the claim fits and passes 16
+    module _ (rose : Bool) (compared : rose ≡ before last c) where
+      fallen : not rose ≡ true → pending (take count table) l ≡ false
+      fallen e = rw (k .left, next, ← compared, not-true rose e)
+
+      pub looking-fall : not rose ≡ true → (r : Order) → r ≡ orderOf false false → r ≡ looked table count l
+      looking-fall e r is = is ∙ rw (fallen e)
+
+      module _ (rises : not rose ≡ false) (fits : Bool) (tested : fits ≡ (eqb (judgedFormerly c) 0 && holdsAll (ends c) l)) where
+        -- what is left to ask: this claim, and those behind it
+        left-is : pending (take count table) l ≡ (climbsFrom c rest && (fits && allFit rest l))
+        left-is =
+            rw (
+              k .left,
+              next,
+              ← compared,
+              not-false rose rises,
+              ← and-assoc (eqb (judgedFormerly c) 0) (holdsAll (ends c) l) (allFit rest l),
+              ← tested,
+            )
+
+        pub looking-unfit : not fits ≡ true → (r : Order) → r ≡ orderOf false false → r ≡ looked table count l
+        looking-unfit e r is =
+            let no : pending (take count table) l ≡ false = left-is ∙ rw (not-true fits e, and-false) in
+            is ∙ rw no
+
+        module _ (fit : not fits ≡ false) (tells : Bool) (asked : tells ≡ question16 c .yes) where
+          pub looking-not : not tells ≡ true → Looking table count l c (i + 1) false
+          looking-not e = record {
+            passed = omega arith;
+            left = left-is ∙ rw (not-false fits fit);
+            told = k .told ∙ rw (next, ← asked, not-true tells e, and-false);
+          }
+
+          pub looking-on : not tells ≡ false → Looking table count l c (i + 1) given
+          looking-on e = record {
+            passed = omega arith;
+            left = left-is ∙ rw (not-false fits fit);
+            told = k .told ∙ rw (next, ← asked, not-false tells e);
+          }
+
+  pub looking-done : count ≤ i → record { saved = true; given = given } ≡ looked table count l
+  looking-done past =
+      let none : drop i (take count table) ≡ [] =
+      drop-of-length-le (take count table) {i = i} (omega (arith, length-take-le count table (omega arith))) in
+      rw (k .left, k .told, none, and-true given)
 
 -- ---- the unused places
 
@@ -174,52 +221,68 @@ unused-all table count i left h = rw (left, drop-of-length-le table)
 
 -- ---- the node, by what was found of its parts
 
+and-swap : (a b c : Bool) → ((a && b) && c) ≡ ((a && c) && b)
+and-swap true b c = and-comm b c
+and-swap false b c = refl
+
 module _ (keys : List ℕ) (held : ℕ) (table : List Claim) (count : ℕ) (long : length keys ≡ limit)
     (ordered : Bool) (tested : ordered ≡ orderedIn keys held) where
+  -- the node, which is in order if it is as one in an image and its claims pass 16
+  abbrev node : Node
+  node = nodeWith keys held table count
+
   tested-store : inOrder (storeWith keys held) ≡ ordered
   tested-store = sym (tested ∙ orderedIn-inOrder (storeWith keys held) long)
 
-  pub ordered-store : not ordered ≡ true → false ≡ nodeInOrder (nodeWith keys held table count)
-  unfolding nodeInOrder
+  pub ordered-store : not ordered ≡ true → false ≡ nodeInOrder node
+  unfolding nodeInOrder savedInOrder
   ordered-store e = rw (tested-store, not-true ordered e)
 
   module _ (yes : not ordered ≡ false) where
-    pub ordered-count : tableLimit < count → false ≡ nodeInOrder (nodeWith keys held table count)
-    unfolding nodeInOrder
+    pub ordered-count : tableLimit < count → false ≡ nodeInOrder node
+    unfolding nodeInOrder savedInOrder
     ordered-count h = rw (tested-store, not-false ordered yes, lt-leb count tableLimit h)
 
-    module _ (few : count ≤ tableLimit) (pends : Bool) (looked : pends ≡ pending (take count table) (take held keys)) where
-      -- what is left to ask: the pending claims, and the unused places
-      left-to-ask : nodeInOrder (nodeWith keys held table count) ≡ (pends && allUnused (drop count table))
-      unfolding nodeInOrder
+    module _ (few : count ≤ tableLimit) (found : Order) (told : found ≡ looked table count (take held keys)) where
+      -- what is left to ask: the pending claims, 16 with them, and the unused places
+      left-to-ask : nodeInOrder node ≡ (found .given && allUnused (drop count table))
+      unfolding nodeInOrder savedInOrder
       left-to-ask =
+          let pends = pending (take count table) (take held keys) in
+          let tells = allTell (take count table) in
+          let blank = allUnused (drop count table) in
           rw (
             tested-store,
             not-false ordered yes,
             le-leb count tableLimit few,
-            ← and-assoc (climbs (take count table)) (allFit (take count table) (take held keys)) (allUnused (drop count table)),
-            looked,
+            ← and-assoc (climbs (take count table)) (allFit (take count table) (take held keys)) blank,
+            ap (λ (o : Order). o .given) told,
           )
+          (and-swap pends blank tells)
 
-      pub ordered-pending : not pends ≡ true → false ≡ nodeInOrder (nodeWith keys held table count)
-      ordered-pending e = sym (left-to-ask ∙ rw (not-true pends e))
+      pub ordered-pending : not (found .given) ≡ true → false ≡ nodeInOrder node
+      ordered-pending e = sym (left-to-ask ∙ rw (not-true (found .given) e))
 
-      pub ordered-unused : not pends ≡ false → (blank : Bool) → blank ≡ allUnused (drop count table) → blank ≡ nodeInOrder (nodeWith keys held table count)
-      ordered-unused e blank f = f ∙ sym (left-to-ask ∙ rw (not-false pends e))
+      pub ordered-unused : not (found .given) ≡ false → (blank : Bool) → blank ≡ allUnused (drop count table) → blank ≡ nodeInOrder node
+      ordered-unused e blank f = f ∙ sym (left-to-ask ∙ rw (not-false (found .given) e))
 
--- ---- the node of some keys and claims
+-- ---- the node of some keys and claims, as one in an image
 
-nodeInOrder-nodeOf : (l : List ℕ) (t : List Claim) → nodeInOrder (nodeOf l t) ≡ (inOrder (storeOf l) && (leb (length t) tableLimit && pending t l))
-unfolding nodeInOrder nodeOf
-nodeInOrder-nodeOf l t =
+savedInOrder-nodeOf : (l : List ℕ) (t : List Claim) → savedInOrder (nodeOf l t) ≡ (inOrder (storeOf l) && (leb (length t) tableLimit && pending t l))
+unfolding savedInOrder nodeOf
+savedInOrder-nodeOf l t =
     let b : List Claim = blanks (tableLimit - length t) in
     let front : take (length t) (t ++ b) ≡ t = take-at t b (length t) refl in
     let past : drop (length t) (t ++ b) ≡ b = drop-at t b (length t) refl in
     rw (front, past, keysOf-storeOf l, allUnused-blanks (tableLimit - length t), and-true (allFit t l))
 
 module _ (keys : List ℕ) (table : List Claim) (count : ℕ) where
-  pub front-count : tableLimit < count → false ≡ frontIn keys table count
-  front-count h = rw (lt-leb count tableLimit h)
+  -- what the code is to return
+  abbrev fronted : Order
+  fronted = orderOf (frontIn keys table count) (allTell (take count table))
+
+  pub front-count : tableLimit < count → (r : Order) → r ≡ orderOf false false → r ≡ fronted
+  front-count h r is = is ∙ rw (lt-leb count tableLimit h)
 
   module _ (few : count ≤ tableLimit) (ordered : Bool) (tested : ordered ≡ orderedIn keys (length keys)) where
     -- what is left to ask: the keys and the claims
@@ -228,15 +291,14 @@ module _ (keys : List ℕ) (table : List Claim) (count : ℕ) where
         let short : length (take count table) ≤ tableLimit = rw (length-take count table) (omega arith) in
         rw (
           le-leb count tableLimit few,
-          nodeInOrder-nodeOf keys (take count table),
+          savedInOrder-nodeOf keys (take count table),
           ← orderedIn-all keys,
           ← tested,
           le-leb (length (take count table)) tableLimit short,
         )
 
-    pub front-store : not ordered ≡ true → false ≡ frontIn keys table count
-    front-store e = sym (front-is ∙ rw (not-true ordered e))
+    pub front-store : not ordered ≡ true → (r : Order) → r ≡ orderOf false false → r ≡ fronted
+    front-store e r is = is ∙ rw (front-is, not-true ordered e)
 
-    pub front-pending : not ordered ≡ false → (pends : Bool) → pends ≡ pending (take count table) (take (length keys) keys) → pends ≡ frontIn keys table count
-    front-pending e pends looked =
-        looked ∙ (ap (λ (l : List ℕ). pending (take count table) l) (take-length keys) ∙ sym (front-is ∙ rw (not-false ordered e)))
+    pub front-pending : not ordered ≡ false → (r : Order) → r ≡ orderOf (pending (take count table) (take (length keys) keys)) (allTell (take count table)) → r ≡ fronted
+    front-pending e r is = is ∙ rw (take-length keys, front-is, not-false ordered e)

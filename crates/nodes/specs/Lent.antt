@@ -1,5 +1,5 @@
--- Calls between our own crates, on a node whose keys are lent, so that none is copied: the test of the order of what was read, and a claim taken into a
--- node that was tested before, so that a frame of claims pays question 1 once. They are total, and no rule of document 01. A number other than 0 means
+-- Calls between our own crates, on a node whose keys are lent, so that none is copied: what was read of an image is judged and admitted, and a claim is taken
+-- into a node that was judged before, so that a frame of claims pays question 1 once. They are total, and no rule of document 01. A number other than 0 means
 -- that the node is what it was (`takeIn-kept` of proofs/LentLaws). What they mean where the node is in order is said by laws (proofs/LentLaws), by the
 -- definitions of Table, Node and Call. Assumes nothing.
 use mathlib.Core.Path.{_≡_}
@@ -18,19 +18,45 @@ use Rattle.rule.specs.declared.node.Node.{Node}
 use Rattle.rule.specs.declared.answer.Rest.{Rest}
 use Rattle.rule.specs.declared.answer.Taken.{Taken}
 use Rattle.rule.specs.Table.{tableLimit, before, climbs}
-use Rattle.rule.specs.Node.{pendingOf, nodeOf, allFit, nodeInOrder}
+use Rattle.rule.specs.Node.{blanks, pendingOf, nodeOf, allFit, telling, savedInOrder}
+use Rattle.nodes.specs.declared.order.Order.{Order}
 
 -- the node of these parts: a run of keys and how many are held, a table and how many are pending
 abbrev pub nodeWith : List ℕ → ℕ → List Claim → ℕ → Node
 nodeWith keys held table count = record { store = storeWith keys held; pending = table; count = count }
 
+-- a node beside its keys
+abbrev pub restOf : Node → Rest
+restOf n = record { number = 0; held = n .store .count; table = n .pending; count = n .count }
+
 -- do the claims t rise strictly, and does each pass questions 2 to 5 and have lo and hi among the keys l?
 abbrev pub pending : List Claim → List ℕ → Bool
 pending t l = climbs t && allFit t l
 
--- `front_in`: is the node of these keys and of the first `count` claims of a table in order?
+-- in order, as in an image if `saved`, and as given if each claim passes 16 too
+abbrev pub orderOf : Bool → Bool → Order
+orderOf saved told = record { saved = saved; given = saved && told }
+
+-- is the node of these keys and of the first `count` claims of a table in order, as one in an image?
 abbrev pub frontIn : List ℕ → List Claim → ℕ → Bool
-frontIn keys table count = leb count tableLimit && nodeInOrder (nodeOf keys (take count table))
+frontIn keys table count = leb count tableLimit && savedInOrder (nodeOf keys (take count table))
+
+-- the places of a table once the claims that fail 16 are left out of the first `count`: the others, then zeros; what stands past them is as it was
+abbrev pub leftOut : List Claim → ℕ → List Claim
+leftOut table count = putAt table 0 (telling (take count table) ++ blanks (count - length (telling (take count table))))
+
+-- what is admitted: so many keys, and the claims that are left
+abbrev pub restLeft : ℕ → List Claim → ℕ → Rest
+restLeft held table count = record { number = 0; held = held; table = leftOut table count; count = length (telling (take count table)) }
+
+-- `admit_in`: what was read of an image is judged, and what fails 16 is left out; what was refused stays so
+unfoldable pub admitIn : List ℕ → Rest → Rest
+admitIn keys r =
+    settle (r .number)
+    (cond (frontIn keys (r .table) (r .count))
+    (restLeft (r .held) (r .table) (r .count))
+    (record { number = 1; held = r .held; table = r .table; count = r .count }))
+    (λ n. r)
 
 -- Halving: of the `size` claims from `base` on, the half in which the first one stands that does not come before c; n times over.
 abbrev pub halvedTo : ℕ → List Claim → Claim → ℕ → ℕ → ℕ

@@ -1,5 +1,5 @@
 -- Calls between our own crates, and no rule of document 01: what they do to any content of a node.
---   Lent   the node of a lent run of keys and the rest of it: the test of what was read, and taking a claim into a node that was tested already
+--   Lent   the node of a lent run of keys and the rest of it: what an image holds judged and admitted, and taking a claim into a node that was judged already
 --   Cases  a refusal that leaves the node as it was
 pub mod Lent
 pub mod Cases

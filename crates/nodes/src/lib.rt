@@ -1,9 +1,10 @@
-// Nodes (document 01, "Pending table and beat"): the in-order test of a node, and taking a claim into its table. A beat is in `beats`.
+// Nodes (document 01, "Pending table and beat"): the in-order test of a node, what an image holds, and taking a claim into the table. A beat is in `beats`.
 // Each public call takes any content and states its whole result, and every lent place, by an equation with a definition.
+mod admitting;
 mod order;
 mod taking;
 
-pub use order::front_in;
+pub use admitting::admit_in;
 pub use order::ordered;
 pub use taking::take;
 pub use taking::take_in;

@@ -97,7 +97,7 @@ fn enlist(table: [Claim; Node::TABLE], count: usize, claim: Claim) -> Listed
     enlist_at(table, known, at, claim)
 }
 
-// Takes a claim into a node whose keys are lent. Asks 2 to 5 and 6.
+// Takes a claim into a node whose keys are lent. Asks 2 to 5, 16 and 6.
 pub fn take_in(
     keys: &mut [u64; Store::LIMIT],
     held: usize,
@@ -126,7 +126,7 @@ pub fn take_in(
     }
 }
 
-// Takes a claim. Asks 1, 2 to 5 and 6.
+// Takes a claim. Asks 1, 2 to 5, 16 and 6.
 pub fn take(node: Node, claim: Claim) -> Taken
     ensures { λ r. ⌜ r ≡ taken node claim ⌝ }
 {

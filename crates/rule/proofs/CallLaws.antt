@@ -37,7 +37,7 @@ use Rattle.rule.proofs.RoundLaws.{Rounded, rounded}
 
 -- ---- taking
 
--- questions 2 to 5 of a claim, then 6 of its ends: as taking asks, and a reply
+-- questions 2 to 5 and 16 of a claim, then 6 of its ends: as taking asks, and a reply
 pub claimQuestions-6 : (c : Claim) (l : List ℕ) → firstNo (claimQuestions c ++ (question6 (ends c) l ∷ [])) ≡ 0 →
     (firstNo (claimQuestions c) ≡ 0) × (length (insertAll (ends c) l) ≤ limit)
 claimQuestions-6 c l h =
@@ -57,7 +57,7 @@ takeQuestions-yes n c h =
     let b = claimQuestions-6 c (nodeKeys n) (a .1) in
     record { node = nodeInOrder-ordered n (a .0); judged = judged-firstNo c ∙ b .0; room = b .1 }
 
--- what is left to ask of a claim that passes 2 to 5, of a node in order, is 6
+-- what is left to ask of a claim that passes 2 to 5 and 16, of a node in order, is 6
 pub takeQuestions-6 : (n : Node) (c : Claim) → Ordered n → judged c ≡ 0 → firstNo (takeQuestions n c) ≡ firstNo (question6 (ends c) (nodeKeys n) ∷ [])
 takeQuestions-6 n c o pass =
     firstNo-yes (nodeQuestion1 n) (claimQuestions c ++ (question6 (ends c) (nodeKeys n) ∷ [])) (ordered-nodeInOrder n o)

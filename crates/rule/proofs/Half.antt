@@ -34,7 +34,7 @@ pub record Fine (u : List ℕ) (p : Pair) (q : List Entry) : Type 0 where
 fine-first : (u : List ℕ) (p : Pair) (e : Entry) (q : List Entry) → Fine u p (e ∷ q) → Sound p e
 fine-first u p e q f = f .sound e (List·Memᴰ·head refl)
 
--- the first claim passes questions 2 to 5
+-- the first claim passes questions 2 to 5 and 16
 pub fine-passes : (u : List ℕ) (p : Pair) (e : Entry) (q : List Entry) → Fine u p (e ∷ q) → Passes (e .claim)
 fine-passes u p e q f = sound-limit p e u (fine-first u p e q f) (f .within) (f .whole) (f .fits)
 

@@ -1,11 +1,11 @@
--- The pending table: `before`, `climbs`, `insertClaim`, `tableWith` and `serve` of Table. In order: words compared; claims compared; climbing
+-- The pending table: `before`, `climbs`, `those`, `insertClaim`, `tableWith` and `serve` of Table. In order: words compared; claims compared; climbing
 -- tables stay so when a claim is put in, the last is dropped and some leave; how many claims there are; what a beat sends and keeps.
 -- Not here: the node around the table (NodeLaws). Assumes nothing.
 use Prim.Native.Nat.{ℕ, zero, suc, _*_, _≤_, _<_}
 use mathlib.Core.Bool.{Bool, true, false, cond, _&&_, false≢true}
-use mathlib.Core.List.{List, [], _∷_, List·Memᴰ, List·Memᴰ·head, List·Memᴰ·tail, List·Memᴰ·not-nil, List·Memᴰ·append-cases, Memᴰ·append-left}
+use mathlib.Core.List.{List, [], _∷_, _++_, List·Memᴰ, List·Memᴰ·head, List·Memᴰ·tail, List·Memᴰ·not-nil, List·Memᴰ·append-cases, Memᴰ·append-left}
 use mathlib.Core.Logic.{_⊎_, inl, inr, ⊎-elim}
-use mathlib.Core.Path.{_≡_, refl, sym, _∙_, subst}
+use mathlib.Core.Path.{_≡_, refl, sym, ap, _∙_, subst}
 use native.Mathlib.Omega.{arith}
 use borrow.Author.Tests.{lt-ltb, le-ltb, eq-eqb, ne-eqb}
 use lib.ListN.{length, take, drop, length-append, length-take, take-append-drop}
@@ -16,7 +16,8 @@ use Rattle.claims.specs.declared.answer.Answer.the-variants.{Refused, Match, As
 use Rattle.claims.specs.Claim.{wholeClaim}
 use Rattle.claims.specs.Reply.{same, answer, claimsOf}
 use Rattle.claims.proofs.ClaimLaws.{claim-ext, claim-same}
-use Rattle.rule.specs.Table.{tableLimit, ranking, wordsBefore, before, climbsFrom, climbs, insertClaim, tableWith, remains, serve, sending, beatLimit}
+use Rattle.rule.specs.Table.{tableLimit, ranking, wordsBefore, before, climbsFrom, climbs, those, insertClaim, tableWith, remains, serve, sending}
+use Rattle.rule.specs.Table.{beatLimit}
 
 -- ---- words compared
 
@@ -126,9 +127,9 @@ climbs-take (suc n) (c ∷ cs) h = climbsFrom-take n c cs h
 pub climbs-tableWith : (c : Claim) (t : List Claim) → climbs t ≡ true → climbs (tableWith c t) ≡ true
 climbs-tableWith c t h = climbs-take tableLimit (insertClaim c t) (climbs-insertClaim c t h)
 
-climbsFrom-kept : (l : List ℕ) (b : Claim) (t : List Claim) → climbsFrom b t ≡ true → climbsFrom b (serve l t .kept) ≡ true
-climbsFrom-kept l b [] h = refl
-climbsFrom-kept l b (c ∷ cs) h = go (remains (answer c l)) (λ d. climbsFrom-kept l d cs)
+climbsFrom-those : (keeps : Claim → Bool) (b : Claim) (t : List Claim) → climbsFrom b t ≡ true → climbsFrom b (those keeps t) ≡ true
+climbsFrom-those keeps b [] h = refl
+climbsFrom-those keeps b (c ∷ cs) h = go (keeps c) (λ d. climbsFrom-those keeps d cs)
   where
     p : before b c ≡ true
     p = and-left (before b c) (climbsFrom c cs) h
@@ -136,18 +137,26 @@ climbsFrom-kept l b (c ∷ cs) h = go (remains (answer c l)) (λ d. climbsFrom-k
     q : climbsFrom c cs ≡ true
     q = and-right (before b c) (climbsFrom c cs) h
 
-    go : (t : Bool) → ((d : Claim) → climbsFrom d cs ≡ true → climbsFrom d (serve l cs .kept) ≡ true) →
-        climbsFrom b (cond t (c ∷ serve l cs .kept) (serve l cs .kept)) ≡ true
-    go true below = and-both (before b c) (climbsFrom c (serve l cs .kept)) p (below c q)
+    go : (t : Bool) → ((d : Claim) → climbsFrom d cs ≡ true → climbsFrom d (those keeps cs) ≡ true) →
+        climbsFrom b (cond t (c ∷ those keeps cs) (those keeps cs)) ≡ true
+    go true below = and-both (before b c) (climbsFrom c (those keeps cs)) p (below c q)
     go false below = below b (climbsFrom-lower b c cs p q)
 
-pub climbs-kept : (l : List ℕ) (t : List Claim) → climbs t ≡ true → climbs (serve l t .kept) ≡ true
-climbs-kept l [] h = refl
-climbs-kept l (c ∷ cs) h = go (remains (answer c l)) (climbs-kept l cs (climbsFrom-climbs c cs h))
+pub climbs-those : (keeps : Claim → Bool) (t : List Claim) → climbs t ≡ true → climbs (those keeps t) ≡ true
+climbs-those keeps [] h = refl
+climbs-those keeps (c ∷ cs) h = go (keeps c) (climbs-those keeps cs (climbsFrom-climbs c cs h))
   where
-    go : (t : Bool) → climbs (serve l cs .kept) ≡ true → climbs (cond t (c ∷ serve l cs .kept) (serve l cs .kept)) ≡ true
-    go true below = climbsFrom-kept l c cs h
+    go : (t : Bool) → climbs (those keeps cs) ≡ true → climbs (cond t (c ∷ those keeps cs) (those keeps cs)) ≡ true
+    go true below = climbsFrom-those keeps c cs h
     go false below = below
+
+-- what a beat keeps
+kept-those : (l : List ℕ) (t : List Claim) → serve l t .kept ≡ those (λ (c : Claim). remains (answer c l)) t
+kept-those l [] = refl
+kept-those l (c ∷ cs) = rw (kept-those l cs)
+
+pub climbs-kept : (l : List ℕ) (t : List Claim) → climbs t ≡ true → climbs (serve l t .kept) ≡ true
+climbs-kept l t h = rw (kept-those l t) (climbs-those (λ (c : Claim). remains (answer c l)) t h)
 
 -- ---- members
 
@@ -170,14 +179,34 @@ tableWith-mem c t d m =
     insertClaim-mem c t d
     (subst (λ (x : List Claim). List·Memᴰ d x) (take-append-drop tableLimit (insertClaim c t)) (Memᴰ·append-left (drop tableLimit (insertClaim c t)) m))
 
-pub kept-mem : (l : List ℕ) (t : List Claim) (d : Claim) → List·Memᴰ d (serve l t .kept) → List·Memᴰ d t
-kept-mem l [] d m = m
-kept-mem l (c ∷ cs) d m = go (remains (answer c l)) m (kept-mem l cs d)
+pub those-mem : (keeps : Claim → Bool) (t : List Claim) (d : Claim) → List·Memᴰ d (those keeps t) → List·Memᴰ d t × (keeps d ≡ true)
+those-mem keeps [] d m = absurd (List·Memᴰ·not-nil m)
+those-mem keeps (c ∷ cs) d m = go (keeps c) refl m (those-mem keeps cs d)
   where
-    go : (t : Bool) → List·Memᴰ d (cond t (c ∷ serve l cs .kept) (serve l cs .kept)) → (List·Memᴰ d (serve l cs .kept) → List·Memᴰ d cs) → List·Memᴰ d (c ∷ cs)
-    go true (List·Memᴰ·head e) below = List·Memᴰ·head e
-    go true (List·Memᴰ·tail n) below = List·Memᴰ·tail (below n)
-    go false n below = List·Memᴰ·tail (below n)
+    go : (t : Bool) → keeps c ≡ t → List·Memᴰ d (cond t (c ∷ those keeps cs) (those keeps cs))
+        → (List·Memᴰ d (those keeps cs) → List·Memᴰ d cs × (keeps d ≡ true)) → List·Memᴰ d (c ∷ cs) × (keeps d ≡ true)
+    go true e (List·Memᴰ·head f) below = (List·Memᴰ·head f, ap keeps f ∙ e)
+    go true e (List·Memᴰ·tail n) below = let (o, k) = below n in (List·Memᴰ·tail o, k)
+    go false e n below = let (o, k) = below n in (List·Memᴰ·tail o, k)
+
+-- one claim more
+pub those-snoc : (keeps : Claim → Bool) (t : List Claim) (c : Claim) → those keeps (t ++ (c ∷ [])) ≡ those keeps t ++ cond (keeps c) (c ∷ []) []
+those-snoc keeps [] c = refl
+those-snoc keeps (d ∷ ds) c = go (keeps d) (those-snoc keeps ds c)
+  where
+    go : (t : Bool) → those keeps (ds ++ (c ∷ [])) ≡ those keeps ds ++ cond (keeps c) (c ∷ []) []
+        → cond t (d ∷ those keeps (ds ++ (c ∷ []))) (those keeps (ds ++ (c ∷ [])))
+        ≡ cond t (d ∷ those keeps ds) (those keeps ds) ++ cond (keeps c) (c ∷ []) []
+    go true below = ap (λ (l : List Claim). d ∷ l) below
+    go false below = below
+
+-- where all pass, they are all
+pub those-all : (keeps : Claim → Bool) (t : List Claim) → ((c : Claim) → List·Memᴰ c t → keeps c ≡ true) → those keeps t ≡ t
+those-all keeps [] f = refl
+those-all keeps (c ∷ cs) f = rw (f c (List·Memᴰ·head refl), those-all keeps cs (λ d m. f d (List·Memᴰ·tail m)))
+
+pub kept-mem : (l : List ℕ) (t : List Claim) (d : Claim) → List·Memᴰ d (serve l t .kept) → List·Memᴰ d t
+kept-mem l t d m = those-mem (λ (c : Claim). remains (answer c l)) t d (rw (kept-those l t) at m) .0
 
 -- a claim that is sent for the table is a claim of the answer to some pending claim
 pub sent-mem : (l : List ℕ) (t : List Claim) (d : Claim) → List·Memᴰ d (serve l t .sent) → (c : Claim) × List·Memᴰ c t × List·Memᴰ d (claimsOf (answer c l))
@@ -194,13 +223,16 @@ sent-mem l (c ∷ cs) d m =
 pub length-tableWith : (c : Claim) (t : List Claim) → length (tableWith c t) ≤ tableLimit
 length-tableWith c t = rw (length-take tableLimit (insertClaim c t)) (omega arith)
 
-pub length-kept : (l : List ℕ) (t : List Claim) → length (serve l t .kept) ≤ length t
-length-kept l [] = omega arith
-length-kept l (c ∷ cs) = go (remains (answer c l)) (length-kept l cs)
+pub length-those : (keeps : Claim → Bool) (t : List Claim) → length (those keeps t) ≤ length t
+length-those keeps [] = omega arith
+length-those keeps (c ∷ cs) = go (keeps c) (length-those keeps cs)
   where
-    go : (t : Bool) → length (serve l cs .kept) ≤ length cs → length (cond t (c ∷ serve l cs .kept) (serve l cs .kept)) ≤ length (c ∷ cs)
+    go : (t : Bool) → length (those keeps cs) ≤ length cs → length (cond t (c ∷ those keeps cs) (those keeps cs)) ≤ length (c ∷ cs)
     go true h = omega arith
     go false h = omega arith
+
+pub length-kept : (l : List ℕ) (t : List Claim) → length (serve l t .kept) ≤ length t
+length-kept l t = rw (kept-those l t) (length-those (λ (c : Claim). remains (answer c l)) t)
 
 -- an answer carries at most two claims
 pub length-claimsOf : (a : Answer) → length (claimsOf a) ≤ 2

@@ -21,7 +21,7 @@ use Rattle.rule.specs.Node.{nodeKeys, pendingOf, nodeOf}
 use Rattle.rule.specs.Round.{Run, roundOf, transcript}
 use Rattle.rule.specs.Question.{nodeQuestion1, question8, question9, question15}
 
--- `take` asks 1, 2 to 5 and 6: "6 doesn't count the middle one" (document 02, slip 1).
+-- `take` asks 1, 2 to 5, 16 and 6: "6 doesn't count the middle one" (document 02, slip 1).
 abbrev pub takeQuestions : Node → Claim → List Question
 takeQuestions n c = nodeQuestion1 n ∷ (claimQuestions c ++ (question6 (ends c) (nodeKeys n) ∷ []))
 

@@ -1,5 +1,6 @@
 -- Worked examples over the call definitions, as one list of rows: document 01's rehearsal, record by record; the middle key of three; a false match; a 65th
--- claim; a beat; nodes in order and not. That each row gives what is wanted is one law, `cases-hold` of proofs/Cases. Assumes nothing.
+-- claim; a beat; nodes in order and not; a claim of three that no store could make. That each row gives what is wanted is one law, `cases-hold` of
+-- proofs/Cases. Assumes nothing.
 use Prim.Native.Nat.{ℕ}
 use mathlib.Core.Bool.{Bool, true, false}
 use mathlib.Core.List.{List, [], _∷_, _++_, map}
@@ -14,7 +15,7 @@ use Rattle.rule.specs.declared.delivery.Delivery.{Delivery}
 use Rattle.rule.specs.declared.answer.Taken.{Taken}
 use Rattle.rule.specs.declared.answer.Beaten.{Beaten}
 use Rattle.rule.specs.declared.answer.Met.{Met}
-use Rattle.rule.specs.Node.{nodeOf, emptyNode, nodeInOrder}
+use Rattle.rule.specs.Node.{nodeOf, emptyNode, telling, savedInOrder, nodeInOrder}
 use Rattle.rule.specs.Round.{anyFalse}
 use Rattle.rule.specs.Call.{taken, beaten, beatenLent, met, metLent, metWords, roundBy}
 
@@ -26,6 +27,7 @@ pub data Compared : Type 0 where
   words-are : List ℕ → Compared
   records-are : List Delivery → Compared
   truth-is : Bool → Compared
+  claims-are : List Claim → Compared
 
 pub record Row : Type 0 where
   pub gives : Compared
@@ -77,6 +79,10 @@ busyNode = nodeOf (1 ∷ 4 ∷ 16 ∷ []) (claim 1 16 19 3 ∷ claim 1 16 21 3 �
 abbrev pub threeNode : Node
 threeNode = nodeOf (1 ∷ 16 ∷ []) (claim 1 16 19 3 ∷ [])
 
+-- a claim of three that no store could make pending beside its ends, as an image saved before 16 came may hold it: its middle key would be 20
+abbrev pub faultyNode : Node
+faultyNode = nodeOf (1 ∷ 16 ∷ []) (claim 1 16 5 3 ∷ [])
+
 abbrev pub rows : List Row
 rows =
     -- the rehearsal of document 01: both stores, the count, every record, as records and as words; the places past it keep their contents
@@ -125,4 +131,16 @@ rows =
     ∷ row (truth-is (nodeInOrder (nodeOf (1 ∷ 16 ∷ []) (claim 1 16 17 2 ∷ [])))) (truth-is true)
     ∷ row (truth-is (nodeInOrder (nodeOf (2 ∷ 16 ∷ []) (claim 1 16 17 2 ∷ [])))) (truth-is false)
     ∷ row (truth-is (nodeInOrder (nodeOf (1 ∷ 15 ∷ []) (claim 1 16 17 2 ∷ [])))) (truth-is false)
+    -- a claim of three that no store could make: it is not taken; an image may hold it, a node that is given may not
+    ∷ row (take-is (taken emptyNode (claim 1 16 5 3))) (take-is (record { number = 16; node = emptyNode }))
+    ∷ row (truth-is (savedInOrder faultyNode)) (truth-is true)
+    ∷ row (truth-is (nodeInOrder faultyNode)) (truth-is false)
+    ∷ row (take-is (taken faultyNode (claim 1 1 1 1))) (take-is (record { number = 1; node = faultyNode }))
+    ∷ row (beat-is (beaten faultyNode (replicate 516 7))) (beat-is (record { number = 1; node = faultyNode; written = 0 }))
+    -- .. and of an image it is left out; a sound claim of three stays, and so does one of four with the same sum
+    ∷ row (claims-are (telling (claim 1 16 17 2 ∷ claim 1 16 5 3 ∷ claim 1 16 19 3 ∷ claim 1 16 5 4 ∷ [])))
+    (claims-are (claim 1 16 17 2 ∷ claim 1 16 19 3 ∷ claim 1 16 5 4 ∷ []))
+    -- an image may not hold it where it is out of order or its lo is not held
+    ∷ row (truth-is (savedInOrder (nodeOf (1 ∷ 16 ∷ []) (claim 1 16 5 3 ∷ claim 1 16 17 2 ∷ [])))) (truth-is false)
+    ∷ row (truth-is (savedInOrder (nodeOf (2 ∷ 16 ∷ []) (claim 1 16 5 3 ∷ [])))) (truth-is false)
     ∷ []

@@ -1,4 +1,5 @@
--- Nodes (document 01, "Pending table and beat"): the pending claims of a node, the node of some keys and claims, the empty node, in order.
+-- Nodes (document 01, "Pending table and beat"): the pending claims of a node, the node of some keys and claims, the empty node; in order, as an image is
+-- judged and as a node is (document 02, slip 2).
 -- Not here: what the calls return (Call). Assumes nothing.
 use Prim.Native.Nat.{ℕ, _-_}
 use mathlib.Core.Bool.{Bool, true, _&&_}
@@ -9,9 +10,10 @@ use Rattle.keys.specs.Store.{keysOf, storeOf, emptyStore, inOrder, holds}
 use Rattle.claims.specs.declared.claim.Claim.{Claim}
 use Rattle.claims.specs.Claim.{noClaim}
 use Rattle.claims.specs.Reply.{ends, same}
-use Rattle.claims.specs.Call.{judged}
+use Rattle.claims.specs.Question.{question16}
+use Rattle.claims.specs.Call.{judgedFormerly}
 use Rattle.rule.specs.declared.node.Node.{Node}
-use Rattle.rule.specs.Table.{tableLimit, climbs}
+use Rattle.rule.specs.Table.{tableLimit, climbs, those}
 
 -- n unused places of a table: "unused places are zeros"
 unfoldable pub blanks : ℕ → List Claim
@@ -41,7 +43,16 @@ holdsAll (k ∷ ks) l = holds k l && holdsAll ks l
 -- "each passes questions 2 to 5 and has lo and hi in the store", whose keys are l
 abbrev pub allFit : List Claim → List ℕ → Bool
 allFit [] l = true
-allFit (c ∷ cs) l = eqb (judged c) 0 && (holdsAll (ends c) l && allFit cs l)
+allFit (c ∷ cs) l = eqb (judgedFormerly c) 0 && (holdsAll (ends c) l && allFit cs l)
+
+-- does each pass question 16?
+abbrev pub allTell : List Claim → Bool
+allTell [] = true
+allTell (c ∷ cs) = question16 c .yes && allTell cs
+
+-- those that do: of an image already saved one that does not "is left out" (document 02, slip 2)
+abbrev pub telling : List Claim → List Claim
+telling t = those (λ (c : Claim). question16 c .yes) t
 
 -- "unused places are zeros"
 abbrev pub allUnused : List Claim → Bool
@@ -49,11 +60,15 @@ allUnused [] = true
 allUnused (c ∷ cs) = same c noClaim && allUnused cs
 
 -- "A node is a store and up to 64 pending claims, strictly rising by cnt, then lo, hi, sum; each passes questions 2 to 5 and has lo and hi in the
--- store; unused places are zeros. It is in order when its store is and all this holds."
-unfoldable pub nodeInOrder : Node → Bool
-nodeInOrder n =
+-- store; unused places are zeros. It is in order when its store is and all this holds." So an image already saved passes "1 as before" (document 02, slip 2).
+unfoldable pub savedInOrder : Node → Bool
+savedInOrder n =
     inOrder (n .store)
     && (leb (n .count) tableLimit
     && (climbs (pendingOf n)
     && (allFit (pendingOf n) (nodeKeys n)
     && allUnused (drop (n .count) (n .pending)))))
+
+-- A node is in order when each pending claim passes 16 as well: "a node given with one gets 1" (document 02, slip 2).
+unfoldable pub nodeInOrder : Node → Bool
+nodeInOrder n = savedInOrder n && allTell (pendingOf n)

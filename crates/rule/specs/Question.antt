@@ -7,12 +7,16 @@ use lib.ListN.{length}
 use Rattle.keys.specs.Store.{limit}
 use Rattle.claims.specs.Question.{Question, question}
 use Rattle.rule.specs.declared.node.Node.{Node}
-use Rattle.rule.specs.Node.{nodeInOrder}
+use Rattle.rule.specs.Node.{savedInOrder, nodeInOrder}
 use Rattle.rule.specs.Round.{union}
 
 -- 1. Is every store or node given in order? (Of a node; a store's is in `claims`.)
 abbrev pub nodeQuestion1 : Node → Question
 nodeQuestion1 n = question 1 (nodeInOrder n)
+
+-- 1 of an image already saved, "as before" (document 02, slip 2): of the node that it holds
+abbrev pub savedQuestion1 : Node → Question
+savedQuestion1 n = question 1 (savedInOrder n)
 
 -- 8. Has the union of both stores at most 1,024 keys? (Of stores with the keys l and r.)
 abbrev pub question8 : List ℕ → List ℕ → Question

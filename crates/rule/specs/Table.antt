@@ -38,6 +38,11 @@ abbrev pub climbs : List Claim → Bool
 climbs [] = true
 climbs (c ∷ cs) = climbsFrom c cs
 
+-- the claims of a table that pass a test, in their order
+abbrev pub those : (Claim → Bool) → List Claim → List Claim
+those keeps [] = []
+those keeps (c ∷ cs) = cond (keeps c) (c ∷ those keeps cs) (those keeps cs)
+
 -- a claim put in its place, "unless an equal one is pending"
 abbrev pub insertClaim : Claim → List Claim → List Claim
 insertClaim c [] = c ∷ []

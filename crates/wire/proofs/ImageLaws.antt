@@ -16,8 +16,8 @@ use Rattle.claims.specs.Question.{firstNo}
 use Rattle.claims.proofs.QuestionLaws.{Numbered, firstNo-zero, settle-number}
 use Rattle.rule.specs.declared.node.Node.{Node}
 use Rattle.rule.specs.Table.{tableLimit}
-use Rattle.rule.specs.Node.{nodeInOrder, nodeKeys, pendingOf}
-use Rattle.rule.specs.Question.{nodeQuestion1, question15}
+use Rattle.rule.specs.Node.{savedInOrder, nodeInOrder, nodeKeys, pendingOf}
+use Rattle.rule.specs.Question.{savedQuestion1, nodeQuestion1, question15}
 use Rattle.rule.proofs.NodeLaws.{nodeInOrder-ordered}
 use Rattle.wire.specs.declared.answer.Length.{Length}
 use Rattle.wire.specs.declared.answer.Imaged.{Imaged}
@@ -26,7 +26,7 @@ use Rattle.wire.specs.Claim.{countWidth}
 use Rattle.wire.specs.Run.{key}
 use Rattle.wire.specs.Length.{noLength}
 use Rattle.wire.specs.Image.{keySection, claimSection, sections, sectionLength, imageLimit, sectionBytes, imageBytes, nodeBytes, Shaped, countOf, behind}
-use Rattle.wire.specs.Image.{countFits, countsFit, toldLength, question14, parse, nodeFrom, readImageQuestions, noImage, readImage}
+use Rattle.wire.specs.Image.{countFits, countsFit, toldLength, question14, parse, nodeFrom, readImageQuestions, used, noImage, readImage}
 use Rattle.wire.specs.Image.{writeImageQuestions, writeImage, imageLent}
 use Rattle.wire.specs.Sizes.{AsTold}
 use Rattle.wire.proofs.NumberLaws.{length-bytes}
@@ -68,7 +68,7 @@ module _ {bs : List ℕ} {n m : ℕ} (told : AsTold bs n m) where
   pub whole-told : question14 bs .yes ≡ true
   whole-told = rw (told .counts) (eq-eqb (length bs) (toldLength sections bs) (told .whole))
 
-  pub readImage-0 : nodeInOrder (nodeFrom (parse bs)) ≡ true → record { number = 0; node = nodeFrom (parse bs) } ≡ readImage bs
+  pub readImage-0 : savedInOrder (nodeFrom (parse bs)) ≡ true → record { number = 0; node = nodeFrom (used (parse bs)) } ≡ readImage bs
   unfolding readImage
   readImage-0 e = rw (whole-told, e)
 
@@ -78,13 +78,13 @@ module _ (bs : List ℕ) where
   readImage-number = settle-number (λ (r : Imaged). r .number) (firstNo (readImageQuestions bs)) _ noImage refl (λ (k : ℕ). refl)
 
   -- an image that is accepted has passed 14 and 1
-  pub readImage-yes : readImage bs .number ≡ 0 → AsTold bs (countOf bs) (countOf (behind keySection bs)) × (nodeInOrder (nodeFrom (parse bs)) ≡ true)
+  pub readImage-yes : readImage bs .number ≡ 0 → AsTold bs (countOf bs) (countOf (behind keySection bs)) × (savedInOrder (nodeFrom (parse bs)) ≡ true)
   readImage-yes h =
-      let (y, h₁) = firstNo-zero (question14 bs) (nodeQuestion1 (nodeFrom (parse bs)) ∷ []) (lit< tt) (sym readImage-number ∙ h) in
+      let (y, h₁) = firstNo-zero (question14 bs) (savedQuestion1 (nodeFrom (parse bs)) ∷ []) (lit< tt) (sym readImage-number ∙ h) in
       let same = eqb (length bs) (toldLength sections bs) in
       let c = and-left (countsFit sections bs) same y in
       let w = eqb-true (length bs) (toldLength sections bs) (and-right (countsFit sections bs) same y) in
-      (record { counts = c; whole = w; keys = refl; pending = refl }, firstNo-zero (nodeQuestion1 (nodeFrom (parse bs))) [] (lit< tt) h₁ .0)
+      (record { counts = c; whole = w; keys = refl; pending = refl }, firstNo-zero (savedQuestion1 (nodeFrom (parse bs))) [] (lit< tt) h₁ .0)
 
 -- ---- writing
 

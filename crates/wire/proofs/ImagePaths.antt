@@ -9,7 +9,8 @@ use mathlib.Core.Path.{_≡_, ap, sym, _∙_}
 use borrow.Author.Tests.{not-true, not-false, le-leb, lt-leb, ne-eqb}
 use lib.ListN.{length, take, drop, replicate, length-drop}
 use lib.Seq.{drop-drop}
-use Rattle.keys.specs.Store.{limit, storeOf}
+use Rattle.keys.specs.declared.store.Store.{Store}
+use Rattle.keys.specs.Store.{limit, storeOf, emptyStore}
 use Rattle.keys.specs.Place.{putAt}
 use Rattle.keys.proofs.PlaceLaws.{putAt-four-blocks, putAt-replicate}
 use Rattle.claims.specs.declared.claim.Claim.{Claim}
@@ -18,7 +19,8 @@ use Rattle.rule.specs.declared.node.Node.{Node}
 use Rattle.rule.specs.declared.answer.Rest.{Rest}
 use Rattle.rule.specs.Table.{tableLimit}
 use Rattle.rule.specs.Node.{blanks, nodeOf, nodeInOrder}
-use Rattle.nodes.specs.Lent.{nodeWith}
+use Rattle.nodes.specs.Lent.{nodeWith, admitIn}
+use Rattle.wire.specs.declared.answer.Imaged.{Imaged}
 use Rattle.wire.specs.declared.answer.Length.{Length}
 use Rattle.wire.specs.declared.image.Part.{Part}
 use Rattle.wire.specs.declared.image.Sizes.{Sizes}
@@ -28,13 +30,14 @@ use Rattle.wire.specs.Run.{key, claim, readRun, writeRun}
 use Rattle.wire.specs.Length.{noLength}
 use Rattle.wire.specs.Image.{keySection, sections, sectionLength, imageBytes, nodeBytes, Shaped, countOf, behind, countFits}
 use Rattle.wire.specs.Image.{countsFit, toldLength}
-use Rattle.wire.specs.Image.{parse, imageLength, writeImage, imageLent}
+use Rattle.wire.specs.Image.{parse, noImage, readImage, imageLength, writeImage, imageLent}
 use Rattle.wire.specs.Sizes.{partOf, sizesOf, AsTold, Readable, HasRoom}
 use Rattle.wire.specs.Lent.{noRest, readImageIn, readImageInLent, withinLimits, writeImageIn, imageInLent}
 use Rattle.wire.proofs.NumberLaws.{length-bytes, numberAt-drop}
 use Rattle.wire.proofs.RunLaws.{length-readRun, length-writeRun, key-faithful}
 use Rattle.wire.proofs.ImageLaws.{countFits-missing, countFits-high, countFits-of, whole-told, length-nodeKeys, length-pending, length-nodeBytes}
 use Rattle.wire.proofs.SizesLaws.{partOf-no, partOf-yes, partOf-fits, partOf-count, sizesOf-no, sizesOf-yes, sizesOf-fits, told-room}
+use Rattle.wire.proofs.LentLaws.{readImageIn-part, readImage-no, readImage-lent}
 use Rattle.wire.proofs.LentLaws.{withinLimits-yes, writeImageIn-0, writeImageIn-writeImage, imageInLent-imageLent}
 
 -- ---- part_at
@@ -168,6 +171,22 @@ module _ {bs : List ℕ} {n m : ℕ} (told : AsTold bs n m) where
   pub readImageInLent-0 : (keys : List ℕ) {ks : List ℕ} → ks ≡ putAt keys 0 (readRun key n (drop countWidth bs)) → ks ≡ readImageInLent bs keys
   unfolding readImageInLent
   readImageInLent-0 keys e = e ∙ (ap (putAt keys 0) keys-parsed ∙ rw (whole-told told))
+
+-- ---- read_image
+
+module _ (bs : List ℕ) {s : Store} (empty : s ≡ emptyStore) {r : Rest} (read : r ≡ readImageIn bs) {ks : List ℕ} (lent : ks ≡ readImageInLent bs (s .keys)) where
+  fresh : ks ≡ readImageInLent bs (emptyStore .keys)
+  fresh = lent ∙ ap (λ (x : Store). readImageInLent bs (x .keys)) empty
+
+  pub image-part : length ks ≡ limit → r .held ≡ length (take (r .held) ks)
+  image-part = readImageIn-part bs read fresh
+
+  module _ {a : Rest} (admitted : a ≡ admitIn (take (r .held) ks) r) where
+    pub image-refused : (a .number ≡ 0 → ⊥) → {i : Imaged} → i ≡ noImage (a .number) → i ≡ readImage bs
+    image-refused f told = told ∙ readImage-no bs read fresh admitted f
+
+    pub image-read : a .number ≡ 0 → record { number = 0; node = nodeWith ks (a .held) (a .table) (a .count) } ≡ readImage bs
+    image-read z = readImage-lent bs read fresh admitted z
 
 -- ---- put_image
 

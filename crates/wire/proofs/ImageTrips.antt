@@ -1,6 +1,7 @@
 -- The round trips of images, over the definitions that the contracts of `read_image` and `write_image` cite: every image of a node in order is
 -- accepted, and read as that node; bytes that begin with one tell its length; no two nodes in order have the same image; an image that is written is
--- read as the same node; one that is accepted is written again as the same bytes. The lemmas come first, the theorems last. Assumes nothing.
+-- read as the same node; one that is accepted holds a node in order, and is written again as the same bytes, without the claims that were left out. The
+-- lemmas come first, the theorems last. Assumes nothing.
 use Prim.Native.Nat.{ℕ, _+_, _^_, _≤_, _<_}
 use native.Mathlib.Omega.{arith}
 use mathlib.Core.Bool.{true}
@@ -15,14 +16,15 @@ use Rattle.claims.specs.declared.claim.Claim.{Claim}
 use Rattle.claims.specs.Reply.{same}
 use Rattle.rule.specs.declared.node.Node.{Node}
 use Rattle.rule.specs.Table.{tableLimit}
-use Rattle.rule.specs.Node.{nodeKeys, pendingOf, nodeInOrder}
-use Rattle.rule.proofs.NodeLaws.{nodeInOrder-ordered, nodeOf-same, nodeKeys-nodeOf, pendingOf-nodeOf}
+use Rattle.rule.specs.Node.{nodeKeys, pendingOf, nodeOf, allTell, telling, savedInOrder, nodeInOrder}
+use Rattle.rule.proofs.NodeLaws.{nodeInOrder-ordered, ordered-nodeInOrder, savedInOrder-saved, saved-savedInOrder, ordered-saved, ordered-tells}
+use Rattle.rule.proofs.NodeLaws.{telling-all, ordered-telling, nodeOf-same, nodeKeys-nodeOf, pendingOf-nodeOf}
 use Rattle.wire.specs.Number.{byte, Below}
 use Rattle.wire.specs.Claim.{keyWidth, countWidth, ClaimFits}
 use Rattle.wire.specs.Run.{key, claim, Each}
 use Rattle.wire.specs.Image.{keySection, claimSection, sections, sectionLength, imageLimit, sectionBytes, imageBytes, nodeBytes, Shaped}
-use Rattle.wire.specs.Image.{NodeFits, countOf, behind, countFits, countsFit, toldLength, thingsIn, parse, nodeFrom, readImage, writeImage}
-use Rattle.wire.specs.Image.{imageLent, imageLength}
+use Rattle.wire.specs.Image.{Contents, NodeFits, countOf, behind, countFits, countsFit, toldLength, thingsIn, parse, nodeFrom, readImage, writeImage}
+use Rattle.wire.specs.Image.{used, usedBytes, imageLent, imageLength}
 use Rattle.wire.specs.Sizes.{AsTold}
 use Rattle.wire.proofs.NumberLaws.{below-drop}
 use Rattle.wire.proofs.RunLaws.{each-take, key-faithful, claim-faithful}
@@ -121,9 +123,12 @@ image-accepted n fit e =
     let c : length cs ≤ tableLimit = rw (length-pending n (fit .shaped) few several) several in
     let parsed =
     parse-imageBytes ks cs k c (each-take _ (n .store .count) (n .store .keys) (fit .keys)) (each-take ClaimFits (n .count) (n .pending) (fit .pending)) in
-    let node : nodeFrom (parse (nodeBytes n)) ≡ n =
-    ap nodeFrom parsed ∙ sym (nodeOf-same n (fit .shaped .keys) (fit .shaped .pending) (nodeInOrder-ordered n e)) in
-    sym (readImage-0 (imageBytes-told ks cs k c) (ap nodeInOrder node ∙ e)) ∙ (λ i. record { number = 0; node = node i })
+    let o = nodeInOrder-ordered n e in
+    let same : n ≡ nodeOf ks cs = nodeOf-same n (fit .shaped .keys) (fit .shaped .pending) o in
+    let saved : savedInOrder (nodeFrom (parse (nodeBytes n))) ≡ true = rw (ap nodeFrom parsed, ← same) (saved-savedInOrder n (ordered-saved n o)) in
+    let node : nodeFrom (used (parse (nodeBytes n))) ≡ n =
+    ap (λ (x : Contents). nodeFrom (used x)) parsed ∙ (ap (nodeOf ks) (telling-all cs (ordered-tells n o)) ∙ sym same) in
+    sym (readImage-0 (imageBytes-told ks cs k c) saved) ∙ (λ i. record { number = 0; node = node i })
 
 -- Bytes that begin with the image of a node in order tell its length.
 pub image-length-is-told : (n : Node) (rest : List ℕ) → Shaped n → nodeInOrder n ≡ true
@@ -152,12 +157,34 @@ image-written-is-read n out fit done =
     let front : take (length (nodeBytes n)) (putAt out 0 (nodeBytes n)) ≡ nodeBytes n = take-front out (nodeBytes n) _ refl in
     rw (long, ← lent, front) (image-accepted n fit o)
 
--- An image that is accepted is written again as the same bytes, past which the buffer keeps its contents.
-pub image-read-is-written : (bs out : List ℕ) → Below byte bs → readImage bs .number ≡ 0 → length bs ≤ length out
+-- The node of an image that is accepted is in order, as a node that is given: 16 included.
+pub image-read-ordered : (bs : List ℕ) → readImage bs .number ≡ 0 → nodeInOrder (readImage bs .node) ≡ true
+image-read-ordered bs done =
+    let (told, saved) = readImage-yes bs done in
+    rw (← readImage-0 told saved)
+    (ordered-nodeInOrder _ (ordered-telling (parse bs .keys) (parse bs .pending) (savedInOrder-saved (nodeFrom (parse bs)) saved)))
+
+-- its image is that of the bytes, without the claims that were left out
+pub image-read-bytes : (bs : List ℕ) → readImage bs .number ≡ 0 → nodeBytes (readImage bs .node) ≡ usedBytes bs
+image-read-bytes bs done =
+    let (told, saved) = readImage-yes bs done in
+    rw (← readImage-0 told saved, nodeKeys-nodeOf, pendingOf-nodeOf)
+
+-- "Such an image is written back without it" (document 02, slip 2): an image that is accepted is written as its own bytes but for the claims that were left
+-- out, past which the buffer keeps its contents.
+pub image-read-is-written-without : (bs out : List ℕ) → readImage bs .number ≡ 0 → length (usedBytes bs) ≤ length out
+    → (writeImage (readImage bs .node) (length out) ≡ record { number = 0; length = length (usedBytes bs) })
+    × (imageLent (readImage bs .node) out ≡ putAt out 0 (usedBytes bs))
+image-read-is-written-without bs out done room =
+    let n = readImage bs .node in
+    let same = image-read-bytes bs done in
+    let (w, lent) = writeImage-0 n out (image-read-ordered bs done) (rw same room) in
+    (sym w ∙ (λ i. record { number = 0; length = length (same i) }), sym lent ∙ ap (putAt out 0) same)
+
+-- .. "so the same-bytes rule holds for images that have none": one that is accepted and holds no claim that fails 16 is written again as the same bytes.
+pub image-read-is-written : (bs out : List ℕ) → Below byte bs → readImage bs .number ≡ 0 → allTell (parse bs .pending) ≡ true → length bs ≤ length out
     → (writeImage (readImage bs .node) (length out) ≡ record { number = 0; length = length bs }) × (imageLent (readImage bs .node) out ≡ putAt out 0 bs)
-image-read-is-written bs out below done room =
-    let (told, o) = readImage-yes bs done in
-    let n = nodeFrom (parse bs) in
-    let same : nodeBytes n ≡ bs = rw (nodeKeys-nodeOf, pendingOf-nodeOf) (imageBytes-parse bs below (told .whole)) in
-    let (w, lent) = writeImage-0 n out o (rw same room) in
-    rw (← readImage-0 told o) (sym w ∙ (λ i. record { number = 0; length = length (same i) }), sym lent ∙ ap (putAt out 0) same)
+image-read-is-written bs out below done none room =
+    let same : usedBytes bs ≡ bs =
+    ap (imageBytes (parse bs .keys)) (telling-all (parse bs .pending) none) ∙ imageBytes-parse bs below (readImage-yes bs done .0 .whole) in
+    rw same at (image-read-is-written-without bs out done (rw same room))

@@ -1,40 +1,41 @@
--- Laws of specs/Lent: what the calls on lent keys are by the definitions of Image. `readImageIn-refused`, `readImage-1` and `readImage-lent` say it of reading,
+-- Laws of specs/Lent: what the calls on lent keys are by the definitions of Image. `readImage-no` and `readImage-lent` say it of reading,
 -- `writeImageIn-writeImage` and `imageInLent-imageLent` of writing. Assumes nothing.
 use Prim.Native.Nat.{ℕ, _-_, _≤_}
-use mathlib.Core.Bool.{Bool, true, false, not, _&&_}
+use mathlib.Core.Bool.{Bool, true, false, _&&_}
 use mathlib.Core.List.{List, [], _∷_, _++_}
-use mathlib.Core.Path.{_≡_, refl, ap, sym, _∙_}
-use borrow.Author.Tests.{le-leb, leb-true, eqb-true, eq-eqb, not-true, not-false}
+use mathlib.Core.Logic.{⊎-elim}
+use mathlib.Core.Path.{_≡_, refl, ap, sym, _∙_, subst}
+use native.Mathlib.Omega.{arith}
+use borrow.Author.Tests.{le-leb, leb-true, eqb-true, eq-eqb}
 use lib.Dec.{leb, eqb, lit<}
 use lib.ListN.{length, take, drop, replicate}
+use lib.Seq.{length-take-le}
 use Rattle.keys.specs.declared.store.Store.{Store}
 use Rattle.keys.specs.Store.{limit, zeros, storeOf, emptyStore}
 use Rattle.keys.specs.Place.{putAt}
-use Rattle.keys.proofs.Tests.{and-left, and-right}
+use Rattle.keys.proofs.Tests.{and-left, and-right, eq-or-ne}
 use Rattle.keys.proofs.PlaceLaws.{putAt-replicate}
 use Rattle.claims.specs.Question.{firstNo}
 use Rattle.claims.proofs.QuestionLaws.{firstNo-zero, settle-refused, settle-number}
 use Rattle.rule.specs.declared.node.Node.{Node}
+use Rattle.claims.specs.declared.claim.Claim.{Claim}
 use Rattle.rule.specs.declared.answer.Rest.{Rest}
 use Rattle.rule.specs.Table.{tableLimit}
-use Rattle.rule.specs.Node.{nodeKeys, pendingOf, nodeOf, nodeInOrder}
-use Rattle.rule.proofs.NodeLaws.{nodeKeys-nodeOf, pendingOf-nodeOf}
-use Rattle.nodes.specs.Lent.{nodeWith, frontIn}
+use Rattle.rule.specs.Node.{nodeKeys, nodeOf, telling, savedInOrder, nodeInOrder}
+use Rattle.rule.proofs.NodeLaws.{nodeKeys-nodeOf}
+use Rattle.nodes.specs.Lent.{nodeWith, restOf, admitIn}
+use Rattle.nodes.proofs.LentLaws.{admitIn-saved, admitIn-unsaved}
 use Rattle.wire.specs.Claim.{countWidth}
 use Rattle.wire.specs.Run.{key, claim}
 use Rattle.wire.specs.Sizes.{AsTold}
 use Rattle.wire.specs.Image.{nodeBytes, keySection, sections, countOf, behind, countsFit, toldLength}
-use Rattle.wire.specs.Image.{parse, nodeFrom, question14, noImage, readImage, writeImage, imageLent}
-use Rattle.wire.specs.Lent.{restOf, noRest, readImageIn, readImageInLent, withinLimits, writeImageIn, imageInLent}
+use Rattle.wire.specs.Image.{parse, nodeFrom, used, question14, noImage, readImage, writeImage, imageLent}
+use Rattle.wire.specs.Lent.{noRest, readImageIn, readImageInLent, withinLimits, writeImageIn, imageInLent}
 use Rattle.wire.proofs.RunLaws.{length-readRun}
 use Rattle.wire.proofs.ImageLaws.{ordered-counts}
 use Rattle.wire.proofs.SizesLaws.{told-room}
 
 -- ---- reading
-
--- read into the places of an empty store
-pub readImageIn-fresh : (bs : List ℕ) {s : Store} → s ≡ emptyStore → {ks : List ℕ} → ks ≡ readImageInLent bs (s .keys) → ks ≡ readImageInLent bs (emptyStore .keys)
-readImageIn-fresh bs p k = k ∙ ap (λ (x : Store). readImageInLent bs (x .keys)) p
 
 module _ (bs : List ℕ) {r : Rest} (e : r ≡ readImageIn bs) where
   readImageIn-number : r .number ≡ firstNo (question14 bs ∷ [])
@@ -43,7 +44,7 @@ module _ (bs : List ℕ) {r : Rest} (e : r ≡ readImageIn bs) where
       ap (λ (x : Rest). x .number) e ∙ settle-number (λ (x : Rest). x .number) (firstNo (question14 bs ∷ [])) _ noRest refl (λ (k : ℕ). refl)
 
   -- refused with 14
-  pub readImageIn-refused : (r .number ≡ 0 → ⊥) → noImage (r .number) ≡ readImage bs
+  readImageIn-refused : (r .number ≡ 0 → ⊥) → noImage (r .number) ≡ readImage bs
   unfolding readImage
   readImageIn-refused f = go (question14 bs .yes) refl
     where
@@ -51,20 +52,15 @@ module _ (bs : List ℕ) {r : Rest} (e : r ≡ readImageIn bs) where
       go true y = absurd (f (readImageIn-number ∙ rw y))
       go false y = rw (readImageIn-number, y)
 
-  -- .. and then the lent run is as it was
-  pub readImageInLent-refused : (keys : List ℕ) → (r .number ≡ 0 → ⊥) → readImageInLent bs keys ≡ keys
-  unfolding readImageInLent
-  readImageInLent-refused keys f = settle-refused (firstNo (question14 bs ∷ [])) _ (λ (k : ℕ). keys) (λ z. f (readImageIn-number ∙ z))
-
   module _ (done : r .number ≡ 0) {ks : List ℕ} (k : ks ≡ readImageInLent bs (emptyStore .keys)) where
     passed : question14 bs .yes ≡ true
     passed = firstNo-zero (question14 bs) [] (lit< tt) (sym readImageIn-number ∙ done) .0
 
     -- the node of both
-    abbrev pub readNode : Node
+    abbrev readNode : Node
     readNode = nodeWith ks (r .held) (r .table) (r .count)
 
-    pub readImageIn-node : readNode ≡ nodeFrom (parse bs)
+    readImageIn-node : readNode ≡ nodeFrom (parse bs)
     unfolding readImageIn readImageInLent nodeOf storeOf emptyStore zeros
     readImageIn-node =
         let l = parse bs .keys in
@@ -91,24 +87,88 @@ module _ (bs : List ℕ) {r : Rest} (e : r ≡ readImageIn bs) where
           ap (λ (x : Rest). x .count) rest ∙ length-readRun claim (countOf (behind keySection bs)) (drop countWidth (behind keySection bs)),
         )
 
-    pub readImageIn-few : (r .held ≤ limit) × (r .count ≤ tableLimit)
+    readImageIn-few : (r .held ≤ limit) × (r .count ≤ tableLimit)
     readImageIn-few = let (n, m) = counted in let (f, g, room) = told-room told in (rw n f, rw m g)
 
-    -- what question 1 of these keys and claims then decides
-    module _ (ordered : Bool) (tested : ordered ≡ frontIn (take (r .held) ks) (r .table) (r .count)) where
-      in-order : nodeInOrder (nodeFrom (parse bs)) ≡ ordered
-      in-order =
-          let keys : take (r .held) ks ≡ parse bs .keys = ap nodeKeys readImageIn-node ∙ nodeKeys-nodeOf (parse bs .keys) (parse bs .pending) in
-          let claims : take (r .count) (r .table) ≡ parse bs .pending = ap pendingOf readImageIn-node ∙ pendingOf-nodeOf (parse bs .keys) (parse bs .pending) in
-          sym (tested ∙ rw (le-leb (r .count) tableLimit (readImageIn-few .1), keys, claims))
+    -- what is admitted of these keys and claims: what the image says of itself, by question 1 and without what fails 16
+    module _ {a : Rest} (admitted : a ≡ admitIn (take (r .held) ks) r) where
+      abbrev l : List ℕ
+      l = parse bs .keys
 
-      pub readImage-1 : not ordered ≡ true → noImage 1 ≡ readImage bs
-      unfolding readImage
-      readImage-1 t = rw (passed, in-order ∙ not-true ordered t)
+      abbrev t : List Claim
+      t = parse bs .pending
 
-      pub readImage-lent : not ordered ≡ false → record { number = 0; node = readNode } ≡ readImage bs
+      admitted-is : a ≡ admitIn l (restOf (nodeOf l t))
+      unfolding readImageIn
+      admitted-is =
+          let keys : take (r .held) ks ≡ l = ap nodeKeys readImageIn-node ∙ nodeKeys-nodeOf l t in
+          let rest : r ≡ restOf (nodeFrom (parse bs)) = e ∙ rw passed in
+          admitted ∙ (λ i. admitIn (keys i) (rest i))
+
+      few : length t ≤ tableLimit
+      unfolding nodeOf
+      few = subst (λ (m : ℕ). m ≤ tableLimit) (ap (λ (n : Node). n .count) readImageIn-node) (readImageIn-few .1)
+
+      saved-is : savedInOrder (nodeOf l t) ≡ true → a ≡ restOf (nodeOf l (telling t))
+      saved-is o = admitted-is ∙ admitIn-saved l t few o
+
+      unsaved-is : savedInOrder (nodeOf l t) ≡ false → a .number ≡ 1
+      unsaved-is o = ap (λ (x : Rest). x .number) admitted-is ∙ admitIn-unsaved l t few o
+
+      judged-no : (a .number ≡ 0 → ⊥) → noImage (a .number) ≡ readImage bs
       unfolding readImage
-      readImage-lent t = (λ i. record { number = 0; node = readImageIn-node i }) ∙ rw (passed, in-order ∙ not-false ordered t)
+      judged-no f = go (savedInOrder (nodeOf l t)) refl
+        where
+          go : (yes : Bool) → savedInOrder (nodeOf l t) ≡ yes → noImage (a .number) ≡ readImage bs
+          go true o = absurd (f (ap (λ (x : Rest). x .number) (saved-is o)))
+          go false o = rw (unsaved-is o, passed, o)
+
+      judged-yes : a .number ≡ 0 → record { number = 0; node = nodeWith ks (a .held) (a .table) (a .count) } ≡ readImage bs
+      unfolding readImage nodeOf
+      judged-yes z = go (savedInOrder (nodeOf l t)) refl
+        where
+          go : (yes : Bool) → savedInOrder (nodeOf l t) ≡ yes → record { number = 0; node = nodeWith ks (a .held) (a .table) (a .count) } ≡ readImage bs
+          go true o =
+              let keys : ks ≡ storeOf l .keys = ap (λ (n : Node). n .store .keys) readImageIn-node in
+              let is = saved-is o in
+              let node : nodeWith ks (a .held) (a .table) (a .count) ≡ nodeFrom (used (parse bs)) =
+              λ i. record { store = record { keys = keys i; count = is i .held }; pending = is i .table; count = is i .count } in
+              (λ i. record { number = 0; node = node i }) ∙ rw (passed, o)
+          go false o = absurd (let one : a .number ≡ 1 = unsaved-is o in omega arith)
+
+  -- refused or not, not too many keys were read
+  readImageIn-held : {ks : List ℕ} → ks ≡ readImageInLent bs (emptyStore .keys) → r .held ≤ limit
+  unfolding readImageIn
+  readImageIn-held k = ⊎-elim {C = r .held ≤ limit}
+      (λ (done : r .number ≡ 0). readImageIn-few done k .0)
+      (λ (f : r .number ≡ 0 → ⊥).
+      let none : r ≡ noRest (firstNo (question14 bs ∷ [])) =
+      e ∙ settle-refused (firstNo (question14 bs ∷ [])) _ noRest (λ z. f (readImageIn-number ∙ z)) in
+      let held : r .held ≡ 0 = ap (λ (x : Rest). x .held) none in
+      omega arith)
+      (eq-or-ne (r .number) 0)
+
+  -- .. so they are a part of the run
+  pub readImageIn-part : {ks : List ℕ} → ks ≡ readImageInLent bs (emptyStore .keys) → length ks ≡ limit → r .held ≡ length (take (r .held) ks)
+  readImageIn-part {ks} k long = sym (length-take-le (r .held) ks (rw long (readImageIn-held k)))
+
+  -- What is admitted of what was read is what reading an image gives: the number, or the node.
+  module _ {ks : List ℕ} (k : ks ≡ readImageInLent bs (emptyStore .keys)) {a : Rest} (admitted : a ≡ admitIn (take (r .held) ks) r) where
+    refused-stays : (r .number ≡ 0 → ⊥) → a ≡ r
+    unfolding admitIn
+    refused-stays f = admitted ∙ settle-refused (r .number) _ (λ n. r) f
+
+    pub readImage-no : (a .number ≡ 0 → ⊥) → noImage (a .number) ≡ readImage bs
+    readImage-no f = ⊎-elim {C = noImage (a .number) ≡ readImage bs}
+        (λ (done : r .number ≡ 0). judged-no done k admitted f)
+        (λ (g : r .number ≡ 0 → ⊥). ap (λ (x : Rest). noImage (x .number)) (refused-stays g) ∙ readImageIn-refused g)
+        (eq-or-ne (r .number) 0)
+
+    pub readImage-lent : a .number ≡ 0 → record { number = 0; node = nodeWith ks (a .held) (a .table) (a .count) } ≡ readImage bs
+    readImage-lent z = ⊎-elim {C = record { number = 0; node = nodeWith ks (a .held) (a .table) (a .count) } ≡ readImage bs}
+        (λ (done : r .number ≡ 0). judged-yes done k admitted z)
+        (λ (g : r .number ≡ 0 → ⊥). absurd (g (ap (λ (x : Rest). x .number) (sym (refused-stays g)) ∙ z)))
+        (eq-or-ne (r .number) 0)
 
 -- ---- writing
 

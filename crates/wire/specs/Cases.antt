@@ -1,5 +1,5 @@
--- Worked examples over the call definitions, as one table: a frame and an image byte by byte, and each way to be refused.
--- That each row gives what is wanted is one law, `cases-hold` of proofs/Cases. Assumes nothing.
+-- Worked examples over the call definitions, as one table: a frame and an image byte by byte, and each way to be refused; then, as a second
+-- one, claims of three that no store could make. That each row gives what is wanted is one law for each table, in proofs/Cases. Assumes nothing.
 use Prim.Native.Nat.{ℕ}
 use mathlib.Core.List.{List, [], _∷_, _++_}
 use lib.ListN.{take, replicate}
@@ -12,7 +12,7 @@ use Rattle.wire.specs.declared.answer.Imaged.{Imaged}
 use Rattle.wire.specs.declared.answer.Length.{Length}
 use Rattle.wire.specs.Number.{bytes}
 use Rattle.wire.specs.Claim.{countWidth}
-use Rattle.wire.specs.Frame.{fourOf, noFrame, readFrame, writeFrame, frameLent}
+use Rattle.wire.specs.Frame.{frameBytes, fourOf, noFrame, readFrame, writeFrame, frameLent}
 use Rattle.wire.specs.Image.{imageBytes, noImage, readImage, imageLength, writeImage, imageLent}
 
 -- what a row compares
@@ -141,4 +141,38 @@ table =
     ∷ imageLengthIs node 54 0 54
     ∷ imageWrites node 53 (replicate 53 7)
     ∷ imageLengthIs (nodeOf (6 ∷ 5 ∷ []) []) 9860 1 0
+    ∷ []
+
+-- ---- claims of three that no store could make (document 02, slip 2)
+
+-- claims of three whose middle keys would be 10 and 12
+abbrev pub faulty : List Claim
+faulty = claim 0 10 0 3 ∷ claim 0 10 6 3 ∷ []
+
+-- an image of {0, 10} saved before 16 came: sound claims stand before, between and behind these two
+abbrev pub savedImage : List ℕ
+savedImage = imageBytes (0 ∷ 10 ∷ []) (claim 0 10 10 2 ∷ claim 0 10 0 3 ∷ claim 0 10 3 3 ∷ claim 0 10 6 3 ∷ whole ∷ claim 0 10 6 4 ∷ [])
+
+-- .. and the claims that are used of it
+abbrev pub soundClaims : List Claim
+soundClaims = claim 0 10 10 2 ∷ claim 0 10 3 3 ∷ whole ∷ claim 0 10 6 4 ∷ []
+
+abbrev pub faultyTable : List Row
+faultyTable =
+    -- in a frame, read and written: 13; past the claims that are written it is not asked about
+    frameGets (frameBytes (whole ∷ faulty)) 13
+    ∷ frameLengthIs (whole ∷ faulty) 2 108 13 0
+    ∷ frameLengthIs (whole ∷ faulty) 1 108 0 30
+    -- claims that fail 16 are left out, and the image is written without them; where all do, nothing is pending; the counts are those of the bytes
+    ∷ imageGives savedImage (nodeOf (0 ∷ 10 ∷ []) soundClaims)
+    ∷ imageWrites (readImage savedImage .node) 126 (imageBytes (0 ∷ 10 ∷ []) soundClaims ++ (7 ∷ 7 ∷ []))
+    ∷ imageGives (imageBytes (0 ∷ 10 ∷ []) faulty) (nodeOf (0 ∷ 10 ∷ []) [])
+    ∷ frontIs savedImage 0 176
+    ∷ imageGets (take 175 savedImage) 14
+    -- .. but not before 1 is asked: one out of order, one whose lo the store lacks, keys out of order
+    ∷ imageGets (imageBytes (0 ∷ 10 ∷ []) (claim 0 10 6 3 ∷ claim 0 10 0 3 ∷ [])) 1
+    ∷ imageGets (imageBytes (1 ∷ 10 ∷ []) faulty) 1
+    ∷ imageGets (imageBytes (10 ∷ 0 ∷ []) faulty) 1
+    -- a node that is given with one gets 1
+    ∷ imageLengthIs (nodeOf (0 ∷ 10 ∷ []) faulty) 9860 1 0
     ∷ []

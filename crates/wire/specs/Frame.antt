@@ -91,7 +91,7 @@ question12n n = question 12 (countable n)
 abbrev pub question12 : List ℕ → Question
 question12 bs = question 12 (sized bs)
 
--- 13. Does each claim in it pass 2 to 5?
+-- 13. Does each claim in it pass 2 to 5? And 16, which is "part of what 13 asks" (document 02, slip 2).
 abbrev pub allPass : List Claim → Bool
 allPass [] = true
 allPass (c ∷ cs) = eqb (judged c) 0 && allPass cs

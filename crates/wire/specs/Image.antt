@@ -12,8 +12,8 @@ use Rattle.claims.specs.declared.claim.Claim.{Claim}
 use Rattle.claims.specs.Question.{Question, question, firstNo, settle}
 use Rattle.rule.specs.declared.node.Node.{Node}
 use Rattle.rule.specs.Table.{tableLimit}
-use Rattle.rule.specs.Node.{nodeKeys, pendingOf, nodeOf, emptyNode}
-use Rattle.rule.specs.Question.{nodeQuestion1, question15}
+use Rattle.rule.specs.Node.{nodeKeys, pendingOf, nodeOf, emptyNode, telling}
+use Rattle.rule.specs.Question.{savedQuestion1, nodeQuestion1, question15}
 use Rattle.wire.specs.declared.answer.Imaged.{Imaged}
 use Rattle.wire.specs.declared.answer.Length.{Length}
 use Rattle.wire.specs.Number.{byte, bytes, numberAt}
@@ -104,7 +104,7 @@ question14 bs = question 14 (countsFit sections bs && eqb (length bs) (toldLengt
 abbrev pub frontQuestion14 : List ℕ → Question
 frontQuestion14 bs = question 14 (countsFit sections bs && leb (toldLength sections bs) (length bs))
 
--- ---- reading: parse, judge, use, node
+-- ---- reading: parse, judge all, use what passes 16, node
 
 pub record Contents : Type 0 where
   pub keys : List ℕ
@@ -120,13 +120,14 @@ parse bs = record { keys = thingsIn key bs; pending = thingsIn claim (behind key
 abbrev pub nodeFrom : Contents → Node
 nodeFrom c = nodeOf (c .keys) (c .pending)
 
--- judged by 14, then 1: "An image with contents out of order gets 1."
-abbrev pub readImageQuestions : List ℕ → List Question
-readImageQuestions bs = question14 bs ∷ nodeQuestion1 (nodeFrom (parse bs)) ∷ []
-
--- What is used of an image that has passed: all of it today.
+-- what is used of an image that has passed: a pending claim that fails 16 "is left out once the image has passed 1 as before, and the rest of the image is
+-- used" (document 02, slip 2)
 abbrev pub used : Contents → Contents
-used c = c
+used c = record { keys = c .keys; pending = telling (c .pending) }
+
+-- judged by 14, then 1 "as before", all that the bytes hold: "An image with contents out of order gets 1."
+abbrev pub readImageQuestions : List ℕ → List Question
+readImageQuestions bs = question14 bs ∷ savedQuestion1 (nodeFrom (parse bs)) ∷ []
 
 abbrev pub noImage : ℕ → Imaged
 noImage number = record { number = number; node = emptyNode }
@@ -136,6 +137,10 @@ readImage bs =
     settle (firstNo (readImageQuestions bs))
     (record { number = 0; node = nodeFrom (used (parse bs)) })
     noImage
+
+-- the bytes of an image without the claims that are left out
+abbrev pub usedBytes : List ℕ → List ℕ
+usedBytes bs = imageBytes (used (parse bs) .keys) (used (parse bs) .pending)
 
 -- the length of the image at the front of some bytes
 unfoldable pub imageLength : List ℕ → Length

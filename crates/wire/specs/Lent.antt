@@ -1,6 +1,6 @@
--- Calls between our own crates: an image read and written where a node's keys are lent, so that none is copied, and where question 1 is put by `front_in`
+-- Calls between our own crates: an image read and written where a node's keys are lent, so that none is copied, and where question 1 is put by `admit_in`
 -- of `nodes`, so that a host call pays it once. They are total, and no rule of document 01. What they are by the definitions of Image is said by
--- laws (proofs/LentLaws): `readImageIn-node`, `writeImageIn-writeImage`, `imageInLent-imageLent`. Assumes nothing.
+-- laws (proofs/LentLaws): `readImage-no`, `readImage-lent`, `writeImageIn-writeImage`, `imageInLent-imageLent`. Assumes nothing.
 use Prim.Native.Nat.{ℕ}
 use mathlib.Core.Bool.{Bool, _&&_}
 use mathlib.Core.List.{List, [], _∷_}
@@ -14,13 +14,10 @@ use Rattle.rule.specs.declared.answer.Rest.{Rest}
 use Rattle.rule.specs.Table.{tableLimit}
 use Rattle.rule.specs.Node.{blanks}
 use Rattle.rule.specs.Question.{question15}
+use Rattle.nodes.specs.Lent.{restOf}
 use Rattle.wire.specs.declared.answer.Length.{Length}
 use Rattle.wire.specs.Length.{noLength}
 use Rattle.wire.specs.Image.{parse, nodeFrom, question14, nodeBytes}
-
--- a node beside its keys
-abbrev pub restOf : Node → Rest
-restOf n = record { number = 0; held = n .store .count; table = n .pending; count = n .count }
 
 abbrev pub noRest : ℕ → Rest
 noRest number = record { number = number; held = 0; table = blanks tableLimit; count = 0 }

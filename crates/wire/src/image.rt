@@ -5,7 +5,7 @@ use crate::claim;
 use crate::number;
 use claims::Claim;
 use keys::Store;
-use nodes::front_in;
+use nodes::admit_in;
 use nodes::ordered;
 use rule::Node;
 use rule::Rest;
@@ -197,7 +197,7 @@ fn contents(bytes: &[u8], n: usize, m: usize, keys: &mut [u64; Store::LIMIT]) ->
     }
 }
 
-// Reads an image: its keys into the first places of a lent run, and the rest. Asks 14; question 1 is left to `front_in`.
+// Reads an image: its keys into the first places of a lent run, and the rest. Asks 14; question 1 is left to `admit_in`.
 pub fn read_image_in(bytes: &[u8], keys: &mut [u64; Store::LIMIT]) -> Rest
     ensures { λ r. ⌜ (r ≡ readImageIn (now (bytes .entry)))
         × (now (keys .exit) ≡ readImageInLent (now (bytes .entry)) (now (keys .entry))) ⌝ }
@@ -234,28 +234,26 @@ fn no_image(number: u8) -> Imaged
     }
 }
 
-// The node of an image. Questions 14 and 1.
+// The node of an image. Questions 14 and 1; then pending claims that fail 16 are left out.
 pub fn read_image(bytes: &[u8]) -> Imaged
     ensures { λ r. ⌜ r ≡ readImage (now (bytes .entry)) ⌝ }
 {
     let mut store = Store::empty();
     let read = read_image_in(bytes, &mut store.keys);
-    if read.number != 0 {
-        return no_image(read.number);
-    }
-    let pending = read.table;
     let held = read.held;
     let places = &store.keys[..];
-    if !front_in(&places[..held], pending, read.count) {
-        return no_image(1);
+    let rest = admit_in(&places[..held], read);
+    if rest.number != 0 {
+        return no_image(rest.number);
     }
-    store.count = held;
+    store.count = rest.held;
+    let pending = rest.table;
     Imaged {
         number: 0,
         node: Node {
             store,
             pending,
-            count: read.count,
+            count: rest.count,
         },
     }
 }

@@ -16,8 +16,9 @@
  * may be lost, repeated, delayed and reordered.
  *
  * A refused call returns minus the number of the first question that was
- * answered no, and writes nothing. 2 to 5 are about a claim in a frame, and
- * told as 13.
+ * answered no, and writes nothing. 2 to 5 and 16 are about a claim in a
+ * frame, and told as 13. A pending claim in an image that fails 16 alone is
+ * left out, and gone from the image that a call writes.
  *
  *    1  a store, a node or an image's contents are out of order
  *    2  a claim's lo is greater than its hi
@@ -28,9 +29,10 @@
  *   10  the frame has fewer than 4 bytes or doesn't begin with hex 4C 43
  *   11  the frame's version is not 1
  *   12  the frame's n is not from 1 to 4, or its length is not 4 + 26n
- *   13  a claim in the frame doesn't pass questions 2 to 5
+ *   13  a claim in the frame doesn't pass questions 2 to 5 and 16
  *   14  the image's counts exceed 1,024 or 64, or its length is not theirs
  *   15  a lent output is too short
+ *   16  a claim's cnt is 3 though sum XOR lo XOR hi is not strictly between lo and hi
  *
  * On success the bytes past what was written keep their contents.
  */

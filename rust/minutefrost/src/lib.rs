@@ -107,8 +107,9 @@ pub struct Beat {
 /// returns its length.
 ///
 /// The key goes to its place among the others; pending claims stay. A key that
-/// is held already changes nothing, and the new image is the old one. `out` has
-/// at least [`IMAGE_MOST`] bytes.
+/// is held already changes nothing, and the new image is the old one; without
+/// pending claims that 16 refuses, if it was saved before 16 was asked. `out`
+/// has at least [`IMAGE_MOST`] bytes.
 ///
 /// # Errors
 ///

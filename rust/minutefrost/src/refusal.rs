@@ -57,9 +57,10 @@ impl Refusal {
             10 => "the frame has fewer than 4 bytes or doesn't begin with hex 4C 43",
             11 => "the frame's version is not 1",
             12 => "the frame's n is not from 1 to 4, or its length is not 4 + 26n",
-            13 => "a claim in the frame doesn't pass questions 2 to 5",
+            13 => "a claim in the frame doesn't pass questions 2 to 5 and 16",
             14 => "the image's counts exceed 1,024 or 64, or its length is not theirs",
             15 => "a lent output is too short",
+            16 => "a claim's cnt is 3 though sum XOR lo XOR hi is not strictly between lo and hi",
             _ => "a question that this version doesn't know",
         }
     }

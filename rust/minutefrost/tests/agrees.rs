@@ -8,7 +8,7 @@ use std::cell::RefCell;
 use std::collections::{BTreeMap, BTreeSet};
 use std::fmt::Debug;
 
-use common::{Rng, for_seeds, frame_of, image_of};
+use common::{Rng, for_seeds, frame_of, image_of, without_left_out};
 use minutefrost::*;
 use second::{Claim, RawNode};
 
@@ -150,7 +150,8 @@ fn bytes_of(node: &RawNode) -> Vec<u8> {
     image_of(node.store.held(), node.table())
 }
 
-/// An image: in order, out of order in its contents, or damaged.
+/// An image: in order, saved before question 16 was asked, out of order in its
+/// contents, or damaged.
 fn draw_image(rng: &mut Rng) -> (Vec<u64>, Vec<u8>) {
     let mut node = rng.node();
     if rng.one_in(3) {
@@ -169,6 +170,9 @@ fn draw_image(rng: &mut Rng) -> (Vec<u64>, Vec<u8>) {
         }
     }
     let keys = node.store.held().to_vec();
+    if rng.one_in(5) {
+        node = RawNode::of(node.store, &rng.saved_table(&keys));
+    }
     let mut image = bytes_of(&node);
     match rng.below(12) {
         0 => rng.damage(&mut image),
@@ -204,6 +208,11 @@ fn draw_frame(rng: &mut Rng, keys: &[u64]) -> Vec<u8> {
     frame
 }
 
+/// Whether something is left out of an image that is read.
+fn is_left_out(image: &[u8]) -> bool {
+    without_left_out(image) != image
+}
+
 /// Which claim of a frame, from 1 on, is the first with no room for its keys.
 fn claim_without_room(image: &[u8], frame: &[u8]) -> u8 {
     let refused = |n: &u8| {
@@ -218,31 +227,38 @@ fn claim_without_room(image: &[u8], frame: &[u8]) -> u8 {
 
 #[test]
 fn take_frame_agrees() {
-    let (seen, without_room) = (Seen::default(), Seen::default());
+    let (seen, left_out) = (Seen::default(), Seen::default());
+    let without_room = Seen::default();
     for_seeds(6_000, |rng| {
         let (keys, image) = draw_image(rng);
         for _ in 0..3 {
             let frame = draw_frame(rng, &keys);
             let mut out = Guarded::draw(rng, IMAGE_MOST);
-            if take_both(&image, &frame, &mut out, &seen) == 6 {
-                without_room.note(claim_without_room(&image, &frame));
+            match take_both(&image, &frame, &mut out, &seen) {
+                0 => left_out.note(is_left_out(&image)),
+                6 => without_room.note(claim_without_room(&image, &frame)),
+                _ => {}
             }
         }
     });
     seen.check(&[0, 1, 6, 10, 11, 12, 13, 14, 15], 50);
     without_room.check(&[1, 2, 3, 4], 50);
+    left_out.check(&[false, true], 50);
 }
 
 #[test]
 fn beat_agrees() {
-    let seen = Seen::default();
+    let (seen, left_out) = (Seen::default(), Seen::default());
     for_seeds(6_000, |rng| {
         let (_, image) = draw_image(rng);
         let mut out = Guarded::draw(rng, IMAGE_MOST);
         let mut sent = Guarded::draw(rng, BEAT_FRAMES);
-        beat_both(&image, &mut out, &mut sent, &seen);
+        if beat_both(&image, &mut out, &mut sent, &seen).is_some() {
+            left_out.note(is_left_out(&image));
+        }
     });
     seen.check(&[0, 1, 14, 15], 50);
+    left_out.check(&[false, true], 50);
 }
 
 /// A key to enter: the ends of all keys, one that is held, one beside it, or
@@ -275,6 +291,7 @@ fn place_of(keys: &[u64], key: u64) -> &'static str {
 #[test]
 fn enter_agrees() {
     let (seen, places, ends) = (Seen::default(), Seen::default(), Seen::default());
+    let left_out = Seen::default();
     for_seeds(6_000, |rng| {
         let (keys, image) = draw_image(rng);
         for _ in 0..3 {
@@ -284,12 +301,15 @@ fn enter_agrees() {
                 // The image has these keys; it may have been damaged.
                 let held = second::read_image(&image).node.store;
                 places.note((number, place_of(held.held(), key)));
+                left_out.note((number, is_left_out(&image)));
                 if number == 0 && (key == 0 || key == u64::MAX) {
                     ends.note((key, held.held().contains(&key)));
                 }
             }
         }
     });
+    let numbers = [0, 6, 15].map(|number| [(number, false), (number, true)]);
+    left_out.check(&numbers.concat(), 20);
     seen.check(&[0, 1, 6, 14, 15], 50);
     let room = [
         "held",
@@ -312,10 +332,11 @@ fn enter_agrees() {
 
 #[test]
 fn keys_agree() {
-    let (seen, counts) = (Seen::default(), Seen::default());
+    let (seen, counts, left_out) = (Seen::default(), Seen::default(), Seen::default());
     for_seeds(3_000, |rng| {
         let (_, image) = draw_image(rng);
         if let Some(count) = keys_both(&image, &seen) {
+            left_out.note(is_left_out(&image));
             counts.note(match count {
                 0 => "none",
                 1..1_024 => "some",
@@ -325,6 +346,7 @@ fn keys_agree() {
     });
     seen.check(&[0, 1, 14], 50);
     counts.check(&["none", "some", "all that fit"], 50);
+    left_out.check(&[false, true], 50);
 }
 
 /// Bytes of no sense at all, of any length.

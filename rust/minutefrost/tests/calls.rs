@@ -4,7 +4,7 @@
 #[path = "../../second/tests/common/mod.rs"]
 mod common;
 
-use common::{c, claim_of, frame_of, image_of, image_of_keys};
+use common::{c, claim_of, frame_of, image_of, image_of_keys, three};
 use minutefrost::*;
 use second::Claim;
 
@@ -69,6 +69,8 @@ fn no_images() -> Vec<(Vec<u8>, u8)> {
     all.push((image_of_keys(&even(1_025)), 14));
     let claims: Vec<Claim> = (2..67).map(|cnt| c(0, 2_046, 0, cnt)).collect();
     all.push((image_of(&even(1_024), &claims), 14));
+    let faulty: Vec<Claim> = (1..66).map(|at| three(0, 0, 2 * at)).collect();
+    all.push((image_of(&even(1_024), &faulty), 14));
     for keys in [[1, 1], [2, 1]] {
         all.push((image_of_keys(&keys), 1));
     }
@@ -77,6 +79,10 @@ fn no_images() -> Vec<(Vec<u8>, u8)> {
         vec![c(1, 16, 0, 2)],                   // 5
         vec![c(1, 16, 0, 4), c(1, 16, 0, 3)],   // falling
         vec![c(1, 16, 17, 2), c(1, 16, 17, 2)], // twice
+        // Of those that would be left out, as of any other:
+        vec![three(1, 20, 16), c(1, 16, 17, 2)],  // falling
+        vec![three(1, 20, 16), three(1, 20, 16)], // twice
+        vec![c(1, 16, 17, 2), three(1, 20, 15)],  // 15 isn't held
     ] {
         all.push((image_of(&[1, 16], &pending), 1));
     }
@@ -119,7 +125,15 @@ fn a_frame_is_refused_by_each_question_that_concerns_it() {
     assert_eq!(frame_refused(&image, &frame[..29], out()), 12);
     let five = frame_of(&[c(7, 7, 7, 1); 5]);
     assert_eq!(frame_refused(&image, &five, out()), 12);
-    for claim in [c(9, 5, 12, 2), c(5, 6, 3, 0), c(5, 6, 3, 3), c(5, 5, 0, 1)] {
+    for claim in [
+        c(9, 5, 12, 2),
+        c(5, 6, 3, 0),
+        c(5, 6, 3, 3),
+        c(5, 5, 0, 1),
+        three(1, 20, 16),
+        three(1, 1, 16),
+        three(1, 16, 16),
+    ] {
         let frame = frame_of(&[c(7, 7, 7, 1), claim]);
         assert_eq!(frame_refused(&image, &frame, out()), 13);
     }
@@ -339,6 +353,35 @@ fn a_middle_key_comes_where_there_is_space() {
         held.extend(middle);
         held.push(5_016);
         assert!(keys(&out[..length]).unwrap().eq(held));
+    }
+}
+
+/// Of an image that has one pending, the rest is used and written back.
+#[test]
+fn claims_of_three_that_no_store_could_make_are_left_out() {
+    let [own, good] = [c(1, 16, 17, 2), three(1, 2, 16)];
+    let rest = image_of(&[1, 16], &[own, good]);
+    for faulty in [three(1, 20, 16), three(1, 16, 16), three(1, 1, 16)] {
+        let mut pending = [own, faulty, good];
+        pending.sort_by_key(Claim::rank);
+        let image = image_of(&[1, 16], &pending);
+        assert!(keys(&image).unwrap().eq([1, 16]));
+        assert_eq!(entered(&image, 16), rest);
+        assert_eq!(entered(&rest, 16), rest);
+        let (mut out, mut sent) = buffers();
+        let beaten = beat(&image, &mut out, &mut sent).unwrap();
+        assert_eq!(out[..beaten.image], image_of(&[1, 16], &[good]));
+        assert_eq!(sent[..beaten.frames], frame_of(&[own, own]));
+        assert!(out[beaten.image..].iter().all(|&byte| byte == 0xA5));
+        let seven = c(7, 7, 7, 1);
+        let length = take_frame(&image, &frame_of(&[seven]), &mut out).unwrap();
+        assert_eq!(out[..length], image_of(&[1, 7, 16], &[seven, own, good]));
+        // Refused by a later question, nothing is written back.
+        assert_eq!(frame_refused(&image, &[], buffers().0), 10);
+        assert_eq!(frame_refused(&image, &frame_of(&[faulty]), buffers().0), 13);
+        let short = || vec![0xA5; IMAGE_MOST - 1];
+        assert_eq!(key_refused(&image, 16, short()), 15);
+        assert_eq!(beat_refused(&image, short(), buffers().1), 15);
     }
 }
 

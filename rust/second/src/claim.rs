@@ -2,7 +2,8 @@
 
 /// What a sender says of a span of its store.
 ///
-/// Any content: whether it could be of a store is what questions 2 to 5 ask.
+/// Any content: whether it could be of a store is what questions 2 to 5 and 16
+/// ask.
 #[derive(Clone, Copy, Debug, Default, PartialEq, Eq, Hash)]
 pub struct Claim {
     /// The smallest key of the span.
@@ -32,6 +33,12 @@ impl Claim {
         let sum = span.iter().fold(0, |sum, key| sum ^ key);
         // A span lies in a store, so its length is at most 1,024.
         Claim::new(span[0], span[span.len() - 1], sum, span.len() as u16)
+    }
+
+    /// The key that a claim of three says lies between its ends: "sum XOR lo
+    /// XOR hi" (document 02, slips 1 and 2).
+    pub(crate) fn middle(&self) -> u64 {
+        self.sum ^ self.lo ^ self.hi
     }
 
     /// What pending claims rise by: "by cnt, then lo, hi, sum".

@@ -4,6 +4,9 @@
 //! Document 01 names two of them, [`take_frame`] and [`beat`]. By the other two
 //! a daemon enters a key, as document 01 enters one into a store, and learns
 //! how many keys an image holds.
+//!
+//! An image with pending claims that fail 16 "is written back without" them
+//! (document 02, slip 2) by each call that writes one.
 
 use crate::frame::{FRAME_CLAIMS, claims_of_frame, put_frame};
 use crate::image::{IMAGE_MOST, node_of_image, put_image};

@@ -60,7 +60,9 @@ pub(crate) fn front_length(bytes: &[u8]) -> Asked<usize> {
     Ok(length)
 }
 
-/// The node of an image, judged by 14 and 1.
+/// The node of an image, judged by 14 and 1, without the pending claims that
+/// fail 16: each "is left out once the image has passed 1 as before, and the
+/// rest of the image is used" (document 02, slip 2).
 pub(crate) fn node_of_image(image: &[u8]) -> Asked<Node> {
     ask(14, front_length(image)? == image.len())?;
     // Asked just now, so that both counts are there; the bytes after the
@@ -76,6 +78,7 @@ pub(crate) fn node_of_image(image: &[u8]) -> Asked<Node> {
     pending.extend(claim_bytes.map(claim_from_bytes));
 
     ask(1, questions::contents_in_order(&keys, &pending))?;
+    pending.retain(questions::q16_middle_between);
     Ok(Node {
         store: Store::from_keys(keys),
         pending,
@@ -109,7 +112,8 @@ pub struct ImageRead {
     pub node: RawNode,
 }
 
-/// Reads an image that is the whole of these bytes. Asks 14 and 1.
+/// Reads an image that is the whole of these bytes. Asks 14 and 1. Pending
+/// claims that fail 16 aren't in the node.
 pub fn read_image(image: &[u8]) -> ImageRead {
     match node_of_image(image) {
         Ok(node) => ImageRead {
@@ -125,6 +129,10 @@ pub fn read_image(image: &[u8]) -> ImageRead {
 
 /// Writes the image of a node and returns its length. Asks 1 and 15, the
 /// output being long enough if this image fits.
+///
+/// What [`read_image`] read is written as the same bytes, where nothing was
+/// left out: "the same-bytes rule holds for images that have none" (document
+/// 02, slip 2) of the claims that fail 16.
 pub fn write_image(node: &RawNode, out: &mut [u8]) -> Length {
     Length::from(
         questions::of_write_image(node, out.len())

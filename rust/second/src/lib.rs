@@ -1,6 +1,6 @@
-//! Document 01 and slip 1 of document 02 in plain Rust, written from these and
-//! the paper alone; beyond them are two host calls, [`host::enter`] and
-//! [`host::count`].
+//! Document 01 and slips 1 and 2 of document 02 in plain Rust, written from
+//! these and the paper alone; beyond them are two host calls, [`host::enter`]
+//! and [`host::count`].
 //!
 //! This is the second program of document 01 ("the rest, with random stores,
 //! run against a second program"): it shares no code, table or constant with
@@ -9,7 +9,7 @@
 //! key of three (document 02, slip 1).
 //!
 //! Every public call takes stores and nodes of any content ([`RawStore`],
-//! [`RawNode`]), puts the questions that concern it in document 01's order
+//! [`RawNode`]), puts the questions that concern it in the documents' order
 //! ([`questions`]) and answers with the number of the first one answered no,
 //! 0 if there is none. A refusal gives back the given store or node and zeros
 //! for any claim or count, and leaves every lent place as it was.

@@ -141,7 +141,7 @@ pub struct Taken {
     pub node: RawNode,
 }
 
-/// Takes one claim into the pending table. Asks 1, 2 to 5 and 6.
+/// Takes one claim into the pending table. Asks 1, 2 to 5, 16 and 6.
 pub fn take(node: RawNode, claim: Claim) -> Taken {
     if let Err(number) = questions::of_take(&node, &claim) {
         return Taken { number, node };

@@ -1,10 +1,12 @@
-//! The fifteen questions (document 01, "Questions, each with its number when
-//! the answer is no"), and for each public call the first one answered no.
+//! The sixteen questions (document 01, "Questions, each with its number when
+//! the answer is no", and document 02, slip 2), and for each public call the
+//! first one answered no.
 //!
-//! The functions `q1_…` to `q15_…` answer one question each, yes or no. Those
+//! The functions `q1_…` to `q16_…` answer one question each, yes or no. Those
 //! named `of_…` put a call's questions, "those that concern it, in this
-//! order", and give the number of the first no. A question is put only when
-//! those before it were answered yes, so that it may count on them.
+//! order", 16 "straight after 5", and give the number of the first no. A
+//! question is put only when those before it were answered yes, so that it may
+//! count on them.
 
 use std::collections::BTreeSet;
 
@@ -24,7 +26,7 @@ pub(crate) fn ask(number: u8, yes: bool) -> Asked {
     if yes { Ok(()) } else { Err(number) }
 }
 
-// ---- the fifteen ----
+// ---- the sixteen ----
 
 /// 1, of a store: "the count is at most 1,024, the keys below the count rise
 /// strictly and every place from the count on is 0".
@@ -36,11 +38,12 @@ pub fn q1_store_in_order(store: &RawStore) -> bool {
 }
 
 /// 1, of a node: its store is in order and so is its table, with zeros in
-/// the unused places.
+/// the unused places. Where a pending claim fails 16, "a node given with one
+/// gets 1" (document 02, slip 2).
 pub fn q1_node_in_order(node: &RawNode) -> bool {
     q1_store_in_order(&node.store) && node.pending_count <= PENDING && {
         let (pending, unused) = node.pending.split_at(node.pending_count);
-        table_in_order(node.store.held(), pending)
+        table_in_order(node.store.held(), pending, of_claim)
             && unused.iter().all(|place| *place == Claim::ZERO)
     }
 }
@@ -50,21 +53,22 @@ pub(crate) fn keys_in_order(keys: &[u64]) -> bool {
     keys.is_sorted_by(|lower, upper| lower < upper)
 }
 
-/// Whether pending claims rise strictly, pass questions 2 to 5 and have their
+/// Whether pending claims rise strictly, pass their questions and have their
 /// ends among keys in order.
-fn table_in_order(keys: &[u64], pending: &[Claim]) -> bool {
+fn table_in_order(keys: &[u64], pending: &[Claim], asked: impl Fn(&Claim) -> Asked) -> bool {
     pending.is_sorted_by(|before, after| before.rank() < after.rank())
         && pending.iter().all(|claim| {
-            of_claim(claim).is_ok()
+            asked(claim).is_ok()
                 && keys.binary_search(&claim.lo).is_ok()
                 && keys.binary_search(&claim.hi).is_ok()
         })
 }
 
 /// 1, of the contents of an image, which has no unused places. Its counts
-/// are at most 1,024 and 64 by question 14.
+/// are at most 1,024 and 64 by question 14. Pending claims that fail 16 are
+/// there still: 1 is asked "as before" (document 02, slip 2).
 pub(crate) fn contents_in_order(keys: &[u64], pending: &[Claim]) -> bool {
-    keys_in_order(keys) && table_in_order(keys, pending)
+    keys_in_order(keys) && table_in_order(keys, pending, of_saved_claim)
 }
 
 /// 2: "Is lo ≤ hi?"
@@ -96,6 +100,14 @@ pub fn q5_sum_of_ends(claim: &Claim) -> bool {
         2 => claim.sum == claim.lo ^ claim.hi,
         _ => true,
     }
+}
+
+/// 16, answered no "for a claim with cnt 3 and sum XOR lo XOR hi not strictly
+/// between lo and hi, asked straight after 5 and part of what 13 asks"
+/// (document 02, slip 2).
+pub fn q16_middle_between(claim: &Claim) -> bool {
+    let middle = claim.middle();
+    claim.cnt != 3 || (claim.lo < middle && middle < claim.hi)
 }
 
 /// 6: "Do the missing ones among the keys to add fit below 1,025?" A key to
@@ -162,7 +174,8 @@ pub fn q12_length_told(frame: &[u8]) -> bool {
     })
 }
 
-/// 13: "Does each claim in it pass 2 to 5?"
+/// 13: "Does each claim in it pass 2 to 5?" And 16, which is "part of what 13
+/// asks" (document 02, slip 2).
 pub fn q13_claims_pass(mut claims: impl Iterator<Item = Claim>) -> bool {
     claims.all(|claim| of_claim(&claim).is_ok())
 }
@@ -180,8 +193,15 @@ pub fn q15_outputs_long_enough(lent: &[(usize, usize)]) -> bool {
 
 // ---- the first answered no ----
 
-/// 2 to 5, of one claim.
+/// 2 to 5, 16, of one claim.
 pub fn of_claim(claim: &Claim) -> Asked {
+    of_saved_claim(claim)?;
+    ask(16, q16_middle_between(claim))
+}
+
+/// 2 to 5, of one claim that an image has pending. By 16 it isn't refused but
+/// left out.
+pub fn of_saved_claim(claim: &Claim) -> Asked {
     ask(2, q2_lo_at_most_hi(claim))?;
     ask(3, q3_cnt_in_limit(claim))?;
     ask(4, q4_cnt_in_span(claim))?;
@@ -200,14 +220,14 @@ pub fn of_make(store: &RawStore, first: usize, last: usize) -> Asked {
     ask(7, q7_positions_held(store.count, first, last))
 }
 
-/// 1, 2 to 5, 6.
+/// 1, 2 to 5, 16, 6.
 pub fn of_reply(store: &RawStore, claim: &Claim) -> Asked {
     ask(1, q1_store_in_order(store))?;
     of_claim(claim)?;
     ask(6, q6_missing_fit(store.held(), &[claim.lo, claim.hi]))
 }
 
-/// 1, 2 to 5, 6.
+/// 1, 2 to 5, 16, 6.
 pub fn of_take(node: &RawNode, claim: &Claim) -> Asked {
     ask(1, q1_node_in_order(node))?;
     of_claim(claim)?;
@@ -274,11 +294,10 @@ pub fn of_host_take_frame(image: &[u8], frame: &[u8], out: usize) -> Asked {
     for claim in claims_of_frame(frame) {
         keys.extend([claim.lo, claim.hi]);
         ask(6, keys.len() <= RawStore::LIMIT)?;
-        let middle = claim.sum ^ claim.lo ^ claim.hi;
-        let between = claim.lo < middle && middle < claim.hi;
+        // Strictly between them by 16, a part of 13.
         let own = keys.range(claim.lo..=claim.hi).count();
-        if claim.cnt == 3 && own == 2 && between && keys.len() < RawStore::LIMIT {
-            keys.insert(middle);
+        if claim.cnt == 3 && own == 2 && keys.len() < RawStore::LIMIT {
+            keys.insert(claim.middle());
         }
     }
     ask(15, q15_outputs_long_enough(&[(out, IMAGE_MOST)]))

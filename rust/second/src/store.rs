@@ -132,17 +132,17 @@ impl Store {
     /// "Add lo and hi where missing." "When a claim has cnt 3 and own is just
     /// lo and hi after they were added, the key sum XOR lo XOR hi is added as
     /// well (the paper, 5.2). It is added only if it lies strictly between lo
-    /// and hi and the store has space." (document 02, slip 1)
+    /// and hi and the store has space." (document 02, slip 1) Between them it
+    /// lies by question 16, which was answered yes.
     pub(crate) fn learn(&mut self, claim: &Claim) -> (usize, usize) {
+        debug_assert!(questions::q16_middle_between(claim));
         let first = self.enter(claim.lo);
         // hi isn't below lo, so entering it leaves lo where it is.
         let last = self.enter(claim.hi);
-        let middle = claim.sum ^ claim.lo ^ claim.hi;
         let just_the_ends = last - first == 1;
-        let between = claim.lo < middle && middle < claim.hi;
         let space = self.keys.len() < RawStore::LIMIT;
-        if claim.cnt == 3 && just_the_ends && between && space {
-            self.enter(middle);
+        if claim.cnt == 3 && just_the_ends && space {
+            self.enter(claim.middle());
             return (first, last + 1);
         }
         (first, last)
@@ -273,7 +273,7 @@ impl Replied {
     }
 }
 
-/// Replies to one claim. Asks 1, 2 to 5 and 6.
+/// Replies to one claim. Asks 1, 2 to 5, 16 and 6.
 pub fn reply(store: RawStore, claim: Claim) -> Replied {
     if let Err(number) = questions::of_reply(&store, &claim) {
         return Replied {

@@ -1,6 +1,7 @@
 //! The twelve lettered cases of document 01, "Slips from the desk drawer", the
-//! mistakes that come easily, the rehearsal's worked example, and slip 1 of
-//! document 02, "The middle key of three".
+//! mistakes that come easily, the rehearsal's worked example, and of document
+//! 02 slip 1, "The middle key of three", and slip 2, "Claims of three that no
+//! store could make".
 
 mod common;
 
@@ -96,7 +97,11 @@ fn h_the_whole_claim_of_key_0() {
 
 /// The number a claim is refused with, the same wherever it is delivered.
 fn refused(claim: Claim) -> u8 {
-    let store = RawStore::of(&[5, 6, 9]);
+    refused_by(&[5, 6, 9], claim)
+}
+
+fn refused_by(keys: &[u64], claim: Claim) -> u8 {
+    let store = RawStore::of(keys);
     let node = RawNode::of(store.clone(), &[]);
     let replied = reply(store.clone(), claim);
     let taken = take(node.clone(), claim);
@@ -104,6 +109,7 @@ fn refused(claim: Claim) -> u8 {
     assert_eq!(replied.claims(), (0, [Claim::ZERO; 2]));
     assert_eq!(taken.node, node);
     assert_eq!(taken.number, replied.number);
+    assert_eq!(questions::of_claim(&claim), Err(replied.number));
     replied.number
 }
 
@@ -241,22 +247,32 @@ fn the_middle_key_needs_space() {
     assert_eq!(take(RawNode::of(store, &[]), THREE).number, 6);
 }
 
-/// "It is added only if it lies strictly between lo and hi".
+/// "It is added only if it lies strictly between lo and hi"; and where it
+/// doesn't, claims "are now refused" (document 02, slip 2).
 #[test]
 fn the_middle_key_lies_strictly_between() {
     // At lo, at hi, just below, just above, and far from both.
     for middle in [4, 16, 3, 17, 0, u64::MAX] {
-        let claim = c(4, 16, 4 ^ middle ^ 16, 3);
-        for ends in [&[][..], &[4], &[16], &[4, 16]] {
-            let (keys, reply) = hears(ends, claim);
-            assert_eq!(keys, [4, 16]);
-            assert_eq!(reply, Reply::Ask(c(4, 16, 20, 2)));
+        for ends in [&[][..], &[4], &[16], &[4, 16], &[4, 5, 16]] {
+            assert_eq!(refused_by(ends, three(4, middle, 16)), 16);
         }
     }
+    // Just above lo and just below hi.
+    for middle in [5, 15] {
+        let (keys, reply) = hears(&[], three(4, middle, 16));
+        assert_eq!(
+            (keys.as_slice(), reply),
+            (&[4, middle, 16][..], Reply::Match)
+        );
+    }
     // Held, but outside.
-    let (keys, reply) = hears(&[3, 17], c(4, 16, 4 ^ 17 ^ 16, 3));
-    assert_eq!(keys, [3, 4, 16, 17]);
-    assert_eq!(reply, Reply::Ask(c(4, 16, 20, 2)));
+    assert_eq!(refused_by(&[3, 17], three(4, 17, 16)), 16);
+    // Three keys that are next to each other.
+    let (keys, reply) = hears(&[], three(4, 5, 6));
+    assert_eq!((keys.as_slice(), reply), (&[4, 5, 6][..], Reply::Match));
+    for middle in [3, 4, 6, 7] {
+        assert_eq!(refused_by(&[], three(4, middle, 6)), 16);
+    }
 }
 
 /// "When a claim has cnt 3 and own is just lo and hi after they were added".
@@ -350,4 +366,132 @@ fn a_middle_key_takes_a_place_from_the_next_claim() {
     // Alone each of them fits.
     assert_eq!(answer(&[THREE]).0, expected.len() as i64 - 26);
     assert_eq!(answer(&[next]).0, expected.len() as i64 - 26 - 16);
+}
+
+/// 20 would fall outside 1 and 16.
+const FAULTY: Claim = c(1, 16, 5, 3);
+
+/// "New numbers: 16, … asked straight after 5 and part of what 13 asks."
+#[test]
+fn sixteen_is_asked_after_5_and_before_6() {
+    assert_eq!(refused(FAULTY), 16);
+    // 2, 3 and 4 come before it; what 5 is about has no middle key.
+    assert_eq!(refused(c(16, 1, 5, 3)), 2);
+    assert_eq!(refused(c(5, 6, 3, 3)), 4);
+    assert_eq!(refused(c(1, 16, 5, 2)), 5);
+    // 6 comes after it: there is no place for 1 and 16.
+    assert_eq!(refused_by(&filled(&[], 1_024), FAULTY), 16);
+    assert_eq!(refused_by(&filled(&[], 1_023), FAULTY), 16);
+    let full = RawStore::of(&filled(&[], 1_024));
+    assert_eq!(reply(full, THREE).number, 6);
+    // In a frame it is 13, read or written, whatever else is in the frame.
+    for claims in [&[FAULTY][..], &[THREE, FAULTY], &[FAULTY, c(9, 5, 0, 0)]] {
+        assert_eq!(read_frame(&frame_of(claims)).number, 13);
+        let mut out = [0x55; 108];
+        let written = write_frame(claims, &mut out);
+        assert_eq!((written.number, written.length), (13, 0));
+        assert_eq!(out, [0x55; 108]);
+        let mut out = vec![0x55; 9_860];
+        let image = image_of_keys(&filled(&[], 1_024));
+        assert_eq!(host::take_frame(&image, &frame_of(claims), &mut out), -13);
+        assert_eq!(out, vec![0x55; 9_860]);
+    }
+}
+
+/// "a node given with one gets 1"
+#[test]
+fn a_node_with_a_faulty_claim_is_out_of_order() {
+    let own = c(1, 16, 17, 2);
+    for pending in [&[FAULTY][..], &[own, FAULTY], &[own, FAULTY, THREE]] {
+        let node = RawNode::of(RawStore::of(&[1, 16]), pending);
+        assert!(!questions::q1_node_in_order(&node));
+        let taken = take(node.clone(), c(7, 7, 7, 1));
+        assert_eq!((taken.number, &taken.node), (1, &node));
+        let mut run = vec![7; 516];
+        let beaten = beat(node.clone(), &mut run);
+        assert_eq!((beaten.number, beaten.written), (1, 0));
+        assert_eq!((beaten.node, run), (node.clone(), vec![7; 516]));
+        let mut out = vec![0x55; 9_860];
+        let written = write_image(&node, &mut out);
+        assert_eq!((written.number, written.length), (1, 0));
+        assert_eq!(out, vec![0x55; 9_860]);
+    }
+}
+
+/// An image already saved: two keys, and three claims pending, the second of
+/// which no store could make.
+const SAVED: [u8; 98] = [
+    0, 2, // two keys
+    0, 0, 0, 0, 0, 0, 0, 1, //
+    0, 0, 0, 0, 0, 0, 0, 16, //
+    0, 3, // three claims
+    0, 0, 0, 0, 0, 0, 0, 1, 0, 0, 0, 0, 0, 0, 0, 16, 0, 0, 0, 0, 0, 0, 0, 17, 0, 2, //
+    0, 0, 0, 0, 0, 0, 0, 1, 0, 0, 0, 0, 0, 0, 0, 16, 0, 0, 0, 0, 0, 0, 0, 5, 0, 3, //
+    0, 0, 0, 0, 0, 0, 0, 1, 0, 0, 0, 0, 0, 0, 0, 16, 0, 0, 0, 0, 0, 0, 0, 19, 0, 3, //
+];
+
+/// The same image as it is written back.
+const WRITTEN: [u8; 72] = [
+    0, 2, // two keys
+    0, 0, 0, 0, 0, 0, 0, 1, //
+    0, 0, 0, 0, 0, 0, 0, 16, //
+    0, 2, // two claims
+    0, 0, 0, 0, 0, 0, 0, 1, 0, 0, 0, 0, 0, 0, 0, 16, 0, 0, 0, 0, 0, 0, 0, 17, 0, 2, //
+    0, 0, 0, 0, 0, 0, 0, 1, 0, 0, 0, 0, 0, 0, 0, 16, 0, 0, 0, 0, 0, 0, 0, 19, 0, 3, //
+];
+
+/// "A pending one in an image already saved is left out once the image has
+/// passed 1 as before, and the rest of the image is used".
+#[test]
+fn a_saved_image_is_read_without_it() {
+    let own = c(1, 16, 17, 2);
+    assert_eq!(SAVED[..], image_of(&[1, 16], &[own, FAULTY, THREE]));
+    let node = RawNode::of(RawStore::of(&[1, 16]), &[own, THREE]);
+    for image in [&SAVED[..], &WRITTEN] {
+        let read = read_image(image);
+        assert_eq!((read.number, &read.node), (0, &node));
+        assert_eq!(host::count(image), 2);
+        // Only its store takes part, as ever.
+        let lines = "L 1 16 17 2\nR 1 16 17 2\nleft 2 right 2 claims 2\n";
+        assert_eq!(rehearse(&[image, &[0; 4]].concat()), lines);
+        assert_eq!(rehearse(&[image, image].concat()), lines);
+    }
+    assert_eq!(image_length(&SAVED).length, 98);
+    let mut out = [0x55; 72];
+    assert_eq!(write_image(&node, &mut out).length, 72);
+    assert_eq!(out, WRITTEN);
+}
+
+/// The image that a host call leaves at the front of its buffer.
+fn image_left(call: impl FnOnce(&mut [u8]) -> i64) -> Vec<u8> {
+    let mut out = vec![0x55; 9_860];
+    assert!(call(&mut out) >= 0);
+    let length = image_length(&out).length;
+    assert!(out[length..].iter().all(|&byte| byte == 0x55));
+    out[..length].to_vec()
+}
+
+/// "Such an image is written back without it, so the same-bytes rule holds for
+/// images that have none."
+#[test]
+fn a_saved_image_is_written_back_without_it() {
+    let enter = |image: &[u8], key| image_left(|out| host::enter(image, key, out));
+    // The second time it has none, and the bytes are the same.
+    assert_eq!(enter(&SAVED, 16), WRITTEN);
+    assert_eq!(enter(&WRITTEN, 16), WRITTEN);
+    for image in [&SAVED[..], &WRITTEN] {
+        let own = c(1, 16, 17, 2);
+        assert_eq!(enter(image, 5), image_of(&[1, 5, 16], &[own, THREE]));
+        let mut frames = vec![0x66; 3_486];
+        // Own is matched and leaves; that of three is asked about and stays.
+        // Nobody is asked about the other one.
+        let beaten = image_left(|out| host::beat(image, out, &mut frames));
+        assert_eq!(beaten, image_of(&[1, 16], &[THREE]));
+        assert_eq!(frames[..56], frame_of(&[own, own]));
+        assert_eq!(frames[56..], [0x66; 3_486 - 56]);
+        let seven = c(7, 7, 7, 1);
+        let frame = frame_of(&[seven]);
+        let taken = image_left(|out| host::take_frame(image, &frame, out));
+        assert_eq!(taken, image_of(&[1, 7, 16], &[seven, own, THREE]));
+    }
 }

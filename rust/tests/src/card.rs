@@ -4,7 +4,9 @@
 
 use second::*;
 
+use crate::draw::claims_in;
 use crate::drill::{Call, Card};
+use crate::left_out;
 use crate::middle::{self, ADDED};
 
 const NUMBER: usize = 0;
@@ -48,6 +50,25 @@ impl Case {
             self.ways.extend(ways);
         }
         self
+    }
+
+    /// Remembers the ways of a claim that a store or node in order hears: 16
+    /// refuses it if they say so, and only then.
+    fn on_hearing(mut self, ways: Vec<&'static str>) -> Case {
+        if self.number != 1 {
+            let refused = middle::is_refused(&ways);
+            assert_eq!(self.number == 16, refused, "16 by {ways:?}");
+        }
+        if self.number == 0 || self.number == 16 {
+            self.ways.extend(ways);
+        }
+        self
+    }
+
+    /// Remembers if a node is refused by claims that fail 16 alone.
+    fn on_node(self, by_16_alone: bool) -> Case {
+        assert!(!by_16_alone || self.number == 1, "such a node gets 1");
+        self.on(left_out::NODE, by_16_alone)
     }
 }
 
@@ -219,7 +240,7 @@ pub fn reply_case(store: RawStore, claim: Claim, noise: Noise) -> Case {
     .on("ask", matches!(kind, Some(Reply::Ask(_))))
     .on("one", matches!(kind, Some(Reply::One(_))))
     .on("two", matches!(kind, Some(Reply::Two(..))))
-    .on_all(middle)
+    .on_hearing(middle)
 }
 
 pub fn judge_case(claim: Claim, noise: Noise) -> Case {
@@ -240,6 +261,7 @@ pub fn take_case(node: RawNode, claim: Claim, noise: Noise) -> Case {
     let full = node.pending_count == PENDING;
     let middle = middle::learn(&mut node.store.held().to_vec(), &claim);
     let added = middle.iter().any(|way| ADDED.contains(way));
+    let by_16_alone = left_out::is_node_by_16_alone(&node);
     let mut kept = false;
     let case = case(Call::Take, given, |card| {
         let taken = take(node, claim);
@@ -254,7 +276,8 @@ pub fn take_case(node: RawNode, claim: Claim, noise: Noise) -> Case {
         .on("65, itself dropped", taken && full && !kept)
         .on("a pending one's middle key added", taken && equal && added)
         .on("a dropped one's middle key added", taken && !kept && added)
-        .on_all(middle)
+        .on_hearing(middle)
+        .on_node(by_16_alone)
 }
 
 /// `lent` words are lent, and some that are not come after them.
@@ -264,6 +287,7 @@ pub fn beat_case(node: RawNode, lent: usize, noise: Noise) -> Case {
     given.put_node(&node);
     let pending = node.pending_count;
     let threes = middle::ways_of_beat(&node);
+    let by_16_alone = left_out::is_node_by_16_alone(&node);
     let mut rest = (0, 0);
     let case = case(Call::Beat, given, |card| {
         let end = PAST_NODE + lent;
@@ -280,6 +304,7 @@ pub fn beat_case(node: RawNode, lent: usize, noise: Noise) -> Case {
         .on("some asked, some not", beaten && 0 < left && left < pending)
         .on("a full table", beaten && pending == PENDING)
         .on_all(threes)
+        .on_node(by_16_alone)
 }
 
 /// As a round on deliveries writes them to flat words, five to a record.
@@ -360,14 +385,19 @@ pub fn read_frame_case(bytes: Vec<u8>, lent: usize, noise: Noise) -> Case {
     let mut given = Card::noise(LEFT, 0, noise);
     given.words[SECOND] = lent as u64;
     given.bytes = bytes;
-    case(Call::ReadFrame, given, |card| {
+    let case = case(Call::ReadFrame, given, |card| {
         let read = read_frame(&card.bytes[..lent]);
         card.answer(read.number, read.count);
         for (at, claim) in read.claims.iter().enumerate() {
             card.put_claim(CLAIMS + 4 * at, claim);
         }
         read.number
-    })
+    });
+    let by_16 = case.number == 13 && {
+        let claims = claims_in(&case.given.bytes[4..lent]);
+        left_out::is_frame_by_16_alone(&claims)
+    };
+    case.on(left_out::FRAME, by_16)
 }
 
 /// The first n of four claims to the first `lent` of a buffer.
@@ -381,11 +411,13 @@ pub fn write_frame_case(four: [Claim; 4], n: u64, lent: usize, noise: Noise) -> 
     // Of more than four claims no other is asked but question 12.
     let mut claims = four.to_vec();
     claims.resize(n.min(5) as usize, Claim::ZERO);
-    case(Call::WriteFrame, given, |card| {
+    let case = case(Call::WriteFrame, given, |card| {
         let written = write_frame(&claims, &mut card.bytes[..lent]);
         card.answer(written.number, written.length);
         written.number
-    })
+    });
+    let by_16 = case.number == 13 && left_out::is_frame_by_16_alone(&claims);
+    case.on(left_out::FRAME, by_16)
 }
 
 /// The first `lent` of some bytes as an image.
@@ -393,12 +425,15 @@ pub fn read_image_case(bytes: Vec<u8>, lent: usize, noise: Noise) -> Case {
     let mut given = Card::noise(PAST_NODE, 0, noise);
     given.words[SECOND] = lent as u64;
     given.bytes = bytes;
-    case(Call::ReadImage, given, |card| {
+    let mut case = case(Call::ReadImage, given, |card| {
         let read = read_image(&card.bytes[..lent]);
         card.answer(read.number, 0);
         card.put_node(&read.node);
         read.number
-    })
+    });
+    let ways = left_out::ways_of_image(&case.given.bytes[..lent], case.number);
+    case.ways.extend(ways);
+    case
 }
 
 pub fn write_image_case(node: &RawNode, lent: usize, noise: Noise) -> Case {
@@ -410,6 +445,7 @@ pub fn write_image_case(node: &RawNode, lent: usize, noise: Noise) -> Case {
         card.answer(written.number, written.length);
         written.number
     })
+    .on_node(left_out::is_node_by_16_alone(node))
 }
 
 pub fn image_length_case(bytes: Vec<u8>, lent: usize, noise: Noise) -> Case {
@@ -426,14 +462,16 @@ pub fn image_length_case(bytes: Vec<u8>, lent: usize, noise: Noise) -> Case {
 pub fn ordered_case(node: &RawNode, noise: Noise) -> Case {
     let mut given = Card::noise(PAST_NODE, 0, noise);
     given.put_node(node);
-    let mut yes = false;
+    let yes = questions::q1_node_in_order(node);
+    let by_16_alone = left_out::is_node_by_16_alone(node);
+    assert!(!by_16_alone || !yes, "such a node is out of order");
     case(Call::Ordered, given, |card| {
-        yes = questions::q1_node_in_order(node);
         card.answer(0, usize::from(yes));
         0
     })
     .on("in order", yes)
     .on("out of order", !yes)
+    .on(left_out::NODE, by_16_alone)
 }
 
 pub fn empty_case(noise: Noise) -> Case {

@@ -23,6 +23,10 @@ impl Seen {
         *self.ways.entry(way).or_default() += 1;
     }
 
+    pub fn all(&mut self, ways: Vec<&'static str>) {
+        ways.into_iter().for_each(|way| self.way(way));
+    }
+
     /// Fails unless each of these numbers and ways was seen often enough, and
     /// no other number at all.
     pub fn expect(&self, numbers: &[u8], ways: &[&str], often: usize) {
@@ -71,6 +75,15 @@ pub fn for_seeds(cases: u64, mut each: impl FnMut(u64, &mut Rng)) {
         let _seed = Seed(seed);
         each(seed, &mut Rng(seed));
     }
+}
+
+/// One of these, told by the lowest digit of a number in their base; what
+/// remains of the number tells the next. So the numbers below the product of
+/// several bases tell each choice of one of each once.
+pub fn digit<T: Copy>(number: &mut u64, of: &[T]) -> T {
+    let digit = *number % of.len() as u64;
+    *number /= of.len() as u64;
+    of[digit as usize]
 }
 
 /// Whether one seed alone is run, where nothing can be expected to be seen.

@@ -4,6 +4,8 @@ use std::collections::BTreeSet;
 
 use second::*;
 
+use crate::middle::{holds, is_faulty, three};
+
 /// Splitmix64: each draw is a mix of a counter that steps by an odd number.
 pub struct Rng(pub u64);
 
@@ -172,7 +174,8 @@ impl Rng {
         claim
     }
 
-    /// A claim that passes 2 to 5: true of some of these keys, or of others.
+    /// A claim that passes 2 to 5 and 16: true of some of these keys, or of
+    /// others.
     pub fn true_claim(&mut self, keys: &[u64], density: Density) -> Claim {
         if keys.is_empty() || self.one_in(4) {
             let count = 1 + self.below(12);
@@ -184,10 +187,10 @@ impl Rng {
         claim_of(&keys[first..=last])
     }
 
-    /// A claim that one of the questions 2 to 5 refuses, or nearly does.
+    /// A claim that one of the questions 2 to 5 or 16 refuses, or nearly does.
     pub fn refused(&mut self, claim: Claim) -> Claim {
         let Claim { lo, hi, sum, cnt } = claim;
-        match self.below(12) {
+        match self.below(16) {
             0 => Claim::new(hi, lo, sum, cnt),
             1 => Claim::new(hi.wrapping_add(1), lo, sum, cnt),
             2 => Claim::new(lo, hi, sum, 0),
@@ -203,12 +206,23 @@ impl Rng {
             8 => Claim::new(lo, lo, sum ^ (self.next() % 2), 1),
             9 => Claim::new(lo, hi, lo ^ hi ^ (self.next() % 2), 2),
             10 => Claim::new(0, u64::MAX, sum, self.pick(&[1, 2, 3, 1_024, 1_025])),
+            11 | 12 => self.beside_an_end(lo, hi),
+            13 => self.beside_an_end(lo, lo.saturating_add(2)),
+            14 => Claim::new(lo, hi, sum, 3),
             _ => Claim::new(self.next(), self.next(), self.next(), self.next() as u16),
         }
     }
 
-    /// A claim for a table: its ends are among the keys, and 2 to 5 pass.
-    fn pending_claim(&mut self, keys: &[u64]) -> Claim {
+    /// A claim of three whose middle key is at one of its ends or next to it.
+    fn beside_an_end(&mut self, lo: u64, hi: u64) -> Claim {
+        let end = self.pick(&[lo, hi]);
+        let middle = self.pick(&[end, end.wrapping_sub(1), end.wrapping_add(1)]);
+        three(lo, middle, hi)
+    }
+
+    /// A claim for a table: its ends are among the keys, and 2 to 5 and 16
+    /// pass.
+    pub fn pending_claim(&mut self, keys: &[u64]) -> Claim {
         if self.one_in(6)
             && let Some(claim) = self.claim_of_three(keys)
         {
@@ -223,6 +237,10 @@ impl Rng {
             claim.cnt = 3 + if self.one_in(3) { far } else { near } as u16;
             if self.one_in(2) {
                 claim.sum = self.next();
+            }
+            if is_faulty(&claim) {
+                let middle = self.key_between(claim.lo, claim.hi);
+                claim = three(claim.lo, middle, claim.hi);
             }
         }
         claim
@@ -243,12 +261,23 @@ impl Rng {
             2 | 3 => self.below(65),
             _ => 64,
         };
+        let pending = self.table_of(keys, wanted, Rng::pending_claim);
+        RawNode::of(RawStore::of(keys), &pending)
+    }
+
+    /// So many pending claims that rise strictly, or as many as there are, each
+    /// drawn for these keys; one that has others as its ends is of one key.
+    pub fn table_of(
+        &mut self,
+        keys: &[u64],
+        wanted: usize,
+        draw: impl Fn(&mut Rng, &[u64]) -> Claim,
+    ) -> Vec<Claim> {
         let mut pending: Vec<Claim> = Vec::new();
         if !keys.is_empty() {
             for _ in 0..2 * wanted {
-                let mut claim = self.pending_claim(keys);
-                if keys.binary_search(&claim.lo).is_err() || keys.binary_search(&claim.hi).is_err()
-                {
+                let mut claim = draw(self, keys);
+                if !holds(keys, claim.lo) || !holds(keys, claim.hi) {
                     claim = claim_of(&[keys[self.below(keys.len())]]);
                 }
                 pending.push(claim);
@@ -260,7 +289,7 @@ impl Rng {
             let at = self.below(pending.len());
             pending.remove(at);
         }
-        RawNode::of(RawStore::of(keys), &pending)
+        pending
     }
 
     /// A node, mostly in order.
@@ -278,7 +307,7 @@ impl Rng {
         let held = count.max(1);
         let at = self.below(held);
         let density = self.density();
-        match self.below(11) {
+        match self.below(14) {
             0 => self.bend_store(&mut node.store, density),
             1 => node.pending_count = count.wrapping_sub(1),
             2 => node.pending_count = node.pending_count.wrapping_add(1),
@@ -302,7 +331,21 @@ impl Rng {
             // An end isn't held.
             8 => node.pending[at].hi = self.key(density),
             9 => node.pending[at].lo = self.key(density),
+            10..=12 => self.make_faulty(node),
             _ => node.pending[self.below(PENDING)] = Claim::new(self.next(), self.next(), 1, 3),
+        }
+    }
+
+    /// Puts a claim of three that no store could make into the table of a node
+    /// in order, in the place of another; the others stay in order.
+    fn make_faulty(&mut self, node: &mut RawNode) {
+        let keys = node.store.held().to_vec();
+        let count = node.pending_count.min(PENDING);
+        if let Some(claim) = self.claim_of_three(&keys)
+            && count > 0
+        {
+            node.pending[self.below(count)] = self.faulty(claim, &keys);
+            node.pending[..count].sort_by_key(Claim::rank);
         }
     }
 
@@ -382,6 +425,21 @@ fn push_claim(bytes: &mut Vec<u8>, claim: &Claim) {
         bytes.extend(number.to_be_bytes());
     }
     bytes.extend(claim.cnt.to_be_bytes());
+}
+
+/// A number in bytes, high byte first.
+pub fn number_in(bytes: &[u8]) -> u64 {
+    let digits = bytes.iter().map(|&byte| u64::from(byte));
+    digits.fold(0, |number, digit| number << 8 | digit)
+}
+
+/// The claims that stand in bytes, 26 each.
+pub fn claims_in(bytes: &[u8]) -> Vec<Claim> {
+    let claim = |bytes: &[u8]| {
+        let [lo, hi, sum] = [0, 8, 16].map(|at| number_in(&bytes[at..at + 8]));
+        Claim::new(lo, hi, sum, number_in(&bytes[24..]) as u16)
+    };
+    bytes.chunks_exact(26).map(claim).collect()
 }
 
 impl Rng {

@@ -1,7 +1,8 @@
 //! What the comparisons share: the proved program behind a pipe ([`drill`]),
 //! the words and bytes of its requests ([`card`]), cases drawn from a seed
-//! ([`draw`]), claims of three and the ways they go ([`middle`]), and runs of
-//! many cases with what was seen in them ([`cases`]).
+//! ([`draw`]), claims of three and the ways they go ([`middle`]), images that
+//! have some which no store could make ([`left_out`]), and runs of many cases
+//! with what was seen in them ([`cases`]).
 
 #![forbid(unsafe_code)]
 
@@ -9,4 +10,5 @@ pub mod card;
 pub mod cases;
 pub mod draw;
 pub mod drill;
+pub mod left_out;
 pub mod middle;

@@ -1,13 +1,14 @@
-//! Claims of three and what becomes of their middle key (document 02, slip 1):
-//! the ways that such a claim can go, read off the slip's sentences once more,
-//! and cases drawn so that all of them are gone.
+//! Claims of three and what becomes of their middle key (document 02, slip 1),
+//! or why they are refused (slip 2): the ways that such a claim can go, read
+//! off the slips' sentences once more, and cases drawn so that all of them are
+//! gone.
 
 use second::*;
 
 use crate::draw::{Rng, claim_of};
 
-/// What becomes of a middle key where both ends are held, where one of them
-/// is missing and where both are.
+/// What becomes of a claim where both ends are held, where one of them is
+/// missing and where both are.
 pub type Outcome = [&'static str; 3];
 
 macro_rules! outcome {
@@ -22,13 +23,21 @@ macro_rules! outcome {
 
 pub const ADDED: Outcome = outcome!("a middle key added");
 pub const NO_SPACE: Outcome = outcome!("a middle key without space");
-pub const AT_LO: Outcome = outcome!("a middle key at lo");
-pub const AT_HI: Outcome = outcome!("a middle key at hi");
-pub const OUTSIDE: Outcome = outcome!("a middle key outside");
-pub const ELSEWHERE: Outcome = outcome!("a middle key held elsewhere");
 pub const OTHERS: Outcome = outcome!("a middle key beside others");
 
-pub const OUTCOMES: [Outcome; 7] = [ADDED, NO_SPACE, AT_LO, AT_HI, OUTSIDE, ELSEWHERE, OTHERS];
+/// What becomes of a middle key that lies between the ends.
+pub const OUTCOMES: [Outcome; 3] = [ADDED, NO_SPACE, OTHERS];
+
+pub const AT_LO: Outcome = outcome!("16, a middle key at lo");
+pub const AT_HI: Outcome = outcome!("16, a middle key at hi");
+pub const OUTSIDE: Outcome = outcome!("16, a middle key outside");
+pub const ELSEWHERE: Outcome = outcome!("16, a middle key held elsewhere");
+
+/// Where it lies otherwise, so that 16 refuses the claim.
+pub const REFUSED: [Outcome; 4] = [AT_LO, AT_HI, OUTSIDE, ELSEWHERE];
+
+/// The ends of a claim that 16 refuses wouldn't fit either.
+pub const BEFORE_6: &str = "16 before 6";
 
 /// A middle key was the last that fits.
 pub const LAST_PLACE: &str = "a middle key in the last place";
@@ -40,7 +49,7 @@ pub const ASKED_FULL: &str = "three asked about, without space";
 pub const MATCHED: &str = "three matched";
 pub const HELPED: &str = "three helped";
 
-fn middle_of(claim: &Claim) -> u64 {
+pub fn middle_of(claim: &Claim) -> u64 {
     claim.sum ^ claim.lo ^ claim.hi
 }
 
@@ -48,38 +57,62 @@ fn is_between(claim: &Claim) -> bool {
     claim.lo < middle_of(claim) && middle_of(claim) < claim.hi
 }
 
-fn holds(keys: &[u64], key: u64) -> bool {
+/// Whether a claim that passes 2 to 5 is one of three "that no store could
+/// make" (document 02, slip 2).
+pub fn is_faulty(claim: &Claim) -> bool {
+    claim.cnt == 3 && !is_between(claim)
+}
+
+/// The claim of three with this key in the middle.
+pub fn three(lo: u64, middle: u64, hi: u64) -> Claim {
+    Claim::new(lo, hi, lo ^ middle ^ hi, 3)
+}
+
+pub fn holds(keys: &[u64], key: u64) -> bool {
     keys.binary_search(&key).is_ok()
 }
 
 /// The way that a claim of three goes with the keys of a store in order. None
-/// if a question refuses it, or if its middle key is kept out by more than
-/// one reason: a case counts for the one that decides.
-pub fn way(held: &[u64], claim: &Claim) -> Option<&'static str> {
-    if claim.cnt != 3 || questions::of_claim(claim).is_err() {
-        return None;
-    }
+/// if another question than 16 refuses it, or if its middle key is kept out by
+/// more than one reason: a case counts for the one that decides.
+fn way(held: &[u64], claim: &Claim) -> Option<&'static str> {
     let Claim { lo, hi, .. } = *claim;
     let middle = middle_of(claim);
-    let missing = [lo, hi].iter().filter(|&&end| !holds(held, end)).count();
+    let missing = missing_ends(held, claim);
     let others = held.iter().any(|&key| lo < key && key < hi);
-    let space = RawStore::LIMIT.checked_sub(held.len() + missing)?;
+    let space = RawStore::LIMIT.checked_sub(held.len() + missing);
     let outcome = match (others, space) {
-        (true, 1..) if is_between(claim) && !holds(held, middle) => OTHERS,
-        (false, 0) if is_between(claim) => NO_SPACE,
-        (false, 1..) if middle == lo => AT_LO,
-        (false, 1..) if middle == hi => AT_HI,
-        (false, 1..) if is_between(claim) => ADDED,
-        (false, 1..) if holds(held, middle) => ELSEWHERE,
-        (false, 1..) => OUTSIDE,
+        _ if middle == lo => AT_LO,
+        _ if middle == hi => AT_HI,
+        _ if !is_between(claim) && holds(held, middle) => ELSEWHERE,
+        _ if !is_between(claim) => OUTSIDE,
+        (true, Some(1..)) if !holds(held, middle) => OTHERS,
+        (false, Some(0)) => NO_SPACE,
+        (false, Some(1..)) => ADDED,
         _ => return None,
     };
     Some(outcome[missing])
 }
 
-/// Adds to keys in order those that a claim gives away; the ways it went.
+fn missing_ends(held: &[u64], claim: &Claim) -> usize {
+    let missing = |end: &&u64| !holds(held, **end);
+    [claim.lo, claim.hi].iter().filter(missing).count()
+}
+
+/// Adds to keys in order those that a claim gives away, if it isn't refused;
+/// the ways it went.
 pub fn learn(keys: &mut Vec<u64>, claim: &Claim) -> Vec<&'static str> {
-    let mut ways: Vec<_> = way(keys, claim).into_iter().collect();
+    let mut ways = Vec::new();
+    if claim.cnt == 3 && questions::of_saved_claim(claim).is_ok() {
+        ways.extend(way(keys, claim));
+    }
+    let room = RawStore::LIMIT - keys.len().min(RawStore::LIMIT);
+    if is_refused(&ways) {
+        if missing_ends(keys, claim) > room {
+            ways.push(BEFORE_6);
+        }
+        return ways;
+    }
     let added = ways.iter().any(|way| ADDED.contains(way));
     let middle = added.then(|| middle_of(claim));
     for key in [claim.lo, claim.hi].into_iter().chain(middle) {
@@ -91,6 +124,12 @@ pub fn learn(keys: &mut Vec<u64>, claim: &Claim) -> Vec<&'static str> {
         ways.push(LAST_PLACE);
     }
     ways
+}
+
+/// Whether these are ways of a claim that 16 refuses.
+pub fn is_refused(ways: &[&'static str]) -> bool {
+    let refused = |way| REFUSED.iter().any(|outcome| outcome.contains(way));
+    ways.iter().any(refused)
 }
 
 /// The ways of a round's claims of three, told by its deliveries to the keys
@@ -111,7 +150,6 @@ pub fn ways_of_beat(node: &RawNode) -> Vec<&'static str> {
         match own.collect::<Vec<u64>>().as_slice() {
             // Of a node out of order.
             [] | [_] => None,
-            [_, _] if !is_between(claim) => None,
             [_, _] if held.len() < RawStore::LIMIT => Some(ASKED),
             [_, _] => Some(ASKED_FULL),
             own if claim_of(own) == *claim => Some(MATCHED),
@@ -131,27 +169,56 @@ impl Rng {
             let at = self.below(starts);
             (keys[at], keys[at + others + 1])
         });
-        drawn.find(|(lo, hi)| hi - lo > 1 + others as u64)
+        // Keys out of order, of a store that was bent, are no ends.
+        drawn.find(|(lo, hi)| hi.saturating_sub(*lo) > 1 + others as u64)
+    }
+
+    /// A key strictly between two that aren't neighbours, those next to them
+    /// more often than others.
+    pub fn key_between(&mut self, lo: u64, hi: u64) -> u64 {
+        match self.below(8) {
+            0 => lo + 1,
+            1 => hi - 1,
+            _ => lo + 1 + self.next() % (hi - lo - 1),
+        }
     }
 
     /// A claim of three with two of some keys in order as its ends, and few
-    /// or none of them between. Its middle key is a new one between them, at
-    /// one of them, outside, or any of the keys.
+    /// or none of them between. Its middle key is between them.
     pub fn claim_of_three(&mut self, keys: &[u64]) -> Option<Claim> {
         let others = self.pick(&[0, 0, 0, 1, 2]);
         let (lo, hi) = self.ends(keys, others)?;
-        let middle = match self.below(6) {
-            0 => lo,
-            1 => hi,
-            2 => self.pick(&[lo.wrapping_sub(1), hi.wrapping_add(1), !hi]),
-            3 => self.pick(keys),
-            _ => lo + 1 + self.next() % (hi - lo - 1),
-        };
-        Some(Claim::new(lo, hi, lo ^ middle ^ hi, 3))
+        let mut middle = self.key_between(lo, hi);
+        let held = keys.iter().find(|&&key| lo < key && key < hi);
+        if let Some(&held) = held
+            && self.one_in(4)
+        {
+            middle = held;
+        }
+        Some(three(lo, middle, hi))
     }
 
-    /// The keys of a store and so many claims of three for it, some of whose
-    /// ends are missing there. With these added the store is full, or nearly,
+    /// A claim of three with the same ends that no store could make: its
+    /// middle key is at one of them, beside it, another of some keys, or any.
+    pub fn faulty(&mut self, claim: Claim, keys: &[u64]) -> Claim {
+        let Claim { lo, hi, .. } = claim;
+        let middle = match self.below(7) {
+            0 => lo,
+            1 => hi,
+            2 => lo.wrapping_sub(1),
+            3 => hi.wrapping_add(1),
+            4 | 5 if !keys.is_empty() => self.pick(keys),
+            _ => self.next(),
+        };
+        match three(lo, middle, hi) {
+            faulty if is_faulty(&faulty) => faulty,
+            // By chance between them.
+            _ => three(lo, self.pick(&[lo, hi]), hi),
+        }
+    }
+
+    /// The keys of a store and so many claims of three for it, none of them
+    /// faulty, some of whose ends are missing there. With these added the store is full, or nearly,
     /// or far from it.
     pub fn threes(&mut self, claims: usize) -> (Vec<u64>, Vec<Claim>) {
         loop {
@@ -174,10 +241,30 @@ impl Rng {
         }
     }
 
-    /// One such claim.
+    /// One such claim, or a faulty one with its ends, for which there may be no
+    /// room then.
     pub fn three(&mut self) -> (Vec<u64>, Claim) {
-        let (keys, claims) = self.threes(1);
-        (keys, claims[0])
+        let (mut keys, claims) = self.threes(1);
+        if self.one_in(2) {
+            return (keys, claims[0]);
+        }
+        let claim = self.faulty(claims[0], &keys);
+        if self.one_in(8) {
+            self.fill(&mut keys, RawStore::LIMIT);
+        }
+        (keys, claim)
+    }
+
+    /// The keys of a store and a frame's claims of three for it, seldom a
+    /// faulty one among them.
+    pub fn frame_of_threes(&mut self) -> (Vec<u64>, Vec<Claim>) {
+        let n = 1 + self.below(4);
+        let (keys, mut claims) = self.threes(n);
+        if self.one_in(6) {
+            let at = self.below(n);
+            claims[at] = self.faulty(claims[at], &keys);
+        }
+        (keys, claims)
     }
 
     /// The keys of a store in order: full, with room for one more, or as many
@@ -193,13 +280,18 @@ impl Rng {
             let at = self.below(keys.len());
             keys.remove(at);
         }
+        self.fill(&mut keys, count);
+        keys
+    }
+
+    /// Adds any keys up to so many, each in its place.
+    fn fill(&mut self, keys: &mut Vec<u64>, count: usize) {
         while keys.len() < count {
             let key = self.next();
             if let Err(at) = keys.binary_search(&key) {
                 keys.insert(at, key);
             }
         }
-        keys
     }
 }
 

@@ -7,7 +7,8 @@ use tests::card::*;
 use tests::cases::{Seen, compare, for_seeds, one_seed};
 use tests::draw::{Density, Rng, frame_of, image_of};
 use tests::drill::{Call, Card, Drill, request_bytes};
-use tests::middle::{self, OUTCOMES};
+use tests::left_out;
+use tests::middle::{self, OUTCOMES, REFUSED};
 
 /// How often a number or a way must have been seen.
 const OFTEN: usize = 100;
@@ -99,9 +100,9 @@ fn replies() {
         "two",
         "new keys to a store nearly full",
     ];
-    let mut each = OUTCOMES.concat();
-    each.push(middle::LAST_PLACE);
-    run_each(&each, 13_000, &[0, 1, 2, 3, 4, 5, 6], &ways, |rng| {
+    let mut each = [OUTCOMES.concat(), REFUSED.concat()].concat();
+    each.extend([middle::LAST_PLACE, middle::BEFORE_6]);
+    run_each(&each, 13_000, &[0, 1, 2, 3, 4, 5, 6, 16], &ways, |rng| {
         if rng.one_in(4) {
             let (keys, claim) = rng.three();
             return reply_case(RawStore::of(&keys), claim, &mut noise(rng));
@@ -125,7 +126,7 @@ fn replies() {
 
 #[test]
 fn judges() {
-    run(20_000, &[0, 2, 3, 4, 5], &[], |rng| {
+    run(20_000, &[0, 2, 3, 4, 5, 16], &[], |rng| {
         let density = rng.density();
         let keys = rng.keys_of(12, density);
         let mut claim = rng.claim(&keys, density);
@@ -143,13 +144,15 @@ fn takes() {
         "65, another dropped",
         "65, itself dropped",
     ];
-    let mut each = OUTCOMES.concat();
+    let mut each = [OUTCOMES.concat(), REFUSED.concat()].concat();
     each.extend([
         "a pending one's middle key added",
         "a dropped one's middle key added",
         middle::LAST_PLACE,
+        middle::BEFORE_6,
+        left_out::NODE,
     ]);
-    run_each(&each, 11_000, &[0, 1, 2, 3, 4, 5, 6], &ways, |rng| {
+    run_each(&each, 11_000, &[0, 1, 2, 3, 4, 5, 6, 16], &ways, |rng| {
         if rng.one_in(4) {
             return take_of_three(rng);
         }
@@ -197,11 +200,14 @@ fn claim_for_table(rng: &mut Rng, node: &RawNode, density: Density) -> Claim {
 }
 
 /// A claim of three, which may be pending already where its ends are held, or
-/// the last in order of 65.
+/// the last in order of 65. A faulty one is pending in few nodes, for these
+/// are out of order.
 fn take_of_three(rng: &mut Rng) -> Case {
     let (keys, claim) = rng.three();
     let mut node = rng.node_of(&keys);
-    if keys.contains(&claim.lo) && keys.contains(&claim.hi) && !rng.one_in(4) {
+    let held = keys.contains(&claim.lo) && keys.contains(&claim.hi);
+    let often = if middle::is_faulty(&claim) { 1 } else { 3 };
+    if held && rng.below(4) < often {
         node = middle::with_pending(&node, claim);
     } else if rng.one_in(2) {
         node = middle::full_of_ones(&keys).unwrap_or(node);
@@ -220,6 +226,7 @@ fn beats() {
         middle::ASKED_FULL,
         middle::MATCHED,
         middle::HELPED,
+        left_out::NODE,
     ];
     run(6_000, &[0, 1, 15], &ways, |rng| {
         let node = rng.node();
@@ -367,7 +374,7 @@ fn past(rng: &mut Rng, bytes: &mut Vec<u8>) -> usize {
 
 #[test]
 fn reads_frames() {
-    run(12_000, &[0, 10, 11, 12, 13], &[], |rng| {
+    run(12_000, &[0, 10, 11, 12, 13], &[left_out::FRAME], |rng| {
         let density = rng.density();
         let keys = rng.keys_of(20, density);
         let mut bytes = frame_of(&rng.frame_claims(&keys, density));
@@ -386,7 +393,8 @@ fn reads_frames() {
 
 #[test]
 fn writes_frames() {
-    run(8_000, &[0, 12, 13, 15], &["exactly enough"], |rng| {
+    let ways = ["exactly enough", left_out::FRAME];
+    run(8_000, &[0, 12, 13, 15], &ways, |rng| {
         let density = rng.density();
         let keys = rng.keys_of(20, density);
         let mut claims = rng.frame_claims(&keys, density);
@@ -412,12 +420,17 @@ fn writes_frames() {
 
 #[test]
 fn reads_images() {
-    run(8_000, &[0, 1, 14], &["9,860 bytes"], |rng| {
+    let ways = ["9,860 bytes", left_out::SOME];
+    run(8_000, &[0, 1, 14], &ways, |rng| {
         let mut bytes = match rng.below(10) {
             0 => {
                 let (keys, _) = rng.nearly_full();
                 let node = rng.node_of(&keys);
                 image_of(node.store.held(), node.table())
+            }
+            1 => {
+                let (keys, pending) = rng.saved();
+                image_of(&keys, &pending)
             }
             _ => rng.image(),
         };
@@ -460,7 +473,8 @@ fn reads_images_of_too_many() {
 
 #[test]
 fn writes_images() {
-    run(5_000, &[0, 1, 15], &["exactly enough"], |rng| {
+    let ways = ["exactly enough", left_out::NODE];
+    run(5_000, &[0, 1, 15], &ways, |rng| {
         let node = rng.node();
         let need = 4 + 8 * node.store.held().len() + 26 * node.table().len();
         let lent = match rng.below(8) {
@@ -496,7 +510,8 @@ fn tells_lengths_of_images() {
 
 #[test]
 fn tells_order() {
-    run(6_000, &[0], &["in order", "out of order"], |rng| {
+    let ways = ["in order", "out of order", left_out::NODE];
+    run(6_000, &[0], &ways, |rng| {
         let mut node = rng.node_in_order();
         for _ in 0..rng.pick(&[0, 1, 1, 1, 2]) {
             rng.bend_node(&mut node);

@@ -11,7 +11,8 @@ use std::thread;
 use archive::{ARCHIVE, Asked, Left, SECOND, compare, number};
 use second::*;
 use tests::cases::{Seen, for_seeds, one_seed, seeds};
-use tests::draw::{Rng, frame_of, image_of};
+use tests::draw::{Rng, claims_in, frame_of, image_of};
+use tests::left_out;
 use tests::middle::{self, OUTCOMES};
 
 /// How often each number and each way must be seen.
@@ -19,6 +20,9 @@ const OFTEN: usize = 60;
 
 /// How often each way that a middle key goes must be: there are many.
 const OFTEN_EACH: usize = 30;
+
+/// What is left out of images is tried in `left_out`; here some is, too.
+const LEFT_OUT: [&str; 2] = [left_out::SOME, left_out::ALL];
 
 /// As long as it must be, or one too short, or longer.
 fn room(rng: &mut Rng, need: usize) -> usize {
@@ -33,8 +37,7 @@ fn room(rng: &mut Rng, need: usize) -> usize {
 /// The keys of an image, and claims for it.
 fn keys_and_claims(rng: &mut Rng) -> (Vec<u64>, Vec<Claim>) {
     if rng.one_in(4) {
-        let n = 1 + rng.below(4);
-        return rng.threes(n);
+        return rng.frame_of_threes();
     }
     let (keys, density) = if rng.one_in(3) {
         rng.nearly_full()
@@ -60,6 +63,9 @@ fn image(rng: &mut Rng) -> (Vec<u8>, Vec<Claim>) {
     let mut node = rng.node_of(&keys);
     if rng.one_in(12) {
         rng.bend_node(&mut node);
+    }
+    if rng.one_in(12) {
+        node = RawNode::of(RawStore::of(&keys), &rng.saved_table(&keys));
     }
     let mut bytes = image_of(node.store.held(), node.table());
     if rng.one_in(12) {
@@ -140,15 +146,19 @@ fn takes_frames() {
             panic!("a frame is taken");
         };
         match number {
-            0 => ways_of_frame(image, frame)
-                .iter()
-                .for_each(|way| seen.way(way)),
+            0 => seen.all(ways_of_frame(image, frame)),
             6 => seen.way(ways[first_without_room(image, frame)]),
+            13 if left_out::is_frame_by_16_alone(&claims_in(&frame[4..])) => {
+                seen.way(left_out::FRAME);
+            }
             _ => {}
         }
+        seen.all(left_out::ways_of_image(image, number));
     });
     if !one_seed() {
         seen.expect(&[0, 1, 6, 10, 11, 12, 13, 14, 15], &ways, OFTEN);
+        seen.expect_ways(&LEFT_OUT, OFTEN);
+        seen.expect_ways(&[left_out::FRAME, left_out::LATER], OFTEN);
         seen.expect_ways(&OUTCOMES.concat(), OFTEN_EACH);
         seen.expect_ways(&[middle::LAST_PLACE], OFTEN_EACH);
     }
@@ -161,10 +171,13 @@ fn beats() {
         let asked = beat_asked(rng);
         let answer = compare(&asked, seed).answer;
         seen.number(number(answer));
-        if let (0.., Asked::Beat(image, ..)) = (answer, &asked) {
-            let threes = middle::ways_of_beat(&read_image(image).node);
-            threes.iter().for_each(|way| seen.way(way));
+        let Asked::Beat(image, ..) = &asked else {
+            panic!("an image beats");
+        };
+        if answer >= 0 {
+            seen.all(middle::ways_of_beat(&read_image(image).node));
         }
+        seen.all(left_out::ways_of_image(image, number(answer)));
         match answer {
             0 => seen.way("no frame"),
             1.. if answer % 108 == 0 => seen.way("full frames alone"),
@@ -187,6 +200,7 @@ fn beats() {
     ];
     if !one_seed() {
         seen.expect(&[0, 1, 14, 15], &ways, OFTEN);
+        seen.expect_ways(&LEFT_OUT, OFTEN);
     }
 }
 
@@ -203,6 +217,24 @@ fn entering(store: &RawStore, key: u64) -> &'static str {
     }
 }
 
+/// The ways of a key that is entered into the node of an image.
+fn ways_of_entering(node: &RawNode, key: u64, lent: usize) -> Vec<&'static str> {
+    let mut ways = vec![entering(&node.store, key)];
+    ways.push(match lent {
+        9_860 => "room for any image",
+        _ => "more than that",
+    });
+    match key {
+        0 => ways.push("key 0"),
+        u64::MAX => ways.push("the largest key"),
+        _ => {}
+    }
+    if node.pending_count > 0 {
+        ways.push("claims are pending");
+    }
+    ways
+}
+
 #[test]
 fn enters_keys() {
     let mut seen = Seen::default();
@@ -213,23 +245,9 @@ fn enters_keys() {
         let Asked::Enter(image, key, lent) = &asked else {
             panic!("a key is entered");
         };
-        let node = read_image(image).node;
+        seen.all(left_out::ways_of_image(image, number));
         match number {
-            0 => {
-                seen.way(entering(&node.store, *key));
-                match *key {
-                    0 => seen.way("key 0"),
-                    u64::MAX => seen.way("the largest key"),
-                    _ => {}
-                }
-                match *lent {
-                    9_860 => seen.way("room for any image"),
-                    _ => seen.way("more than that"),
-                }
-                if node.pending_count > 0 {
-                    seen.way("claims are pending");
-                }
-            }
+            0 => seen.all(ways_of_entering(&read_image(image).node, *key, *lent)),
             15 if *lent == 9_859 => seen.way("a byte too short"),
             _ => {}
         }
@@ -251,6 +269,7 @@ fn enters_keys() {
     ];
     if !one_seed() {
         seen.expect(&[0, 1, 6, 14, 15], &ways, OFTEN);
+        seen.expect_ways(&LEFT_OUT, OFTEN);
     }
 }
 
@@ -258,8 +277,12 @@ fn enters_keys() {
 fn counts_keys() {
     let mut seen = Seen::default();
     for_seeds(8_000, |seed, rng| {
-        let answer = compare(&count_asked(rng), seed).answer;
+        let asked = count_asked(rng);
+        let answer = compare(&asked, seed).answer;
         seen.number(number(answer));
+        if let Asked::Count(image) = &asked {
+            seen.all(left_out::ways_of_image(image, number(answer)));
+        }
         match answer {
             0 => seen.way("none"),
             1..1_024 => seen.way("some"),
@@ -269,6 +292,7 @@ fn counts_keys() {
     });
     if !one_seed() {
         seen.expect(&[0, 1, 14], &["none", "some", "all that fit"], OFTEN);
+        seen.expect_ways(&LEFT_OUT, OFTEN);
     }
 }
 

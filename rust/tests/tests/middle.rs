@@ -1,18 +1,20 @@
 //! The middle key of three (document 02, slip 1) beside the second program,
 //! where its sentences meet the limit, the first and the last of all keys and
 //! one another: rounds of every pair of stores over six keys, claims of three
-//! of every kind for stores nearly full, and frames of such claims. Random
-//! ones come with the other calls, in their tests.
+//! of every kind for stores nearly full, those with them that are refused since
+//! no store could make them (slip 2), and frames of such claims. Random ones
+//! come with the other calls, in their tests.
 
 mod archive;
 
-use archive::{Asked, compare as compare_host, number};
+use archive::{Asked, compare as compare_host, left_by, number};
 use minutefrost::{BEAT_FRAMES, IMAGE_MOST};
 use second::*;
 use tests::card::*;
-use tests::cases::{Seen, compare, for_seeds, one_seed};
+use tests::cases::{Seen, compare, digit, for_seeds, one_seed};
 use tests::draw::{Rng, frame_of, image_of};
-use tests::middle::{self, ADDED, LAST_PLACE, OTHERS, OUTCOMES};
+use tests::left_out;
+use tests::middle::{self, ADDED, BEFORE_6, LAST_PLACE, OTHERS, OUTCOMES, REFUSED, three};
 
 const LIMIT: usize = RawStore::LIMIT;
 
@@ -154,14 +156,6 @@ fn fillers((lo, hi): (u64, u64)) -> Vec<u64> {
     keys
 }
 
-/// One of these, told by the lowest digit of a number in their base; what
-/// remains of the number tells the next.
-fn digit<T: Copy>(number: &mut u64, of: &[T]) -> T {
-    let digit = *number % of.len() as u64;
-    *number /= of.len() as u64;
-    of[digit as usize]
-}
-
 /// How many stores and claims there are.
 const KINDS: usize = ENDS.len() * HELD.len() * BETWEEN.len() * COUNTS.len() * MIDDLES;
 
@@ -178,7 +172,7 @@ fn kind(number: &mut u64) -> (Vec<u64>, Claim) {
     let more = count.saturating_sub(keys.len());
     keys.extend(&fillers((lo, hi))[..more]);
     keys.sort_unstable();
-    (keys, Claim::new(lo, hi, lo ^ middle ^ hi, 3))
+    (keys, three(lo, middle, hi))
 }
 
 /// Replied to, taken, taken once more, and taken before a beat.
@@ -199,9 +193,10 @@ fn case_of_kind(mut number: u64) -> Case {
 fn claims_of_three_for_stores_nearly_full() {
     let seen = compare(4 * KINDS as u64, |rng| case_of_kind(rng.0));
     if !one_seed() {
-        seen.expect(&[0, 6], &["an equal one is pending"], OFTEN);
+        seen.expect(&[0, 6, 16], &["an equal one is pending"], OFTEN);
         seen.expect_ways(&OUTCOMES.concat(), OFTEN);
-        seen.expect_ways(&[LAST_PLACE], OFTEN);
+        seen.expect_ways(&REFUSED.concat(), OFTEN);
+        seen.expect_ways(&[LAST_PLACE, BEFORE_6], OFTEN);
         let beats = [middle::ASKED_FULL, middle::MATCHED, middle::HELPED];
         seen.expect_ways(&beats, OFTEN);
     }
@@ -212,8 +207,8 @@ fn claims_of_three_for_stores_nearly_full() {
 /// A frame of one to four claims of three for a store that is mostly nearly
 /// full, some of them twice.
 fn frame_of_threes(rng: &mut Rng) -> (Vec<u64>, Vec<Claim>) {
-    let n = 1 + rng.below(4);
-    let (keys, mut claims) = rng.threes(n);
+    let (keys, mut claims) = rng.frame_of_threes();
+    let n = claims.len();
     if n > 1 && rng.one_in(4) {
         let (one, other) = (rng.below(n), rng.below(n));
         claims[one] = claims[other];
@@ -222,8 +217,12 @@ fn frame_of_threes(rng: &mut Rng) -> (Vec<u64>, Vec<Claim>) {
 }
 
 /// The ways that the claims of a frame go one by one; or that one is refused,
-/// though all ends would fit, for the place that a middle key took.
+/// though all ends would fit, for the place that a middle key took; or that
+/// all are, since no store could make one of them.
 fn ways_of_claims(keys: &[u64], claims: &[Claim]) -> Vec<&'static str> {
+    if left_out::is_frame_by_16_alone(claims) {
+        return vec![left_out::FRAME];
+    }
     let mut ends = keys.to_vec();
     ends.extend(claims.iter().flat_map(|claim| [claim.lo, claim.hi]));
     ends.sort_unstable();
@@ -251,25 +250,13 @@ fn frames_of_claims_of_three() {
         let image = image_of(node.store.held(), node.table());
         let asked = Asked::Take(image, frame_of(&claims), IMAGE_MOST);
         seen.number(number(compare_host(&asked, seed).answer));
-        let ways = ways_of_claims(&keys, &claims);
-        ways.iter().for_each(|way| seen.way(way));
+        seen.all(ways_of_claims(&keys, &claims));
     });
     if !one_seed() {
-        seen.expect(&[0, 6], &[LAST_PLACE, NO_ROOM], OFTEN);
+        let ways = [LAST_PLACE, NO_ROOM, left_out::FRAME];
+        seen.expect(&[0, 6, 13], &ways, OFTEN);
         seen.expect_ways(&OUTCOMES.concat(), OFTEN);
     }
-}
-
-/// The image and the frames' bytes that a host call leaves, by both programs.
-fn left_by(asked: Asked) -> (Vec<u8>, Vec<u8>) {
-    let left = compare_host(&asked, 0);
-    assert!(left.answer >= 0, "refused {}", -left.answer);
-    let image = left.out[..image_length(&left.out).length].to_vec();
-    let frames = match asked {
-        Asked::Beat(..) => left.frames[..left.answer as usize].to_vec(),
-        _ => Vec::new(),
-    };
-    (image, frames)
 }
 
 fn beaten(image: &[u8]) -> (Vec<u8>, Vec<u8>) {
@@ -293,7 +280,7 @@ fn images_with_claims_of_three_pending() {
     {
         let (lo, hi) = ends;
         let middle = lo + 77;
-        let claim = Claim::new(lo, hi, lo ^ middle ^ hi, 3);
+        let claim = three(lo, middle, hi);
         let own = Claim::new(lo, hi, lo ^ hi, 2);
         let mut keys = vec![lo, hi];
         keys.extend(&fillers(ends)[..count.saturating_sub(2)]);

@@ -4,8 +4,11 @@
 mod rehearse;
 
 use rehearse::{compare, program};
+use second::{Claim, read_image};
 use tests::cases::{Seen, for_seeds, one_seed};
 use tests::draw::{Rng, image_of};
+use tests::left_out::{self, ALL, BROKEN, FIRST, LAST, SOME};
+use tests::middle::three;
 
 /// How often each number and each way must be seen.
 const OFTEN: usize = 40;
@@ -78,4 +81,70 @@ fn input(rng: &mut Rng) -> Vec<u8> {
         rng.damage(&mut images[which]);
     }
     images.concat()
+}
+
+/// {1, 16} with a claim pending that no store could make (document 02, slip
+/// 2): the first image is as long as its counts say, that claim with it.
+#[test]
+fn prints_rounds_of_images_with_a_claim_left_out() {
+    let program = program();
+    let pending = [Claim::new(1, 16, 17, 2), three(1, 20, 16)];
+    let image = image_of(&[1, 16], &pending);
+    let lines = "L 1 16 17 2\nR 1 16 17 2\nleft 2 right 2 claims 2\n";
+    let empty = image_of(&[], &[]);
+    assert_eq!(compare(&program, &[&image[..], &image].concat()), lines);
+    assert_eq!(compare(&program, &[&image[..], &empty].concat()), lines);
+    let lines = "R 1 16 17 2\nleft 2 right 2 claims 1\n";
+    assert_eq!(compare(&program, &[&empty[..], &image].concat()), lines);
+    // Out of order with it, and an end of it not held.
+    let swapped = image_of(&[1, 16], &[pending[1], pending[0]]);
+    for broken in [swapped, image_of(&[1, 15], &pending[1..])] {
+        for input in [[&broken[..], &empty], [&image, &broken]] {
+            assert_eq!(compare(&program, &input.concat()), "refused 1\n");
+        }
+    }
+}
+
+/// A saved image, perhaps broken or damaged since.
+fn saved_image(rng: &mut Rng, keys: &[u64]) -> Vec<u8> {
+    let (mut keys, mut pending) = (keys.to_vec(), rng.saved_table(keys));
+    if rng.one_in(3) {
+        rng.break_saved(&mut keys, &mut pending);
+    }
+    let mut image = image_of(&keys, &pending);
+    if rng.one_in(8) {
+        rng.damage(&mut image);
+    }
+    image
+}
+
+/// Two images saved before 16 was asked, the first or the second or both of
+/// which have claims to leave out: what is printed is what is printed of two
+/// images that never had them.
+#[test]
+fn prints_rounds_of_saved_images() {
+    let program = program();
+    let mut seen = [Seen::default(), Seen::default()];
+    for_seeds(1_200, |_, rng| {
+        let (left, right) = rng.pair();
+        let images = [left, right].map(|keys| saved_image(rng, &keys));
+        let numbers = [0, 1].map(|at| read_image(&images[at]).number);
+        for at in [0, 1] {
+            seen[at].number(numbers[at]);
+            let ways = left_out::ways_of_image(&images[at], numbers[at]);
+            seen[at].all(ways);
+        }
+        let lines = compare(&program, &images.concat());
+        if numbers == [0, 0] {
+            let rest = images.map(|image| left_out::rest_of(&image));
+            let lines_of_rest = compare(&program, &rest.concat());
+            assert_eq!(lines, lines_of_rest, "only stores take part");
+        }
+    });
+    if !one_seed() {
+        for seen in seen {
+            seen.expect(&[0, 1, 14], &[SOME, ALL, FIRST, LAST], OFTEN);
+            seen.expect_ways(&BROKEN, OFTEN / 4);
+        }
+    }
 }

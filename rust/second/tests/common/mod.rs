@@ -12,6 +12,11 @@ pub const fn c(lo: u64, hi: u64, sum: u64, cnt: u16) -> Claim {
     Claim::new(lo, hi, sum, cnt)
 }
 
+/// A claim of three by the key between its ends, or by one that isn't.
+pub const fn three(lo: u64, middle: u64, hi: u64) -> Claim {
+    c(lo, hi, lo ^ middle ^ hi, 3)
+}
+
 /// The claim of all these keys, reckoned the long way.
 pub fn claim_of(keys: &[u64]) -> Claim {
     let mut sum = 0;
@@ -64,6 +69,24 @@ fn push_claim(bytes: &mut Vec<u8>, claim: &Claim) {
     bytes.extend(claim.hi.to_be_bytes());
     bytes.extend(claim.sum.to_be_bytes());
     bytes.extend(claim.cnt.to_be_bytes());
+}
+
+/// An image in order, without the pending claims of three "whose middle key
+/// would fall outside lo and hi" (document 02, slip 2), picked by hand from
+/// its bytes.
+pub fn without_left_out(image: &[u8]) -> Vec<u8> {
+    fn could_be_made(claim: &[u8]) -> bool {
+        let key = |at: usize| u64::from_be_bytes(claim[at..at + 8].try_into().unwrap());
+        let (lo, hi, sum) = (key(0), key(8), key(16));
+        claim[24..] != [0, 3] || (lo + 1..hi).contains(&(lo ^ hi ^ sum))
+    }
+    let keys = usize::from(u16::from_be_bytes([image[0], image[1]]));
+    let (front, pending) = image.split_at(4 + 8 * keys);
+    let kept: Vec<&[u8]> = pending.chunks(26).filter(|it| could_be_made(it)).collect();
+    let mut bytes = front[..2 + 8 * keys].to_vec();
+    bytes.extend((kept.len() as u16).to_be_bytes());
+    bytes.extend(kept.concat());
+    bytes
 }
 
 /// Splitmix64: each draw is a mix of a counter that steps by an odd number.
@@ -153,8 +176,9 @@ impl Rng {
         (left, right)
     }
 
-    /// A claim that passes 2 to 5, or seldom doesn't: true of some of these
-    /// keys, true of other keys, of three keys where none is between, or bent.
+    /// A claim that passes 2 to 5 and 16, or seldom doesn't: true of some of
+    /// these keys, true of other keys, of three keys where none is between, or
+    /// bent.
     pub fn claim(&mut self, keys: &[u64], density: usize) -> Claim {
         if self.one_in(8) {
             return self.claim_of_three(keys, density);
@@ -200,7 +224,41 @@ impl Rng {
             2 => self.key(density),
             _ => lo + self.next() % (hi - lo).max(1),
         };
-        c(lo, hi, lo ^ middle ^ hi, 3)
+        three(lo, middle, hi)
+    }
+
+    /// Pending claims in order by 2 to 5 alone, as an image saved before 16
+    /// was asked may have them: most of three, and their middle keys at an end,
+    /// beside one, inside or anywhere.
+    pub fn saved_table(&mut self, keys: &[u64]) -> Vec<Claim> {
+        let mut table = BTreeSet::new();
+        let wanted = *self.pick(&[0, 1, 2, 8, 40, 64]);
+        for _ in 0..2 * wanted {
+            if table.len() == wanted || keys.is_empty() {
+                break;
+            }
+            let (one, other) = (*self.pick(keys), *self.pick(keys));
+            let (lo, hi) = (one.min(other), one.max(other));
+            let middle = match self.below(8) {
+                0 => lo,
+                1 => hi,
+                2 => lo.wrapping_sub(1),
+                3 => hi.wrapping_add(1),
+                4 => self.next(),
+                5 => lo.wrapping_add(1),
+                6 => hi.wrapping_sub(1),
+                _ => lo + self.next() % (hi - lo).max(1),
+            };
+            let mut claim = three(lo, middle, hi);
+            if self.one_in(4) {
+                claim.cnt = self.below(6) as u16;
+            }
+            if questions::of_saved_claim(&claim).is_ok() {
+                table.insert(claim.rank());
+            }
+        }
+        let claim = |(cnt, lo, hi, sum)| c(lo, hi, sum, cnt);
+        table.into_iter().map(claim).collect()
     }
 
     /// A node in order with some claims taken.

@@ -8,6 +8,11 @@ pub fn helped_in_two() -> Vec<Claim> {
     (5..69).map(|hi| c(0, hi, hi, 2)).collect()
 }
 
+/// 64 claims of three that no store could make: the middle key is hi.
+pub fn made_by_none() -> Vec<Claim> {
+    (2..66).map(|hi| three(0, hi, hi)).collect()
+}
+
 #[test]
 fn a_65th_claim_drops_the_last_in_order() {
     let table = helped_in_two();
@@ -57,11 +62,11 @@ fn a_dropped_claim_leaves_its_ends() {
 fn pending_claims_rise_by_cnt_then_lo_hi_sum() {
     let in_order = [
         c(90, 90, 90, 1),
-        c(0, 80, 3, 3),
-        c(0, 80, 4, 3),
-        c(0, 81, 1, 3),
-        c(1, 60, 0, 3),
-        c(0, 5, 0, 4),
+        c(0, 80, 3, 4),
+        c(0, 80, 4, 4),
+        c(0, 81, 1, 4),
+        c(1, 60, 0, 4),
+        c(0, 5, 0, 5),
     ];
     // Whatever order they come in.
     for rotation in 0..in_order.len() {
@@ -79,16 +84,37 @@ fn pending_claims_rise_by_cnt_then_lo_hi_sum() {
     }
 }
 
+/// A node of a few keys with these claims pending.
+fn node(pending: &[Claim]) -> RawNode {
+    RawNode::of(RawStore::of(&[1, 2, 3, 9]), pending)
+}
+
+/// What that node can have pending.
+const GOOD: [Claim; 2] = [c(1, 2, 3, 2), c(1, 9, 0, 4)];
+
 #[test]
 fn nodes_out_of_order_get_1() {
-    let store = RawStore::of(&[1, 2, 3, 9]);
-    let good = [c(1, 2, 3, 2), c(1, 9, 0, 4)];
-    let node = |pending: &[Claim]| RawNode::of(store.clone(), pending);
-    assert!(questions::q1_node_in_order(&node(&good)));
-    let mut bad = vec![
+    assert!(questions::q1_node_in_order(&node(&GOOD)));
+    let between = [GOOD[0], three(1, 8, 9), three(1, 2, 9), GOOD[1]];
+    assert!(questions::q1_node_in_order(&node(&between)));
+    for node in tables_out_of_order().into_iter().chain(counts_belied()) {
+        let taken = take(node.clone(), c(9, 5, 0, 0));
+        assert_eq!((taken.number, &taken.node), (1, &node));
+        let beaten = beat(node.clone(), &mut []);
+        assert_eq!((beaten.number, beaten.written), (1, 0));
+        assert_eq!(beaten.node, node);
+        let written = write_image(&node, &mut []);
+        assert_eq!((written.number, written.length), (1, 0));
+        assert!(!questions::q1_node_in_order(&node));
+    }
+}
+
+/// Nodes whose pending claims are out of order.
+fn tables_out_of_order() -> Vec<RawNode> {
+    vec![
         // order, and strictly
-        node(&[good[1], good[0]]),
-        node(&[good[0], good[0]]),
+        node(&[GOOD[1], GOOD[0]]),
+        node(&[GOOD[0], GOOD[0]]),
         node(&[c(1, 9, 1, 4), c(1, 9, 0, 4)]),
         // questions 2 to 5
         node(&[c(2, 1, 3, 2)]),
@@ -97,21 +123,34 @@ fn nodes_out_of_order_get_1() {
         node(&[c(1, 2, 3, 3)]),
         node(&[c(1, 1, 0, 1)]),
         node(&[c(1, 2, 0, 2)]),
+        // 16: "a node given with one gets 1" (document 02, slip 2)
+        node(&[three(1, 1, 9)]),
+        node(&[three(1, 9, 9)]),
+        node(&[three(1, 0, 9)]),
+        node(&[three(1, 10, 9)]),
+        node(&[GOOD[0], three(1, 16, 9), GOOD[1]]),
+        node(&[GOOD[0], three(1, 8, 9), three(1, 16, 9)]),
+        RawNode::of(full(1), &made_by_none()),
         // ends in the store
         node(&[c(4, 4, 4, 1)]),
         node(&[c(0, 9, 9, 2)]),
         node(&[c(1, 8, 9, 2)]),
-    ];
-    // unused places are zeros, and the count says which those are
+    ]
+}
+
+/// Nodes whose unused places, as the count tells them, aren't zeros, or whose
+/// count tells of more places than there are.
+fn counts_belied() -> Vec<RawNode> {
+    let mut bad = Vec::new();
     for place in [2, 63] {
-        let mut one = node(&good);
+        let mut one = node(&GOOD);
         one.pending[place].sum = 1;
         bad.push(one);
     }
     for pending_count in [1, 3, 64, 65, 65_536, usize::MAX] {
         bad.push(RawNode {
             pending_count,
-            ..node(&good)
+            ..node(&GOOD)
         });
     }
     // A full table whose count says 65.
@@ -119,15 +158,7 @@ fn nodes_out_of_order_get_1() {
         pending_count: 65,
         ..RawNode::of(full(1), &helped_in_two())
     });
-    for node in bad {
-        let taken = take(node.clone(), c(9, 5, 0, 0));
-        assert_eq!((taken.number, &taken.node), (1, &node));
-        let beaten = beat(node.clone(), &mut []);
-        assert_eq!((beaten.number, beaten.written), (1, 0));
-        assert_eq!(beaten.node, node);
-        let written = write_image(&node, &mut []);
-        assert_eq!((written.number, written.length), (1, 0));
-    }
+    bad
 }
 
 #[test]

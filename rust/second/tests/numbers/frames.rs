@@ -53,17 +53,19 @@ fn a_frame_has_1_to_4_claims_and_at_most_108_bytes() {
     assert_eq!(FRAME_MOST, frame_of(&claims).len());
 }
 
-#[test]
-fn frames_refused() {
-    let good = frame_of(&[c(1, 1, 1, 1), c(2, 3, 1, 2)]);
-    let zeros = FrameRead {
-        number: 0,
+/// A frame is refused with this number, and zeros for the claims.
+fn refused(bytes: &[u8], number: u8) {
+    let refused = FrameRead {
+        number,
         claims: [Claim::ZERO; 4],
         count: 0,
     };
-    let refused = |bytes: &[u8], number: u8| {
-        assert_eq!(read_frame(bytes), FrameRead { number, ..zeros });
-    };
+    assert_eq!(read_frame(bytes), refused);
+}
+
+#[test]
+fn frames_refused() {
+    let good = frame_of(&[c(1, 1, 1, 1), c(2, 3, 1, 2)]);
     let with = |at: usize, byte: u8| {
         let mut frame = good.clone();
         frame[at] = byte;
@@ -91,21 +93,37 @@ fn frames_refused() {
     refused(&good[..good.len() - 1], 12);
     refused(&[good.as_slice(), &[0]].concat(), 12);
     refused(&good[..4], 12);
+}
+
+#[test]
+fn frames_with_a_claim_that_does_not_pass_get_13() {
     // 12 before 13.
-    let bent = frame_of(&[c(1, 1, 1, 1), c(3, 2, 1, 2)]);
-    refused(&bent[..bent.len() - 1], 12);
+    for bad in [c(3, 2, 1, 2), three(1, 1, 16)] {
+        let bent = frame_of(&[c(1, 1, 1, 1), bad]);
+        refused(&bent[..bent.len() - 1], 12);
+        refused(&bent, 13);
+    }
     // 13, whichever claim it is.
-    refused(&bent, 13);
     for at in 0..4 {
         let mut claims = [c(1, 1, 1, 1); 4];
         claims[at].sum = 0;
         refused(&frame_of(&claims), 13);
+        // By 16, which is "part of what 13 asks" (document 02, slip 2).
+        claims[at] = three(1, 20, 16);
+        refused(&frame_of(&claims), 13);
+        claims[at] = three(1, 2, 16);
+        assert_eq!(read_frame(&frame_of(&claims)).claims, claims);
     }
 }
 
 #[test]
 fn writing_a_frame_asks_12_then_13_then_15() {
-    let bad = c(2, 1, 3, 2);
+    for bad in [c(2, 1, 3, 2), three(1, 20, 16), three(1, 16, 16)] {
+        writing_it_is_refused(bad);
+    }
+}
+
+fn writing_it_is_refused(bad: Claim) {
     let number = |claims: &[Claim]| {
         let mut out = [];
         let written = write_frame(claims, &mut out);

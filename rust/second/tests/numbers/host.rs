@@ -1,7 +1,7 @@
 //! Host calls.
 
 use super::MAX;
-use super::beat::{beats, helped_in_two};
+use super::beat::{beats, helped_in_two, made_by_none};
 use super::common::*;
 use second::*;
 
@@ -221,5 +221,80 @@ fn counting_asks_14_1() {
         assert_eq!(host::count(image), answer);
         let number = questions::of_host_count(image);
         assert_eq!(number.err().map_or(0, i64::from), (-answer).max(0));
+    }
+}
+
+/// The image that a call leaves in a buffer, and nothing behind it.
+fn left(call: impl FnOnce(&mut [u8]) -> i64) -> (i64, Vec<u8>) {
+    let mut out = vec![0x55; 9_900];
+    let answer = call(&mut out);
+    let length = image_length(&out).length;
+    assert!(out[length..].iter().all(|&byte| byte == 0x55));
+    out.truncate(length);
+    (answer, out)
+}
+
+/// Every call on an image with a full table, all of which is left out.
+#[test]
+fn a_table_that_is_left_out_makes_room() {
+    let keys: Vec<u64> = (0..70).collect();
+    let image = image_of(&keys, &made_by_none());
+    assert_eq!(host::count(&image), 70);
+    assert_eq!(
+        left(|out| host::enter(&image, 3, out)),
+        (4 + 8 * 70, image_of_keys(&keys))
+    );
+    let whole = frame_of(&[claim_of(&keys)]);
+    let mut frames = vec![0x66; 3_486];
+    assert_eq!(
+        left(|out| host::beat(&image, out, &mut frames)),
+        (30, image_of_keys(&keys))
+    );
+    assert_eq!(frames[..30], whole);
+    assert!(frames[30..].iter().all(|&byte| byte == 0x66));
+    // Claims that would come after 64 others.
+    let claims = [c(0, 69, 7, 9), c(0, 69, 8, 9)];
+    assert_eq!(
+        left(|out| host::take_frame(&image, &frame_of(&claims), out)),
+        (4 + 8 * 70 + 52, image_of(&keys, &claims))
+    );
+}
+
+/// A later question is asked as if nothing were left out, and what it refuses
+/// is not written back.
+#[test]
+fn refused_calls_leave_what_would_be_left_out() {
+    let keys = full(2).keys;
+    let image = image_of(&keys[..], &[three(0, 0, 4)]);
+    let untouched = |answer: i64, out: &[u8]| {
+        assert!(out.iter().all(|&byte| byte == 0x55));
+        answer
+    };
+    let frame = frame_of(&[c(0, 2, 2, 2)]);
+    let cut = &frame[..29];
+    let other = [0x4D, 0x43, 1, 0];
+    let faulty = frame_of(&[three(0, 0, 4)]);
+    let missing = frame_of(&[c(1, 1, 1, 1)]);
+    for (frame, lent, number) in [
+        (&other[..], 9_860, 10),
+        (cut, 9_860, 12),
+        (&faulty, 9_860, 13),
+        (&missing, 9_860, 6),
+        (&frame, 9_859, 15),
+    ] {
+        let mut out = vec![0x55; lent];
+        let answer = host::take_frame(&image, frame, &mut out);
+        assert_eq!(untouched(answer, &out), -number);
+    }
+    for (key, lent, number) in [(1, 9_860, 6), (0, 9_859, 15)] {
+        let mut out = vec![0x55; lent];
+        let answer = host::enter(&image, key, &mut out);
+        assert_eq!(untouched(answer, &out), -number);
+    }
+    for (lent, lent_frames) in [(9_859, 3_486), (9_860, 3_485)] {
+        let (mut out, mut frames) = (vec![0x55; lent], vec![0x55; lent_frames]);
+        let answer = host::beat(&image, &mut out, &mut frames);
+        assert_eq!(untouched(answer, &out), -15);
+        assert_eq!(untouched(answer, &frames), -15);
     }
 }

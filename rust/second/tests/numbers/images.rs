@@ -1,6 +1,7 @@
 //! Images.
 
-use super::beat::helped_in_two;
+use super::MAX;
+use super::beat::{helped_in_two, made_by_none};
 use super::common::*;
 use second::*;
 
@@ -105,4 +106,106 @@ fn images_refused() {
         // Its length is told whatever its contents.
         assert_eq!(image_length(&bytes).length, bytes.len());
     }
+}
+
+/// An image of these keys is read without those of the pending claims that
+/// aren't to be kept; what was read is written as the image of the others.
+fn reads_without(keys: &[u64], pending: &[Claim], kept: &[Claim]) {
+    let image = image_of(keys, pending);
+    let without = image_of(keys, kept);
+    let node = RawNode::of(RawStore::of(keys), kept);
+    for bytes in [&image, &without] {
+        let read = read_image(bytes);
+        assert_eq!((read.number, &read.node), (0, &node));
+    }
+    // Its length is told by the counts as they stand.
+    assert_eq!(image_length(&image).length, image.len());
+    let mut out = vec![0x55; 9_860];
+    assert_eq!(write_image(&node, &mut out).length, without.len());
+    assert_eq!(out[..without.len()], without);
+    assert!(out[without.len()..].iter().all(|&byte| byte == 0x55));
+    assert_eq!(without_left_out(&image), without);
+}
+
+#[test]
+fn claims_of_three_that_no_store_could_make_are_left_out() {
+    let two = c(1, 16, 17, 2);
+    let of_three = three(1, 2, 16);
+    assert_eq!(
+        (three(1, 20, 16), of_three),
+        (c(1, 16, 5, 3), c(1, 16, 19, 3))
+    );
+    let keys = [1, 16];
+    reads_without(&keys, &[two, c(1, 16, 5, 3), of_three], &[two, of_three]);
+    reads_without(&keys, &[c(1, 16, 5, 3)], &[]);
+    // At lo, at hi, and beside them: inside and outside.
+    for middle in [1, 16, 0, 17, 1 << 63, MAX] {
+        reads_without(&keys, &[three(1, middle, 16)], &[]);
+        // Of four keys the same sum may be.
+        let four = Claim {
+            cnt: 4,
+            ..three(1, middle, 16)
+        };
+        reads_without(&keys, &[three(1, middle, 16), four], &[four]);
+    }
+    for middle in [2, 15] {
+        reads_without(&keys, &[three(1, middle, 16)], &[three(1, middle, 16)]);
+    }
+    // As narrow as three keys can be, at either end of all keys.
+    let keys = [0, 2, MAX - 2, MAX];
+    let kept = [three(0, 1, 2), three(MAX - 2, MAX - 1, MAX)];
+    let mut pending = vec![kept[0], three(0, 0, 2), three(0, 2, 2), three(0, 3, 2)];
+    pending.extend([kept[1], three(MAX - 2, MAX, MAX), three(MAX - 2, 0, MAX)]);
+    pending.sort_by_key(Claim::rank);
+    reads_without(&keys, &pending, &kept);
+}
+
+#[test]
+fn all_64_are_left_out() {
+    let keys: Vec<u64> = (0..70).collect();
+    reads_without(&keys, &made_by_none(), &[]);
+    let full: Vec<u64> = (0..1_024).collect();
+    reads_without(&full, &made_by_none(), &[]);
+    assert_eq!(image_of(&full, &made_by_none()).len(), IMAGE_MOST);
+    // All but the first and the last.
+    let (first, last) = (c(3, 3, 3, 1), c(0, 69, 7, 9));
+    let mut pending = made_by_none();
+    (pending[0], pending[63]) = (first, last);
+    reads_without(&keys, &pending, &[first, last]);
+}
+
+/// "left out once the image has passed 1 as before" and 14 before it.
+#[test]
+fn what_is_left_out_is_judged_first() {
+    let (bad, worse) = (c(1, 16, 5, 3), c(1, 16, 6, 3));
+    let read = |keys: &[u64], pending: &[Claim]| read_image(&image_of(keys, pending)).number;
+    assert_eq!(read(&[1, 16], &[bad, worse]), 0);
+    for pending in [
+        // order, and strictly
+        vec![worse, bad],
+        vec![bad, bad],
+        vec![bad, c(1, 16, 17, 2)],
+        vec![c(1, 16, 19, 4), bad],
+        // an end that isn't held
+        vec![three(1, 20, 15)],
+        vec![three(2, 20, 16)],
+        // 2 to 5 of another
+        vec![c(1, 16, 0, 2), bad],
+        vec![bad, c(1, 16, 0, 17)],
+    ] {
+        assert_eq!(read(&[1, 16], &pending), 1, "{pending:?}");
+    }
+    assert_eq!(read(&[16, 1], &[bad]), 1);
+    // A count of 65, all of which would be left out but one.
+    let keys: Vec<u64> = (0..70).collect();
+    let mut pending = made_by_none();
+    pending.push(c(0, 69, 7, 9));
+    assert_eq!(read(&keys, &pending), 14);
+    assert_eq!(read(&keys, &pending[1..]), 0);
+    // Counts and length as they stand, not as they will be.
+    let image = image_of(&[1, 16], &[bad]);
+    assert_eq!(read_image(&image[..image.len() - 26]).number, 14);
+    let mut fewer = image.clone();
+    fewer[19] = 0;
+    assert_eq!(read_image(&fewer).number, 14);
 }

@@ -59,3 +59,26 @@ fn rehearsals_without_deliveries_and_with_tables() {
          left 1 right 1 claims 1\n"
     );
 }
+
+#[test]
+fn rehearsals_of_images_with_claims_left_out() {
+    // The first is as long as its counts say, what is left out counted.
+    let pending = [c(1, 16, 17, 2), three(1, 20, 16)];
+    let image = image_of(&[1, 16], &pending);
+    let empty: &[u8] = &[0, 0, 0, 0];
+    let lines = "L 1 16 17 2\nR 1 16 17 2\nleft 2 right 2 claims 2\n";
+    assert_eq!(rehearse(&[&image, empty].concat()), lines);
+    assert_eq!(rehearse(&[&image[..], &image[..]].concat()), lines);
+    assert_eq!(
+        rehearse(&[empty, &image].concat()),
+        "R 1 16 17 2\nleft 2 right 2 claims 1\n"
+    );
+    let swapped = image_of(&[1, 16], &[pending[1], pending[0]]);
+    let not_held = image_of(&[1, 16], &[three(1, 20, 15)]);
+    for bad in [swapped, not_held] {
+        assert_eq!(rehearse(&[&bad, empty].concat()), "refused 1\n");
+        assert_eq!(rehearse(&[empty, &bad].concat()), "refused 1\n");
+    }
+    assert_eq!(rehearse(&image), "refused 14\n");
+    assert_eq!(rehearse(&[empty, &image[1..]].concat()), "refused 14\n");
+}

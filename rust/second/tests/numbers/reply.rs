@@ -31,8 +31,13 @@ fn ends_that_do_not_fit_get_6() {
         (1_023, same_new, 0),
         (1_024, same_new, 6),
         (1_024, none_new, 0),
-        // 5 before 6
+        // 5 and 16 before 6
         (1_024, c(1, 3, 0, 2), 5),
+        (1_024, three(1, 1, 3), 16),
+        (1_024, three(1, 3, 3), 16),
+        (1_023, three(1, 4, 3), 16),
+        (1_024, three(0, 5, 4), 16),
+        (1_024, three(1, 2, 3), 6),
     ] {
         let replied = reply(up_to(keys), claim);
         assert_eq!(replied.number, number);
@@ -60,8 +65,12 @@ fn two_ends_say_all_of_their_span() {
             Some(Reply::Match)
         );
         assert_eq!(
-            reply(store, c(4, 9, 13, 3)).reply,
+            reply(store.clone(), c(4, 9, 13, 4)).reply,
             Some(Reply::Ask(c(4, 9, 13, 2)))
         );
+        // Three of which but the ends are told are none (16).
+        let replied = reply(store.clone(), c(4, 9, 13, 3));
+        assert_eq!((replied.number, replied.reply), (16, None));
+        assert_eq!(replied.store, store);
     }
 }

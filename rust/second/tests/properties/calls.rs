@@ -30,7 +30,7 @@ fn entering_is_that_of_sets() {
 }
 
 #[test]
-fn claims_made_pass_2_to_5_and_match_at_home() {
+fn claims_made_pass_2_to_5_and_16_and_match_at_home() {
     for_seeds(300, |rng| {
         let density = rng.density();
         let keys = rng.keys(1_024, density);
@@ -90,7 +90,7 @@ fn replies_are_those_of_sets() {
 }
 
 /// Fails if a property was idle: what it needs came only so many times.
-fn seen_often(what: &str, times: usize) {
+pub fn seen_often(what: &str, times: usize) {
     if std::env::var("SECOND_SEED").is_err() {
         assert!(times > 50, "only {times} {what}");
     }

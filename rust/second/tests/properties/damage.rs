@@ -6,89 +6,118 @@ use super::common::*;
 use super::number;
 use second::*;
 
+/// The numbers that calls answered, by call; and what else was seen.
+type Seen = BTreeSet<(&'static str, u8)>;
+
+/// An image, a frame and the input of a rehearsal, each damaged or not. The
+/// image may have been saved before 16 was asked.
+fn damaged(rng: &mut Rng) -> [Vec<u8>; 3] {
+    let density = rng.density();
+    let node = rng.node();
+    let held = node.store.held().to_vec();
+    let mut table = node.table().to_vec();
+    if rng.one_in(3) {
+        table = rng.saved_table(&held);
+    }
+    let image = image_of(&held, &table);
+    let claims: Vec<Claim> = (0..1 + rng.below(4))
+        .map(|_| rng.claim(&held, density))
+        .collect();
+    let input = [image.clone(), image_of_keys(&rng.keys(200, density))].concat();
+    let mut all = [image, frame_of(&claims), input];
+    for bytes in &mut all {
+        for _ in 0..rng.below(3) {
+            rng.damage(bytes);
+        }
+    }
+    all
+}
+
+fn readers_answer(image: &[u8], frame: &[u8], seen: &mut Seen) {
+    let read = read_frame(frame);
+    assert_eq!(read.number, number(questions::of_read_frame(frame)));
+    if read.number == 0 {
+        assert_eq!(frame_of(&read.claims[..read.count]), frame);
+    }
+    seen.insert(("read_frame", read.number));
+
+    let read = read_image(image);
+    assert_eq!(read.number, number(questions::of_read_image(image)));
+    if read.number == 0 {
+        assert!(questions::q1_node_in_order(&read.node));
+        let written = image_of(read.node.store.held(), read.node.table());
+        assert_eq!(written, without_left_out(image));
+        seen.insert(("left out", u8::from(written != image)));
+    }
+    seen.insert(("read_image", read.number));
+    let told = image_length(image);
+    assert!(told.length <= image.len());
+    assert_eq!(told.number, number(questions::of_image_length(image)));
+    assert_eq!(
+        told.length == image.len() && told.number == 0,
+        questions::q14_length_told(image)
+    );
+    seen.insert(("image_length", told.number));
+}
+
+/// A host call's answer by the number that it should have. Refused, it left
+/// its buffer alone; otherwise an image is there that has nothing to leave out.
+fn host_call_answers(call: &'static str, answer: i64, no: u8, out: &[u8], seen: &mut Seen) {
+    assert_eq!((-answer).max(0), i64::from(no));
+    seen.insert((call, no));
+    if no != 0 {
+        assert!(out.iter().all(|&byte| byte == 0x55));
+        return;
+    }
+    let image = &out[..image_length(out).length];
+    assert_eq!(read_image(image).number, 0);
+    assert_eq!(without_left_out(image), image);
+}
+
+fn host_calls_answer(rng: &mut Rng, image: &[u8], frame: &[u8], seen: &mut Seen) {
+    let room = *rng.pick(&[9_860, 9_860, 9_859]);
+    let mut out = vec![0x55; room];
+    let answer = host::take_frame(image, frame, &mut out);
+    let no = number(questions::of_host_take_frame(image, frame, room));
+    host_call_answers("host::take_frame", answer, no, &out, seen);
+    if no == 0 {
+        assert_eq!(image_length(&out).length as i64, answer);
+    }
+
+    let mut out = vec![0x55; room];
+    let frames_room = *rng.pick(&[3_486, 3_486, 3_485]);
+    let mut frames = vec![0x66; frames_room];
+    let answer = host::beat(image, &mut out, &mut frames);
+    let no = number(questions::of_host_beat(image, room, frames_room));
+    host_call_answers("host::beat", answer, no, &out, seen);
+    if no != 0 {
+        assert!(frames.iter().all(|&byte| byte == 0x66));
+    }
+
+    let mut out = vec![0x55; room];
+    let density = rng.density();
+    let key = rng.key(density);
+    let answer = host::enter(image, key, &mut out);
+    let no = number(questions::of_host_enter(image, key, room));
+    host_call_answers("host::enter", answer, no, &out, seen);
+    if no == 0 {
+        assert_eq!(image_length(&out).length as i64, answer);
+    }
+
+    let answer = host::count(image);
+    let no = number(questions::of_host_count(image));
+    assert_eq!((-answer).max(0), i64::from(no));
+    seen.insert(("host::count", no));
+}
+
 #[test]
 fn damaged_bytes_are_answered() {
     let seen = std::cell::RefCell::new(BTreeSet::new());
     for_seeds(1_500, |rng| {
-        let density = rng.density();
-        let node = rng.node();
-        let held = node.store.held().to_vec();
-        let mut image = image_of(&held, node.table());
-        let claims: Vec<Claim> = (0..1 + rng.below(4))
-            .map(|_| rng.claim(&held, density))
-            .collect();
-        let mut frame = frame_of(&claims);
-        let mut input = [image.clone(), image_of_keys(&rng.keys(200, density))].concat();
-        for bytes in [&mut image, &mut frame, &mut input] {
-            for _ in 0..rng.below(3) {
-                rng.damage(bytes);
-            }
-        }
-
+        let [image, frame, input] = damaged(rng);
         let mut seen = seen.borrow_mut();
-        let read = read_frame(&frame);
-        assert_eq!(read.number, number(questions::of_read_frame(&frame)));
-        if read.number == 0 {
-            assert_eq!(frame_of(&read.claims[..read.count]), frame);
-        }
-        seen.insert(("read_frame", read.number));
-
-        let read = read_image(&image);
-        assert_eq!(read.number, number(questions::of_read_image(&image)));
-        if read.number == 0 {
-            assert!(questions::q1_node_in_order(&read.node));
-            assert_eq!(image_of(read.node.store.held(), read.node.table()), image);
-        }
-        seen.insert(("read_image", read.number));
-        let told = image_length(&image);
-        assert!(told.length <= image.len());
-        assert_eq!(told.number, number(questions::of_image_length(&image)));
-        assert_eq!(
-            told.length == image.len() && told.number == 0,
-            questions::q14_length_told(&image)
-        );
-        seen.insert(("image_length", told.number));
-
-        let room = *rng.pick(&[9_860, 9_860, 9_859]);
-        let mut out = vec![0x55; room];
-        let answer = host::take_frame(&image, &frame, &mut out);
-        let no = number(questions::of_host_take_frame(&image, &frame, room));
-        assert_eq!((-answer).max(0), i64::from(no));
-        seen.insert(("host::take_frame", no));
-        if no != 0 {
-            assert!(out.iter().all(|&byte| byte == 0x55));
-        } else {
-            assert_eq!(read_image(&out[..answer as usize]).number, 0);
-        }
-
-        let mut out = vec![0x55; room];
-        let frames_room = *rng.pick(&[3_486, 3_486, 3_485]);
-        let mut frames = vec![0x66; frames_room];
-        let answer = host::beat(&image, &mut out, &mut frames);
-        let no = number(questions::of_host_beat(&image, room, frames_room));
-        assert_eq!((-answer).max(0), i64::from(no));
-        seen.insert(("host::beat", no));
-        if no != 0 {
-            assert!(out.iter().all(|&byte| byte == 0x55));
-            assert!(frames.iter().all(|&byte| byte == 0x66));
-        }
-
-        let mut out = vec![0x55; room];
-        let key = rng.key(density);
-        let answer = host::enter(&image, key, &mut out);
-        let no = number(questions::of_host_enter(&image, key, room));
-        assert_eq!((-answer).max(0), i64::from(no));
-        seen.insert(("host::enter", no));
-        if no != 0 {
-            assert!(out.iter().all(|&byte| byte == 0x55));
-        } else {
-            assert_eq!(read_image(&out[..answer as usize]).number, 0);
-        }
-
-        let answer = host::count(&image);
-        let no = number(questions::of_host_count(&image));
-        assert_eq!((-answer).max(0), i64::from(no));
-        seen.insert(("host::count", no));
+        readers_answer(&image, &frame, &mut seen);
+        host_calls_answer(rng, &image, &frame, &mut seen);
 
         let no = number(questions::of_rehearse(&input));
         let output = rehearse(&input);
@@ -103,6 +132,7 @@ fn damaged_bytes_are_answered() {
     for (call, numbers) in [
         ("read_frame", &[0, 10, 11, 12, 13][..]),
         ("read_image", &[0, 1, 14]),
+        ("left out", &[0, 1]),
         ("image_length", &[0, 14]),
         ("host::take_frame", &[0, 1, 6, 10, 11, 12, 13, 14, 15]),
         ("host::beat", &[0, 1, 14, 15]),

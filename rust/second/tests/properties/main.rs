@@ -7,6 +7,7 @@ mod common;
 mod bytes;
 mod calls;
 mod damage;
+mod left_out;
 mod rounds;
 mod sets;
 

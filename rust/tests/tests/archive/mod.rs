@@ -71,6 +71,24 @@ impl Asked {
         }
     }
 
+    /// The image that it is given.
+    pub fn image(&self) -> &[u8] {
+        match self {
+            Asked::Take(image, ..) | Asked::Beat(image, ..) => image,
+            Asked::Enter(image, ..) | Asked::Count(image) => image,
+        }
+    }
+
+    /// The same call, given another image.
+    pub fn given(&self, image: Vec<u8>) -> Asked {
+        match self {
+            Asked::Take(_, frame, lent) => Asked::Take(image, frame.clone(), *lent),
+            Asked::Beat(_, lent, frames) => Asked::Beat(image, *lent, *frames),
+            Asked::Enter(_, key, lent) => Asked::Enter(image, *key, *lent),
+            Asked::Count(_) => Asked::Count(image),
+        }
+    }
+
     /// Makes the call by one of the programs.
     pub fn by(&self, seed: u64, program: &Program) -> Left {
         let (mut out, mut frames) = self.lent(seed);
@@ -103,20 +121,24 @@ impl Asked {
             frames,
         }
     }
-
-    /// The image that the call is given.
-    pub fn image(&self) -> &[u8] {
-        let (Asked::Take(image, ..)
-        | Asked::Beat(image, ..)
-        | Asked::Enter(image, ..)
-        | Asked::Count(image)) = self;
-        image
-    }
 }
 
 /// The number of a refusal, 0 if there was none.
 pub fn number(answer: i64) -> u8 {
     if answer < 0 { -answer as u8 } else { 0 }
+}
+
+/// The image and the frames' bytes that a call leaves which isn't refused, by
+/// both programs.
+pub fn left_by(asked: Asked) -> (Vec<u8>, Vec<u8>) {
+    let left = compare(&asked, 0);
+    assert!(left.answer >= 0, "refused {}", -left.answer);
+    let image = left.out[..image_length(&left.out).length].to_vec();
+    let frames = match asked {
+        Asked::Beat(..) => left.frames[..left.answer as usize].to_vec(),
+        _ => Vec::new(),
+    };
+    (image, frames)
 }
 
 /// What the archive leaves, and the second program with it.

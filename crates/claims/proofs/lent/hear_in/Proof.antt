@@ -1,6 +1,6 @@
 -- `claims::lent::hear_in` meets its contract. Assumes nothing.
 use borrow.Author.Needs.{needs}
-use Rattle.claims.proofs.LentPaths.{heard-judged, heard-unfit, ends-rise, heard-ends, third-grows, third-room, heard-third}
+use Rattle.claims.proofs.LentPaths.{heard-judged, heard-unfit, ends-rise, third-told, heard-ends, third-grows, third-room, heard-third}
 use Rattle.claims.proofs.lent.hear_in.Statement.{statement}
 use Rattle.claims.proofs.lent.hear_in.Tie as tie
 
@@ -23,7 +23,7 @@ returns-2 : tie.Need-returns-2
 returns-2 c = search heard-unfit
 
 tells-third-requires : tie.Need-tells-third-requires
-tells-third-requires c κs = search ends-rise
+tells-third-requires c κs = search (ends-rise, third-told)
 
 returns-3 : tie.Need-returns-3
 returns-3 c = search heard-ends

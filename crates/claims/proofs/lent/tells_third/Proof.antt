@@ -1,6 +1,6 @@
 -- `claims::lent::tells_third` meets its contract. Assumes nothing.
 use borrow.Author.Needs.{needs}
-use Rattle.claims.proofs.LentPaths.{tells-count, tells-others, tells-inside}
+use Rattle.claims.proofs.LentPaths.{tells-count, tells-beside}
 use Rattle.claims.proofs.lent.tells_third.Statement.{statement}
 use Rattle.claims.proofs.lent.tells_third.Tie as tie
 
@@ -11,13 +11,7 @@ sub-apart : tie.Need-sub-apart
 sub-apart c = search needs
 
 returns-2 : tie.Need-returns-2
-returns-2 c = search tells-others
-
-middle-inside-requires : tie.Need-middle-inside-requires
-middle-inside-requires c κs = search needs
-
-returns-3 : tie.Need-returns-3
-returns-3 c = search tells-inside
+returns-2 c = search tells-beside
 
 pub tells-third-spec : {M : Type 1} → statement M
-tells-third-spec = tie.close (tie.spec returns sub-apart returns-2 middle-inside-requires returns-3)
+tells-third-spec = tie.close (tie.spec returns sub-apart returns-2)

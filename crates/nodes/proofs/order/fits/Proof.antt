@@ -4,8 +4,8 @@ use Rattle.nodes.proofs.OrderPaths.{fits-judged, fits-lo, fits-hi}
 use Rattle.nodes.proofs.order.fits.Statement.{statement}
 use Rattle.nodes.proofs.order.fits.Tie as tie
 
-judge-requires : tie.Need-judge-requires
-judge-requires c κs = search needs
+judge-formerly-requires : tie.Need-judge-formerly-requires
+judge-formerly-requires c κs = search needs
 
 returns : tie.Need-returns
 returns c = search fits-judged
@@ -25,4 +25,4 @@ returns-3 c = search fits-hi
 pub fits-spec : {M : Type 1} → statement M
 fits-spec =
     tie.close
-    (tie.spec judge-requires returns place-in-requires returns-2 place-in-requires-2 returns-3)
+    (tie.spec judge-formerly-requires returns place-in-requires returns-2 place-in-requires-2 returns-3)

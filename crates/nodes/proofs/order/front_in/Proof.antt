@@ -4,11 +4,17 @@ use Rattle.nodes.proofs.OrderPaths.{tested-yes, front-count, front-stor
 use Rattle.nodes.proofs.order.front_in.Statement.{statement}
 use Rattle.nodes.proofs.order.front_in.Tie as tie
 
+no-order-requires : tie.Need-no-order-requires
+no-order-requires c κs = search needs
+
 returns : tie.Need-returns
 returns c = search front-count
 
 ordered-in-requires : tie.Need-ordered-in-requires
 ordered-in-requires c κs = search needs
+
+no-order-requires-2 : tie.Need-no-order-requires-2
+no-order-requires-2 c κs = search needs
 
 returns-2 : tie.Need-returns-2
 returns-2 c = search front-store
@@ -20,4 +26,6 @@ returns-3 : tie.Need-returns-3
 returns-3 c = search front-pending
 
 pub front-in-spec : {M : Type 1} → statement M
-front-in-spec = tie.close (tie.spec returns ordered-in-requires returns-2 pending-requires returns-3)
+front-in-spec =
+    tie.close
+    (tie.spec no-order-requires returns ordered-in-requires no-order-requires-2 returns-2 pending-requires returns-3)
