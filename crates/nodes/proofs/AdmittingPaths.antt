@@ -6,10 +6,11 @@ use mathlib.Core.List.{List, [], _∷_, _++_, append-nil, append-assoc}
 use Prim.Native.Nat.{ℕ, suc, _+_, _-_, _≤_, _<_}
 use native.Mathlib.Numerals.{add-one}
 use native.Mathlib.Omega.{arith}
-use borrow.Author.Tests.{leb-true, eq-eqb, ne-eqb, not-true, not-false}
-use lib.Dec.{leb}
+use borrow.Author.Tests.{leb-true, eqb-true, eq-eqb, ne-eqb, not-true, not-false}
+use lib.Dec.{leb, eqb}
 use lib.ListN.{length, take, drop, getD, set, length-append, take-append-drop}
 use lib.Seq.{take-suc, drop-cons, getD-at, length-take-le}
+use Rattle.keys.specs.Lent.{orderedIn}
 use Rattle.keys.specs.Place.{putAt}
 use Rattle.keys.proofs.Tests.{and-left, and-right}
 use Rattle.keys.proofs.PlaceLaws.{putAt-nil, putAt-zero, set-front, set-written}
@@ -23,6 +24,7 @@ use Rattle.rule.proofs.TableLaws.{those-snoc}
 use Rattle.rule.proofs.NodeLaws.{length-blanks, blanks-suc, blanks-snoc, telling-all}
 use Rattle.nodes.specs.declared.order.Order.{Order}
 use Rattle.nodes.specs.Lent.{orderOf, frontIn, leftOut, restLeft, admitIn}
+use Rattle.nodes.proofs.OrderPaths.{front-none}
 
 -- ---- leaving out
 
@@ -111,6 +113,13 @@ leaving-done table count held {i} left past =
 
 -- ---- what is admitted
 
+module _ (keys : List ℕ) (count : ℕ) where
+  pub pending-some : (count ≡ 0 → ⊥) → false ≡ (eqb count 0 && orderedIn keys (length keys))
+  pending-some f = rw (ne-eqb count 0 f)
+
+  pub pending-none : count ≡ 0 → (ordered : Bool) → ordered ≡ orderedIn keys (length keys) → ordered ≡ (eqb count 0 && orderedIn keys (length keys))
+  pending-none e ordered tested = tested ∙ rw (eq-eqb count 0 e)
+
 -- where every claim passes 16, the table is as it was
 pub leftOut-all : (table : List Claim) (count : ℕ) → allTell (take count table) ≡ true → count ≤ length table
     → (leftOut table count ≡ table) × (length (telling (take count table)) ≡ count)
@@ -130,6 +139,18 @@ module _ (keys : List ℕ) (r : Rest) where
   pub admit-refused : (r .number ≡ 0 → ⊥) → r ≡ admitIn keys r
   unfolding admitIn
   admit-refused f = rw (ne-eqb (r .number) 0 f)
+
+  -- keys in order, and nothing pending
+  pub admit-none : r .number ≡ 0 → (none : Bool) → none ≡ (eqb (r .count) 0 && orderedIn keys (length keys)) → none ≡ true → r ≡ admitIn keys r
+  unfolding admitIn blanks
+  admit-none read none asked e =
+      let both = sym asked ∙ e in
+      let ordered = and-right (eqb (r .count) 0) (orderedIn keys (length keys)) both in
+      let zero : r .count ≡ 0 = eqb-true (r .count) 0 (and-left (eqb (r .count) 0) (orderedIn keys (length keys)) both) in
+      let passed : frontIn keys (r .table) (r .count) ≡ true = ap (frontIn keys (r .table)) zero ∙ front-none keys (r .table) ordered in
+      let admitted : restLeft (r .held) (r .table) (r .count) ≡ admitIn keys r = rw (eq-eqb (r .number) 0 read, passed) in
+      let same : leftOut (r .table) 0 ≡ r .table = putAt-nil (r .table) 0 in
+      (λ j. record { number = read j; held = r .held; table = sym same j; count = zero j }) ∙ (ap (restLeft (r .held) (r .table)) (sym zero) ∙ admitted)
 
   module _ (read : r .number ≡ 0) (found : Order) (told : found ≡ orderOf (frontIn keys (r .table) (r .count)) (allTell (take (r .count) (r .table)))) where
     front-is : frontIn keys (r .table) (r .count) ≡ found .saved

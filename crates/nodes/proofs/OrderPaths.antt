@@ -302,3 +302,7 @@ module _ (keys : List ℕ) (table : List Claim) (count : ℕ) where
 
     pub front-pending : not ordered ≡ false → (r : Order) → r ≡ orderOf (pending (take count table) (take (length keys) keys)) (allTell (take count table)) → r ≡ fronted
     front-pending e r is = is ∙ rw (take-length keys, front-is, not-false ordered e)
+
+-- nothing pending beside keys in order
+pub front-none : (keys : List ℕ) (table : List Claim) → orderedIn keys (length keys) ≡ true → frontIn keys table 0 ≡ true
+front-none keys table e = front-is keys table 0 (omega arith) true (sym e)

@@ -2,10 +2,15 @@
 use crate::order::front_in;
 use claims::Claim;
 use claims::tells;
+use keys::ordered_in;
 use rule::Node;
 use rule::Rest;
 ghost use mathlib.Core.Path.{_≡_};
+ghost use mathlib.Core.Bool.{_&&_};
 ghost use Prim.Native.Nat.{_≤_};
+ghost use lib.Dec.{eqb};
+ghost use lib.ListN.{length};
+ghost use Rattle.keys.specs.Lent.{orderedIn};
 ghost use Rattle.rule.specs.Table.{tableLimit};
 ghost use Rattle.nodes.specs.Lent.{restLeft, admitIn};
 
@@ -34,12 +39,25 @@ fn leave_out(held: usize, table: [Claim; Node::TABLE], count: usize) -> Rest
     }
 }
 
+// Whether the keys are in order and nothing is pending beside them. Most images are so, and their table need not be copied to be looked at.
+fn nothing_pending(keys: &[u64], count: usize) -> bool
+    ensures { λ r. ⌜ r ≡ (eqb count 0 && orderedIn (now (keys .entry)) (length (now (keys .entry)))) ⌝ }
+{
+    if count != 0 {
+        return false;
+    }
+    ordered_in(keys, keys.len())
+}
+
 // Admits what was read of an image: the keys, and the rest. A number that reading told is told again. Asks 1, as images are judged; then leaves out the claims
 // that fail 16.
 pub fn admit_in(keys: &[u64], read: Rest) -> Rest
     ensures { λ r. ⌜ r ≡ admitIn (now (keys .entry)) read ⌝ }
 {
     if read.number != 0 {
+        return read;
+    }
+    if nothing_pending(keys, read.count) {
         return read;
     }
     let table = read.table;
