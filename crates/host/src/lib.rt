@@ -33,7 +33,7 @@ pub extern "C" fn minutefrost_take_frame(image: &[u8], frame: &[u8], out: &mut [
 }
 
 // Takes an image and a key, enters the key, writes the new image to the front of `out` and returns its length; or minus the number of the first question
-// answered no, and then nothing is written. Asks 14, 1, 6 and 15. Pending claims stay.
+// answered no, and then nothing is written. Asks 14, 1, 6 and 15. Pending claims stay, save those that fail 16.
 #[no_mangle]
 pub extern "C" fn minutefrost_enter(image: &[u8], key: u64, out: &mut [u8]) -> i64
     ensures { λ r. ⌜ (r ≡ keyEntered (now (image .entry)) key (length (now (out .entry))))
