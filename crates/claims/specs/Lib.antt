@@ -6,7 +6,7 @@
 --   Call      what each public call returns, for any content
 --   Lent      the calls on a lent run of keys: an interface between our own crates, and no rule of document 01
 --   Words     a claim in a lent run of words: as Lent
---   Cases     the twelve lettered cases
+--   Cases     the twelve lettered cases, and rows for what document 02 changes
 pub mod Claim
 pub mod Question
 pub mod Reply

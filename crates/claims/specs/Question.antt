@@ -56,7 +56,8 @@ question6 ks l = question 6 (ltb (length (insertAll ks l)) (limit + 1))
 abbrev pub question7 : ℕ → ℕ → ℕ → Question
 question7 i j count = question 7 (leb i j && ltb j count)
 
--- "16, for a claim with cnt 3 and sum XOR lo XOR hi not strictly between lo and hi" (document 02, slip 2)
+-- claims of three that no store could make: "They are now refused." "16, for a claim with cnt 3 and sum XOR lo XOR hi not strictly between lo and hi"
+-- (document 02, slip 2)
 abbrev pub question16 : Claim → Question
 question16 c = question 16 (cond (eqb (c .cnt) 3) (middleInside c) true)
 

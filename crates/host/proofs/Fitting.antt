@@ -14,7 +14,7 @@ use Rattle.keys.proofs.StoreLaws.{keys-storeOf, keysOf-storeOf, length-keys-sto
 use Rattle.keys.proofs.Rising.{Rising}
 use Rattle.claims.specs.declared.claim.Claim.{Claim}
 use Rattle.claims.specs.Claim.{noClaim, middleKey}
-use Rattle.claims.specs.Question.{firstNo, question16}
+use Rattle.claims.specs.Question.{firstNo}
 use Rattle.claims.specs.Reply.{withEnds, adding, hear}
 use Rattle.claims.proofs.ReplyLaws.{Wanted, adding-mem, hear-mem, hear-fits, Spanned, spanned-keys}
 use Rattle.claims.proofs.Span.{mem-first, mem-last}
@@ -24,9 +24,9 @@ use Rattle.rule.specs.declared.answer.Taken.{Taken}
 use Rattle.rule.specs.Table.{tableLimit, insertClaim, tableWith, serve, sending}
 use Rattle.rule.specs.Node.{blanks, nodeKeys, pendingOf, nodeOf, telling}
 use Rattle.rule.specs.Call.{takeQuestions, taken}
-use Rattle.rule.proofs.NodeLaws.{Ordered, ordered-nodeInOrder, savedInOrder-saved, ordered-telling, nodeKeys-nodeOf, pendingOf-nodeOf, nodeOf-same}
+use Rattle.rule.proofs.NodeLaws.{Ordered, ordered-nodeInOrder, savedInOrder-saved, telling-mem, ordered-telling, nodeKeys-nodeOf, pendingOf-nodeOf, nodeOf-same}
 use Rattle.rule.proofs.CallLaws.{takeQuestions-yes, taken-done, taken-refused, length-nodeKeys, length-pendingOf}
-use Rattle.rule.proofs.TableLaws.{those-mem, insertClaim-mem, length-tableWith, kept-mem, length-kept}
+use Rattle.rule.proofs.TableLaws.{insertClaim-mem, length-tableWith, kept-mem, length-kept}
 use Rattle.wire.specs.declared.answer.Imaged.{Imaged}
 use Rattle.wire.specs.Number.{byte, Below}
 use Rattle.wire.specs.Claim.{keyWidth, countWidth, ClaimFits}
@@ -92,7 +92,7 @@ narrow-read image below done =
     subst (λ (r : Imaged). Narrow (r .node)) (readImage-0 told saved)
     (narrow-nodeOf (parse image .keys) (telling t) few several
     (readRun-fits key-faithful (countOf image) (drop countWidth image) (below-drop countWidth image below))
-    (each-mem ClaimFits (telling t) (λ d m. mem-each ClaimFits t fit d (those-mem (λ (c : Claim). question16 c .yes) t d m .0))))
+    (each-mem ClaimFits (telling t) (λ d m. mem-each ClaimFits t fit d (telling-mem t d m .0))))
 
 -- ---- claims taken
 

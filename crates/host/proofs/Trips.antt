@@ -96,7 +96,7 @@ pub next-call-takes : (image : List ℕ) (n : Node) → readImage image ≡ reco
     → (firstNo (readImageQuestions image) ≡ 0) × (nodeIn image ≡ n)
 next-call-takes image n e = (sym (readImage-number image) ∙ ap (λ (r : Imaged). r .number) e, ap (λ (r : Imaged). r .node) e)
 
--- An image already saved is left behind once: without the claims that were left out it is read as the same node, and none is left out any more.
+-- Claims are left out of an image once: without them it is read as the same node, and none is left out any more.
 pub used-image-is-read : (image : List ℕ) → Below byte image → readImage image .number ≡ 0
     → (readImage (usedBytes image) ≡ readImage image) × (allTell (pendingOf (nodeIn image)) ≡ true)
 used-image-is-read image below done =

@@ -20,16 +20,12 @@ use Rattle.claims.specs.Question.{question16}
 use Rattle.rule.specs.declared.answer.Rest.{Rest}
 use Rattle.rule.specs.Table.{tableLimit}
 use Rattle.rule.specs.Node.{blanks, allTell, telling, nodeOf, savedInOrder}
-use Rattle.rule.proofs.TableLaws.{those-snoc}
-use Rattle.rule.proofs.NodeLaws.{length-blanks, blanks-suc, blanks-snoc, telling-all}
+use Rattle.rule.proofs.NodeLaws.{telling-snoc, telling-all, length-blanks, blanks-suc, blanks-snoc}
 use Rattle.nodes.specs.declared.order.Order.{Order}
 use Rattle.nodes.specs.Lent.{orderOf, frontIn, leftOut, restLeft, admitIn}
 use Rattle.nodes.proofs.OrderPaths.{front-none}
 
 -- ---- leaving out
-
-abbrev tells : Claim → Bool
-tells c = question16 c .yes
 
 -- Before claim i, with `kept` claims kept: these stand in front, and zeros where the others stood.
 pub record Leaving (table : List Claim) (count i kept : ℕ) (places : List Claim) : Type 0 where
@@ -75,8 +71,8 @@ module _ (table : List Claim) (count : ℕ) (few : count ≤ tableLimit) (whole 
     next-is : {t : Bool} → told ≡ t → telling (take (i + 1) table) ≡ front ++ cond t (c ∷ []) []
     next-is e =
         let one : take (i + 1) table ≡ take i table ++ (c ∷ []) = rw (add-one i) (take-suc table i noClaim (omega arith)) in
-        let tested : tells c ≡ _ = sym (asked ∙ ap tells claim-is) ∙ e in
-        ap telling one ∙ (those-snoc tells (take i table) c ∙ ap (λ (b : Bool). front ++ cond b (c ∷ []) []) tested)
+        let tested = sym (asked ∙ ap (λ (x : Claim). question16 x .yes) claim-is) ∙ e in
+        ap telling one ∙ (telling-snoc (take i table) c ∙ ap (λ (b : Bool). front ++ cond b (c ∷ []) []) tested)
 
     pub leaving-kept : told ≡ true → Leaving table count (i + 1) (kept + 1) (set (set places i noClaim) kept (getD places i noClaim))
     leaving-kept e =

@@ -21,7 +21,7 @@ use Rattle.keys.proofs.StoreLaws.{inOrder-rising, storeOf-keysOf}
 use Rattle.claims.specs.declared.claim.Claim.{Claim}
 use Rattle.claims.specs.Claim.{noClaim}
 use Rattle.claims.specs.Reply.{same, ends, withEnds, hear}
-use Rattle.claims.specs.Question.{firstNo, question6, question16, claimQuestions}
+use Rattle.claims.specs.Question.{firstNo, question6, claimQuestions}
 use Rattle.claims.specs.Call.{judged}
 use Rattle.claims.specs.Lent.{hearIn}
 use Rattle.claims.proofs.ClaimLaws.{same-claim}
@@ -32,8 +32,8 @@ use Rattle.rule.specs.Call.{takeQuestions, taken}
 use Rattle.rule.specs.declared.node.Node.{Node}
 use Rattle.rule.specs.declared.answer.Taken.{Taken}
 use Rattle.rule.specs.Node.{blanks, pendingOf, nodeKeys, nodeOf, telling, savedInOrder}
-use Rattle.rule.proofs.TableLaws.{before-trans, before-total, climbsFrom-climbs, length-those}
-use Rattle.rule.proofs.NodeLaws.{Ordered, ordered-nodeInOrder, length-blanks, blanks-append, blanks-allUnused, drop-blanks, pendingOf-nodeOf}
+use Rattle.rule.proofs.TableLaws.{before-trans, before-total, climbsFrom-climbs}
+use Rattle.rule.proofs.NodeLaws.{Ordered, ordered-nodeInOrder, length-telling, length-blanks, blanks-append, blanks-allUnused, drop-blanks, pendingOf-nodeOf}
 use Rattle.rule.proofs.CallLaws.{takeQuestions-yes, takeQuestions-6, taken-done, taken-refused, ordered-taken, length-pendingOf}
 use Rattle.nodes.specs.Lent.{restOf, frontIn, leftOut, admitIn, halvedTo, placeAmong, isAt, placedAt, tableIn, takeIn}
 
@@ -50,7 +50,7 @@ module _ (l : List ℕ) (t : List Claim) (few : length t ≤ tableLimit) where
   left-is =
       let rest = blanks (tableLimit - length t) in
       let zeros = blanks (length t - length (telling t)) in
-      let fewer : length (telling t) ≤ length t = length-those (λ (c : Claim). question16 c .yes) t in
+      let fewer : length (telling t) ≤ length t = length-telling t in
       let many : length (telling t ++ zeros) ≡ length t = omega (arith, length-append (telling t) zeros, length-blanks (length t - length (telling t))) in
       let all : length t - length (telling t) + (tableLimit - length t) ≡ tableLimit - length (telling t) = omega arith in
       rw (take-append-seam t rest, putAt-zero (t ++ rest) (telling t ++ zeros), many, drop-append-seam t rest, append-assoc (telling t) zeros rest)

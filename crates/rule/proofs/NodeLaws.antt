@@ -4,7 +4,7 @@
 -- Not here: the table (TableLaws). Assumes nothing.
 use Prim.Native.Nat.{ℕ, zero, suc, _+_, _-_, _≤_}
 use native.Mathlib.Nat.{zero-add, suc-add}
-use mathlib.Core.Bool.{Bool, true, _&&_}
+use mathlib.Core.Bool.{Bool, true, cond, _&&_}
 use mathlib.Core.List.{List, [], _∷_, _++_, List·Memᴰ, List·Memᴰ·head, List·Memᴰ·tail, List·Memᴰ·not-nil, Memᴰ·cast, map}
 use mathlib.Core.Path.{_≡_, refl, sym, ap, _∙_, subst}
 use native.Mathlib.Omega.{arith}
@@ -29,7 +29,7 @@ use Rattle.claims.proofs.ReplyLaws.{Spanned, answer-spanned}
 use Rattle.rule.specs.declared.node.Node.{Node}
 use Rattle.rule.specs.Table.{tableLimit, climbs}
 use Rattle.rule.specs.Node.{blanks, pendingOf, nodeKeys, nodeOf, emptyNode, holdsAll, allFit, allTell, telling, allUnused, savedInOrder, nodeInOrder}
-use Rattle.rule.proofs.TableLaws.{climbs-those, those-mem, those-all, length-those}
+use Rattle.rule.proofs.TableLaws.{climbs-those, those-mem, those-snoc, those-all, length-those}
 
 -- ---- keys held, and claims that fit
 
@@ -104,6 +104,19 @@ pub mem-allTell : (t : List Claim) → ((c : Claim) → List·Memᴰ c t → que
 mem-allTell [] f = refl
 mem-allTell (d ∷ ds) f =
     and-both (question16 d .yes) (allTell ds) (f d (List·Memᴰ·head refl)) (mem-allTell ds (λ c m. f c (List·Memᴰ·tail m)))
+
+-- those that do are claims of the table, no more of them, and in its order; one claim more
+pub telling-mem : (t : List Claim) (c : Claim) → List·Memᴰ c (telling t) → List·Memᴰ c t × (question16 c .yes ≡ true)
+telling-mem = those-mem (λ (c : Claim). question16 c .yes)
+
+pub length-telling : (t : List Claim) → length (telling t) ≤ length t
+length-telling = length-those (λ (c : Claim). question16 c .yes)
+
+climbs-telling : (t : List Claim) → climbs t ≡ true → climbs (telling t) ≡ true
+climbs-telling = climbs-those (λ (c : Claim). question16 c .yes)
+
+pub telling-snoc : (t : List Claim) (c : Claim) → telling (t ++ (c ∷ [])) ≡ telling t ++ cond (question16 c .yes) (c ∷ []) []
+telling-snoc = those-snoc (λ (c : Claim). question16 c .yes)
 
 -- where all pass it, none is left out
 pub telling-all : (t : List Claim) → allTell t ≡ true → telling t ≡ t
@@ -277,14 +290,13 @@ nodeOf-same n k p o =
 pub ordered-telling : (l : List ℕ) (t : List Claim) → Saved (nodeOf l t) → Ordered (nodeOf l (telling t))
 unfolding nodeOf storeOf
 ordered-telling l t o =
-    let tells : Claim → Bool = λ c. question16 c .yes in
     let front : take (length t) (t ++ blanks (tableLimit - length t)) ≡ t = take-append-seam t (blanks (tableLimit - length t)) in
     let keys : keysOf (storeOf l) ≡ l = keysOf-storeOf l in
     let rise : Rising l = subst Rising keys (inOrder-rising (storeOf l) (o .store)) in
     let many : length t ≤ tableLimit = o .count in
-    ordered-nodeOf l (telling t) rise (inOrder-count (storeOf l) (o .store)) (omega (arith, length-those tells t)) (climbs-those tells t (rw front at (o .table)))
+    ordered-nodeOf l (telling t) rise (inOrder-count (storeOf l) (o .store)) (omega (arith, length-telling t)) (climbs-telling t (rw front at (o .table)))
     (λ c m.
-    let (there, told) = those-mem tells t c m in
+    let (there, told) = telling-mem t c m in
     fits-told c l (rw (front, keys) at (o .fit) c there) told)
 
 -- ---- the empty node

@@ -138,7 +138,7 @@ readImage bs =
     (record { number = 0; node = nodeFrom (used (parse bs)) })
     noImage
 
--- the bytes of an image without the claims that are left out
+-- the bytes of an image without the claims that are left out: "Such an image is written back without it" (document 02, slip 2)
 abbrev pub usedBytes : List ℕ → List ℕ
 usedBytes bs = imageBytes (used (parse bs) .keys) (used (parse bs) .pending)
 

@@ -6,7 +6,7 @@
 --   Frame   frames, read and written
 --   Image   images, read and written
 --   Sizes   what an image's counts tell, as the code hands it on
---   Cases   worked examples, as one table
+--   Cases   worked examples, as two tables
 --   Lent    calls between our own crates, on lent keys, and no rule of document 01
 pub mod Number
 pub mod Claim
