@@ -1,6 +1,7 @@
 //! The calls of this checkout against those of another, in one process:
 //! `cargo run --release -p bench -- against FOLDER`. In both `rt staticlib
-//! host` and `rt staticlib rehearsal` have been run.
+//! host` and `rt staticlib rehearsal` have been run, and `rt staticlib
+//! searches` where that crate is there: an early checkout has none.
 //!
 //! Where code happens to stand in memory moves a time by some hundredths. So
 //! each archive is loaded at four places, and the runs at all of them count.
@@ -14,8 +15,9 @@ use std::path::Path;
 
 use crate::cases::{self, Buffers, Case};
 use crate::deliveries::{self, COUNTS, COUNTS_RULE, Deliveries};
-use crate::library::{Host, PLACES, TimedRound, own};
+use crate::library::{Host, PLACES, Search, TimedRound, own};
 use crate::round;
+use crate::search;
 use crate::timing::{Compared, compare, compare_beyond};
 use crate::{RULE, TABLE, differences};
 
@@ -51,6 +53,10 @@ fn loaded<T>(before: &Path, of: fn(&Path, usize) -> io::Result<T>) -> io::Result
 }
 
 pub fn print(before: &Path) -> io::Result<()> {
+    match loaded(before, Search::of) {
+        Ok(searches) => print_searches(&searches),
+        Err(why) => println!("The search is not timed: {why}.\n"),
+    }
     print_host(&loaded(before, Host::of)?);
     let rounds = loaded(before, TimedRound::of)?;
     print_rounds(&rounds);
@@ -92,6 +98,20 @@ fn in_turns(cases: &[Case], (_, call): Called, hosts: Two<Host>) -> Compared {
         }
     });
     compare(cases.len(), now, before)
+}
+
+/// A call of one search, among many that don't wait for each other.
+fn print_searches(places: &[Two<Search>]) {
+    println!("| Keys | Sought | {CELLS} | other places |");
+    println!("|---:|---|{RULE}|{UNLIKE_RULE}|");
+    for (row, sought) in search::rows() {
+        let [now, before] = places[0].map(|program| row.told(sought, program));
+        let cases: Vec<_> = now.iter().zip(&before).collect();
+        let unlike = unlike(&cases, |case| *case.0, |case| *case.1);
+        let times = at_all_places(places, |[now, before]| row.compared(sought, now, before));
+        println!("| {} | {sought} | {times:.1} | {unlike} |", row.length());
+    }
+    println!();
 }
 
 fn print_host(places: &[Two<Host>]) {

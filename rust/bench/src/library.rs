@@ -77,6 +77,12 @@ impl Library {
         let found = unsafe { c::dlsym(self.handle, name.as_ptr()) };
         (!found.is_null()).then_some(found)
     }
+
+    /// The same of one that every archive of this kind has.
+    fn needed(&self, name: &str) -> io::Result<*mut c_void> {
+        let found = self.find(name);
+        found.ok_or_else(|| io::Error::other(format!("no call {name}")))
+    }
 }
 
 type TakeFrame = unsafe extern "C" fn(*const u8, usize, *const u8, usize, *mut u8, usize) -> i64;
@@ -84,6 +90,8 @@ type Beat = unsafe extern "C" fn(*const u8, usize, *mut u8, usize, *mut u8, usiz
 type Enter = unsafe extern "C" fn(*const u8, usize, u64, *mut u8, usize) -> i64;
 type Count = unsafe extern "C" fn(*const u8, usize) -> i64;
 type Round = unsafe extern "C" fn(*const u8, usize, *mut u64, usize) -> usize;
+type PlaceIn = unsafe extern "C" fn(*const u64, usize, usize, u64) -> usize;
+type PlacesIn = unsafe extern "C" fn(*const u64, usize, usize, u64, u64, *mut usize, usize) -> bool;
 
 /// Host calls of one checkout; an early one has not all of them.
 #[derive(Clone, Copy)]
@@ -97,12 +105,8 @@ pub struct Host {
 impl Host {
     pub fn of(checkout: &Path, up: usize) -> io::Result<Host> {
         let host = Library::of(checkout, "host", up)?;
-        let needed = |name| {
-            host.find(name)
-                .ok_or_else(|| io::Error::other(format!("no call {name}")))
-        };
-        let take_frame = needed("minutefrost_take_frame")?;
-        let beat = needed("minutefrost_beat")?;
+        let take_frame = host.needed("minutefrost_take_frame")?;
+        let beat = host.needed("minutefrost_beat")?;
         let (enter, count) = (
             host.find("minutefrost_enter"),
             host.find("minutefrost_count"),
@@ -183,8 +187,7 @@ pub struct TimedRound {
 impl TimedRound {
     pub fn of(checkout: &Path, up: usize) -> io::Result<TimedRound> {
         let rehearsal = Library::of(checkout, "rehearsal", up)?;
-        let round = rehearsal.find("minutefrost_timed_round");
-        let round = round.ok_or_else(|| io::Error::other("no call minutefrost_timed_round"))?;
+        let round = rehearsal.needed("minutefrost_timed_round")?;
         // SAFETY: this is the call's type.
         let round = unsafe { std::mem::transmute::<*mut c_void, Round>(round) };
         Ok(TimedRound { round })
@@ -199,6 +202,58 @@ impl TimedRound {
                 images.len(),
                 words.as_mut_ptr(),
                 words.len(),
+            )
+        }
+    }
+}
+
+/// The search of a run of keys, by one checkout.
+#[derive(Clone, Copy)]
+pub struct Search {
+    place_in: PlaceIn,
+    places_in: PlacesIn,
+}
+
+impl Search {
+    pub fn of(checkout: &Path, up: usize) -> io::Result<Search> {
+        let searches = Library::of(checkout, "searches", up)?;
+        let place_in = searches.needed("minutefrost_place_in")?;
+        let places_in = searches.needed("minutefrost_places_in")?;
+        // SAFETY: these are the calls' types.
+        unsafe {
+            Ok(Search {
+                place_in: std::mem::transmute::<*mut c_void, PlaceIn>(place_in),
+                places_in: std::mem::transmute::<*mut c_void, PlacesIn>(places_in),
+            })
+        }
+    }
+
+    /// The place of a key as one number: twice the position, and one more
+    /// where the key is held.
+    pub fn place_in(&self, keys: &[u64], count: usize, key: u64) -> usize {
+        // SAFETY: as above.
+        unsafe { (self.place_in)(keys.as_ptr(), keys.len(), count, key) }
+    }
+
+    /// Two of them, in the first two that are lent; whether so many are.
+    pub fn places_in(
+        &self,
+        keys: &[u64],
+        count: usize,
+        lo: u64,
+        hi: u64,
+        told: &mut [usize],
+    ) -> bool {
+        // SAFETY: as above.
+        unsafe {
+            (self.places_in)(
+                keys.as_ptr(),
+                keys.len(),
+                count,
+                lo,
+                hi,
+                told.as_mut_ptr(),
+                told.len(),
             )
         }
     }

@@ -11,6 +11,7 @@ mod deliveries;
 mod library;
 mod machine;
 mod round;
+mod search;
 mod timing;
 
 use std::hint::black_box;
@@ -67,6 +68,7 @@ fn print_report() {
     print_full();
     print_calls();
     print_growth();
+    search::print_searches();
     round::print_rounds();
 }
 

@@ -42,6 +42,13 @@ impl Compared {
         })
     }
 
+    /// The same of one part of the work, where it had so many alike.
+    pub fn each_of(mut self, parts: usize) -> Compared {
+        let times = self.runs.iter_mut().flatten();
+        times.for_each(|time| *time /= parts as f64);
+        self
+    }
+
     /// The runs of both measurements.
     pub fn with(mut self, other: Compared) -> Compared {
         self.runs.extend(other.runs);
@@ -49,14 +56,16 @@ impl Compared {
     }
 }
 
-/// The cells of a row: both times, the ratio and its spread.
+/// The cells of a row: both times, with as many decimals as are asked for, the
+/// ratio and its spread.
 impl fmt::Display for Compared {
     fn fmt(&self, out: &mut fmt::Formatter<'_>) -> fmt::Result {
         let (time, base, (low, high)) = (self.time(), self.base(), self.spread());
         let ratio = time / base;
+        let decimals = out.precision().unwrap_or(0);
         write!(
             out,
-            "{time:.0} | {base:.0} | **{ratio:.2}** | {low:.2} to {high:.2}"
+            "{time:.decimals$} | {base:.decimals$} | **{ratio:.2}** | {low:.2} to {high:.2}"
         )
     }
 }
