@@ -1,9 +1,7 @@
 -- The leaves of src/leaf.rt. Of the loops `rising` and `all_zero`, in which what is left of a run computes the answer: how a turn goes on, and what the answer
--- is where it stops. Of `step` and `halved`: each way that they go. Not here: the loops that quarter and put in, each by the laws of its definition
--- (QuarteringLaws, PuttingLaws).
--- Assumes nothing.
-use mathlib.Core.Path.{_≡_, refl, sym, _∙_, ap}
-use mathlib.Core.Bool.{Bool, true, false, cond, _&&_, and-true, and-assoc}
+-- is where it stops. Not here: the loops that put in, by the laws of their definition (PuttingLaws). Assumes nothing.
+use mathlib.Core.Path.{_≡_, refl, _∙_}
+use mathlib.Core.Bool.{true, false, _&&_, and-true, and-assoc}
 use mathlib.Core.Logic.{⊎-elim}
 use mathlib.Core.List.{List, [], _∷_}
 use Prim.Native.Nat.{ℕ, suc, _+_, _≤_, _<_}
@@ -11,13 +9,11 @@ use native.Mathlib.Numerals.{add-one}
 use native.Mathlib.Omega.{arith}
 use borrow.Author.Tests.{lt-ltb, le-ltb, ne-eqb}
 use lib.Bits.{bitOr, or-zero-l, or-add-and, and-le-r}
-use lib.Dec.{leb, eqb}
+use lib.Dec.{eqb}
 use lib.ListN.{length, drop, getD, drop-of-length-le}
 use lib.Seq.{drop-cons}
 use Rattle.keys.specs.Store.{rising, risesFrom, allZero}
-use Rattle.keys.specs.Lent.{halved}
 use Rattle.keys.proofs.Tests.{eq-or-ne}
-use Rattle.keys.proofs.HalvingLaws.{halved-one, halved-two, halved-three}
 
 -- `rising`: the keys rise if those from i on rise from above the last one
 
@@ -54,28 +50,3 @@ module _ (l : List ℕ) (bits i : ℕ) (e : allZero l ≡ (eqb bits 0 && allZero
 
   pub zero-all : length l ≤ i → eqb bits 0 ≡ allZero l
   zero-all h = rw (e, drop-of-length-le l, and-true)
-
--- `step`: the bit says whether the second of two keys is found
-
-pub step-on : (keys : List ℕ) (key at up : ℕ) → up ≡ cond (leb (getD keys (at + 1) 0) key) 1 0
-    → (at + up ≡ halved 2 keys key at 2) × (at + up ≤ at + 1)
-step-on keys key at up e = rw (e, halved-two keys key at) (go (leb (getD keys (at + 1) 0) key))
-  where
-    go : (t : Bool) → (at + cond t 1 0 ≡ cond t (at + 1) at) × (at + cond t 1 0 ≤ at + 1)
-    go true = (refl, omega arith)
-    go false = (omega arith, omega arith)
-
--- `halved`: of one key, of two, of three
-
-module _ (keys : List ℕ) (key first count : ℕ) where
-  pub halve-one : count < 2 → first ≡ halved count keys key first count
-  halve-one h = sym (halved-one keys key count first count (omega arith))
-
-  pub halve-two : 2 ≤ count → count < 3 → (r : ℕ) → r ≡ halved 2 keys key first 2 → r ≡ halved count keys key first count
-  halve-two g h r e = let two : count ≡ 2 = omega arith in rw two e
-
-  pub halve-three : 3 ≤ count → count < 4 → (second r : ℕ) → second ≡ halved 2 keys key first 2 → r ≡ halved 2 keys key second 2
-      → r ≡ halved count keys key first count
-  halve-three g h second r e f =
-      let three : count ≡ 3 = omega arith in
-      rw three (f ∙ (ap (λ (b : ℕ). halved 2 keys key b 2) e ∙ sym (halved-three keys key first)))

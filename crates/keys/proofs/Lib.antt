@@ -12,6 +12,7 @@
 --   LentLaws        what the calls on a lent run mean, above all where the run is a store in order (specs/Lent)
 -- The laws of the code, cited by its proofs alone.
 --   LeafPaths       src/leaf.rt
+--   SearchPaths     src/search.rt
 --   LentPaths       src/lent.rt
 pub mod Tests
 pub mod PlaceLaws
@@ -25,4 +26,5 @@ mod FindingLaws
 pub mod PuttingLaws
 pub mod LentLaws
 mod LeafPaths
+mod SearchPaths
 mod LentPaths

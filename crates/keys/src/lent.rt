@@ -3,8 +3,8 @@
 use crate::leaf::all_zero;
 use crate::leaf::put;
 use crate::leaf::put_both;
-use crate::leaf::quartered;
 use crate::leaf::rising;
+use crate::search::quartered;
 use crate::store::Store;
 ghost use mathlib.Core.Path.{_≡_};
 ghost use Prim.Native.Nat.{_+_, _≤_};

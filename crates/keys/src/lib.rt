@@ -3,6 +3,7 @@
 mod count;
 mod leaf;
 mod lent;
+mod search;
 mod store;
 
 pub use count::capped;

@@ -1,8 +1,8 @@
--- `keys::leaf::halved` meets its contract. Assumes nothing.
+-- `keys::search::halved` meets its contract. Assumes nothing.
 use borrow.Author.Needs.{needs}
-use Rattle.keys.proofs.LeafPaths.{halve-one, halve-two, halve-three}
-use Rattle.keys.proofs.leaf.halved.Statement.{statement}
-use Rattle.keys.proofs.leaf.halved.Tie as tie
+use Rattle.keys.proofs.SearchPaths.{halve-one, halve-two, halve-three}
+use Rattle.keys.proofs.search.halved.Statement.{statement}
+use Rattle.keys.proofs.search.halved.Tie as tie
 
 returns : tie.Need-returns
 returns c = search halve-one

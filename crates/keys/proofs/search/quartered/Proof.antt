@@ -1,4 +1,4 @@
--- `keys::leaf::quartered` meets its contract. The invariant: quartering what is left gives what quartering all of it gives. Assumes nothing.
+-- `keys::search::quartered` meets its contract. The invariant: quartering what is left gives what quartering all of it gives. Assumes nothing.
 use mathlib.Core.Path.{_≡_, refl, sym, _∙_}
 use Prim.Native.Nat.{_≤_, _<_, _+_, _*_, _/_}
 use native.Mathlib.Omega.{arith}
@@ -6,8 +6,8 @@ use borrow.Author.Needs.{needs}
 use denote.Ref.{now}
 use Rattle.keys.specs.Lent.{quartered}
 use Rattle.keys.proofs.QuarteringLaws.{quarters-le, quartered-few, quartered-turn}
-use Rattle.keys.proofs.leaf.quartered.Statement.{statement}
-use Rattle.keys.proofs.leaf.quartered.Tie as tie
+use Rattle.keys.proofs.search.quartered.Statement.{statement}
+use Rattle.keys.proofs.search.quartered.Tie as tie
 
 abbrev Inv-loop : tie.InvT-loop
 Inv-loop keys count key base₀ size₀ base size =

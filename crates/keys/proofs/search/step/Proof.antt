@@ -1,8 +1,8 @@
--- `keys::leaf::step` meets its contract. Assumes nothing.
+-- `keys::search::step` meets its contract. Assumes nothing.
 use borrow.Author.Needs.{needs}
-use Rattle.keys.proofs.LeafPaths.{step-on}
-use Rattle.keys.proofs.leaf.step.Statement.{statement}
-use Rattle.keys.proofs.leaf.step.Tie as tie
+use Rattle.keys.proofs.SearchPaths.{step-on}
+use Rattle.keys.proofs.search.step.Statement.{statement}
+use Rattle.keys.proofs.search.step.Tie as tie
 
 add-next : tie.Need-add-next
 add-next c = search needs
