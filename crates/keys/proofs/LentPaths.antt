@@ -13,7 +13,7 @@ use lib.Seq.{take-all}
 use Rattle.keys.specs.declared.lent.Added.{Added}
 use Rattle.keys.specs.declared.lent.Place.{Place}
 use Rattle.keys.specs.Store.{limit, rising, allZero}
-use Rattle.keys.specs.Lent.{orderedIn, quartered, placeIn, insertedAt, lacking, putIn, putTwo}
+use Rattle.keys.specs.Lent.{orderedIn, quartered, placeAt, placeIn, insertedAt, lacking, putIn, putTwo}
 use Rattle.keys.specs.Lent.{storeWith, Grown, grownWith, grown, noRoom, addTwo, addIn, addBothIn}
 use Rattle.keys.proofs.QuarteringLaws.{quartered-lt}
 use Rattle.keys.proofs.LentLaws.{lacking-le, placeIn-le}
@@ -41,7 +41,16 @@ module _ (keys : List ℕ) (count : ℕ) where
         take-all (length keys - count) (drop count keys) (omega (arith, length-drop count keys)) in
         looked ∙ rw (le-leb count limit few, le-leb count (length keys) long, ← told, not-false rises e, all)
 
--- `place_in`
+-- `place_at`
+
+module _ (at found key : ℕ) where
+  pub place-after : found < key → record { at = at + 1; held = false } ≡ placeAt at found key
+  place-after h = rw (lt-ltb found key h)
+
+  pub place-here : key ≤ found → record { at = at; held = eqb found key } ≡ placeAt at found key
+  place-here h = rw (le-ltb found key h)
+
+-- `place_in`, `places_in`
 
 abbrev pub nowhere : Place
 nowhere = record { at = 0; held = false }
@@ -55,17 +64,13 @@ module _ (keys : List ℕ) (count key : ℕ) where
   unfolding placeIn
   place-short f h = rw (lt-ltb 0 count (omega arith), lt-leb count (length keys) h)
 
-  module _ (some : count ≡ 0 → ⊥) (fits : count ≤ length keys) (at : ℕ) (found : at ≡ quartered count keys key 0 count) where
-    pub place-lt : at < count
-    place-lt = omega (arith, quartered-lt count keys key 0 count (omega arith))
+  module _ (some : 0 < count) (fits : count ≤ length keys) (at : ℕ) (found : at ≡ quartered count keys key 0 count) where
+    pub place-lt : at < length keys
+    place-lt = omega (arith, quartered-lt count keys key 0 count some)
 
-    pub place-after : getD keys at 0 < key → record { at = at + 1; held = false } ≡ placeIn keys count key
+    pub place-found : (p : Place) → p ≡ placeAt at (getD keys at 0) key → p ≡ placeIn keys count key
     unfolding placeIn
-    place-after h = rw (lt-ltb 0 count (omega arith), le-leb count (length keys) fits, ← found, lt-ltb (getD keys at 0) key h)
-
-    pub place-at : key ≤ getD keys at 0 → record { at = at; held = eqb (getD keys at 0) key } ≡ placeIn keys count key
-    unfolding placeIn
-    place-at h = rw (lt-ltb 0 count (omega arith), le-leb count (length keys) fits, ← found, le-ltb (getD keys at 0) key h)
+    place-found p e = rw (lt-ltb 0 count some, le-leb count (length keys) fits, ← found) e
 
 -- what the next call asks of a place
 pub place-le : (keys : List ℕ) (count key : ℕ) (p : Place) → p ≡ placeIn keys count key → p .at ≤ count

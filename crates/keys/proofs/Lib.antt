@@ -7,6 +7,7 @@
 --   Position        the position of a key
 --   StoreLaws       a store in order (specs/Store)
 --   HalvingLaws, QuarteringLaws    the two searches of specs/Lent: of one to three keys; a turn, the fuel
+--   PartingLaws     what they find in a part of the run
 --   FindingLaws     what they find among rising keys
 --   PuttingLaws     putting an element in at a place
 --   LentLaws        what the calls on a lent run mean, above all where the run is a store in order (specs/Lent)
@@ -22,6 +23,7 @@ pub mod Position
 pub mod StoreLaws
 mod HalvingLaws
 mod QuarteringLaws
+mod PartingLaws
 mod FindingLaws
 pub mod PuttingLaws
 pub mod LentLaws

@@ -4,18 +4,32 @@ use crate::leaf::all_zero;
 use crate::leaf::put;
 use crate::leaf::put_both;
 use crate::leaf::rising;
+use crate::search::NEAR;
+use crate::search::both_quartered;
+use crate::search::far_both;
 use crate::search::quartered;
 use crate::store::Store;
 ghost use mathlib.Core.Path.{_≡_};
-ghost use Prim.Native.Nat.{_+_, _≤_};
-ghost use lib.ListN.{length};
+ghost use Prim.Native.Nat.{_+_, _≤_, _<_};
+ghost use lib.ListN.{length, getD};
 ghost use Rattle.keys.specs.Store.{limit};
-ghost use Rattle.keys.specs.Lent.{orderedIn, placeIn, lacking, putIn, putTwo, storeWith, grownWith, noRoom, addTwo, addIn, addBothIn};
+ghost use Rattle.keys.specs.Lent.{orderedIn, placeAt, placeIn, lacking, putIn, putTwo, storeWith, grownWith, noRoom, addTwo, addIn, addBothIn};
 
 // Where a key stands, or would stand.
 pub struct Place {
     pub at: usize,
     pub held: bool,
+}
+
+impl Place {
+    // Where nothing is searched.
+    const NONE: Place = Place { at: 0, held: false };
+}
+
+// The places of two keys in one run.
+pub struct Places {
+    pub lower: Place,
+    pub upper: Place,
 }
 
 // Keys added: the count then, and where the lesser and the greater one stand; or that they do not fit, and the count as it was.
@@ -41,16 +55,11 @@ pub fn ordered_in(keys: &[u64], count: usize) -> bool
     all_zero(&keys[count..])
 }
 
-pub fn place_in(keys: &[u64], count: usize, key: u64) -> Place
-    ensures { λ r. ⌜ r ≡ placeIn (now (keys .entry)) count key ⌝ }
+// The place of a key, from the position that was found for it.
+fn place_at(keys: &[u64], at: usize, key: u64) -> Place
+    requires { ⌜ at < length (now keys) ⌝ }
+    ensures { λ r. ⌜ r ≡ placeAt at (getD (now (keys .entry)) at 0) key ⌝ }
 {
-    if count == 0 {
-        return Place { at: 0, held: false };
-    }
-    if keys.len() < count {
-        return Place { at: 0, held: false };
-    }
-    let at = quartered(keys, count, key);
     let found = keys[at];
     if found < key {
         let next = at + 1;
@@ -63,6 +72,55 @@ pub fn place_in(keys: &[u64], count: usize, key: u64) -> Place
             at,
             held: found == key,
         }
+    }
+}
+
+// The places of two keys in any run, also where nothing is searched and where there are more keys than 16-bit positions are enough for.
+fn far_places(keys: &[u64], count: usize, lo: u64, hi: u64) -> Places
+    ensures { λ r. ⌜ (r .lower ≡ placeIn (now (keys .entry)) count lo) × (r .upper ≡ placeIn (now (keys .entry)) count hi) ⌝ }
+{
+    if count == 0 {
+        return Places {
+            lower: Place::NONE,
+            upper: Place::NONE,
+        };
+    }
+    if keys.len() < count {
+        return Places {
+            lower: Place::NONE,
+            upper: Place::NONE,
+        };
+    }
+    let found = far_both(keys, count, lo, hi);
+    Places {
+        lower: place_at(keys, found.lower, lo),
+        upper: place_at(keys, found.upper, hi),
+    }
+}
+
+// Of a run as a store has it: the rest is left to `far_places`, to which the run is lent anew, so that the usual way keeps it in registers.
+pub fn place_in(keys: &[u64], count: usize, key: u64) -> Place
+    ensures { λ r. ⌜ r ≡ placeIn (now (keys .entry)) count key ⌝ }
+{
+    if count == 0 || NEAR < count || keys.len() < count {
+        let places = far_places(&keys[..], count, key, key);
+        return places.lower;
+    }
+    let at = quartered(keys, count as u16, key);
+    place_at(keys, at as usize, key)
+}
+
+// The places of two keys, found side by side; otherwise as above.
+pub fn places_in(keys: &[u64], count: usize, lo: u64, hi: u64) -> Places
+    ensures { λ r. ⌜ (r .lower ≡ placeIn (now (keys .entry)) count lo) × (r .upper ≡ placeIn (now (keys .entry)) count hi) ⌝ }
+{
+    if count == 0 || NEAR < count || keys.len() < count {
+        return far_places(&keys[..], count, lo, hi);
+    }
+    let found = both_quartered(keys, keys, count as u16, lo, hi);
+    Places {
+        lower: place_at(keys, found.lower as usize, lo),
+        upper: place_at(keys, found.upper as usize, hi),
     }
 }
 
@@ -176,7 +234,6 @@ pub fn add_both_in(keys: &mut [u64; Store::LIMIT], count: usize, lo: u64, hi: u6
     if lo == hi {
         return add_in(keys, count, lo);
     }
-    let lower = place_in(&keys[..], count, lo);
-    let upper = place_in(&keys[..], count, hi);
-    add_two(keys, lower, upper, count, lo, hi)
+    let places = places_in(&keys[..], count, lo, hi);
+    add_two(keys, places.lower, places.upper, count, lo, hi)
 }

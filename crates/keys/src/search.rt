@@ -1,67 +1,180 @@
-// The search for a key's position among the first keys of a lent run (specs/Lent, `quartered`).
+// The search for a key's position among the first keys of a lent run (specs/Lent, `quartered`). It "works inside with 16-bit positions, however it is done
+// now, and widens one only to index a place or to answer" (document 02, slip 3). A run may have more keys than 16 bits count, though no store has: then the
+// first turns narrow it to a part in which they are enough (`near`).
 ghost use mathlib.Core.Path.{_≡_};
 ghost use mathlib.Core.Bool.{cond};
-ghost use Prim.Native.Nat.{_≤_, _<_, _+_};
-ghost use lib.ListN.{length};
+ghost use Prim.Native.Nat.{_≤_, _<_, _+_, _*_, _^_};
+ghost use lib.ListN.{length, drop};
 ghost use Rattle.keys.specs.Lent.{halved, quarterOf, quartered};
 
+// The most keys that 16-bit positions are enough for.
+pub(crate) const NEAR: usize = 65535;
+
 // 1 for yes and 0 for no.
-fn bit(yes: bool) -> usize
+fn bit(yes: bool) -> u16
     ensures { λ r. ⌜ (r ≡ cond yes 1 0) × (r ≤ 1) ⌝ }
 {
-    yes as usize
+    yes as u16
 }
 
 // One place further where the key there is at most `key`. By a sum, which stays one: the compiler turns an `if` into a branch, and no processor can foresee
 // which way a search goes.
-fn step(keys: &[u64], at: usize, key: u64) -> usize
-    requires { ⌜ at + 1 < length (now keys) ⌝ }
-    ensures { λ r. ⌜ (r ≡ halved 2 (now (keys .entry)) key at 2) × (r ≤ at + 1) ⌝ }
+fn step(part: &[u64], at: u16, key: u64) -> u16
+    requires { ⌜ (at + 1 < length (now part)) × (at + 1 < 2 ^ 16) ⌝ }
+    ensures { λ r. ⌜ (r ≡ halved 2 (now (part .entry)) key at 2) × (r ≤ at + 1) ⌝ }
 {
     let next = at + 1;
-    at + bit(keys[next] <= key)
+    at + bit(part[next as usize] <= key)
 }
 
-// The last of the `count` keys from `first` on that is at most `key`, if they rise; the first one if none is. They are at most three, and half of two or
-// three is one.
-fn halved(keys: &[u64], first: usize, count: usize, key: u64) -> usize
-    requires { ⌜ (0 < count) × (count < 4) × (first + count ≤ length (now keys)) ⌝ }
-    ensures { λ r. ⌜ r ≡ halved count (now (keys .entry)) key first count ⌝ }
+// The last of the first `count` keys that is at most `key`, if they rise; the first one if none is. They are at most three, and half of two or three is one.
+fn halved(part: &[u64], count: u16, key: u64) -> u16
+    requires { ⌜ (0 < count) × (count < 4) × (count ≤ length (now part)) ⌝ }
+    ensures { λ r. ⌜ r ≡ halved count (now (part .entry)) key 0 count ⌝ }
 {
     if count < 2 {
-        return first;
+        return 0;
     }
-    let second = step(keys, first, key);
+    let second = step(part, 0, key);
     if count < 3 {
         return second;
     }
-    step(keys, second, key)
+    step(part, second, key)
 }
 
-// Which of four quarters is kept, of `width` keys each from `base` on: as many of the last three as begin with a key that is at most `key`.
-fn quarter_of(keys: &[u64], base: usize, width: usize, key: u64) -> usize
-    requires { ⌜ base + width + width + width < length (now keys) ⌝ }
-    ensures { λ r. ⌜ (r ≡ quarterOf (now (keys .entry)) key base width) × (r ≤ 3) ⌝ }
+// How many keys stand before the quarter that is kept, of four of `width` keys each: as many of the last three are passed as begin with a key that is at
+// most `key`. The product stays one, since `up` is no bit.
+fn passed(part: &[u64], width: u16, key: u64) -> u16
+    requires { ⌜ (3 * width < length (now part)) × (3 * width < 2 ^ 16) ⌝ }
+    ensures { λ r. ⌜ (r ≡ width * quarterOf (now (part .entry)) key 0 width) × (r ≤ 3 * width) ⌝ }
 {
-    let second = base + width;
-    let third = second + width;
+    let third = width + width;
     let fourth = third + width;
-    bit(keys[second] <= key) + bit(keys[third] <= key) + bit(keys[fourth] <= key)
+    let up = bit(part[width as usize] <= key)
+        + bit(part[third as usize] <= key)
+        + bit(part[fourth as usize] <= key);
+    width * up
 }
 
 // The last of the first `count` keys that is at most `key`, if they rise; the first one if none is. Four ways at a time: the three keys of a turn are
-// read without waiting for each other, so there are half as many turns that wait as by halving alone. The product stays one, since `up` is no bit.
-pub(crate) fn quartered(keys: &[u64], count: usize, key: u64) -> usize
+// read without waiting for each other, so there are half as many turns that wait as by halving alone.
+pub(crate) fn quartered(keys: &[u64], count: u16, key: u64) -> u16
     requires { ⌜ (0 < count) × (count ≤ length (now keys)) ⌝ }
     ensures { λ r. ⌜ r ≡ quartered count (now (keys .entry)) key 0 count ⌝ }
 {
-    let mut base = 0;
+    let mut part = &keys[..];
+    let mut at = 0;
     let mut size = count;
     while 3 < size {
         let width = size / 4;
-        let up = quarter_of(keys, base, width, key);
-        base += width * up;
+        let more = passed(part, width, key);
+        part = &part[more as usize..];
+        at += more;
         size -= 3 * width;
     }
-    halved(keys, base, size, key)
+    at + halved(part, size, key)
+}
+
+// Two positions.
+pub(crate) struct Pair {
+    pub(crate) lower: u16,
+    pub(crate) upper: u16,
+}
+
+// The same of two keys, each in a run of its own: one loop, since what is left has as many keys for one as for the other, and neither search waits for the
+// other.
+pub(crate) fn both_quartered<'a>(
+    lows: &'a [u64],
+    highs: &'a [u64],
+    count: u16,
+    lo: u64,
+    hi: u64,
+) -> Pair
+    requires { ⌜ (0 < count) × (count ≤ length (now lows)) × (count ≤ length (now highs)) ⌝ }
+    ensures { λ r. ⌜ (r .lower ≡ quartered count (now (lows .entry)) lo 0 count) × (r .upper ≡ quartered count (now (highs .entry)) hi 0 count) ⌝ }
+{
+    let mut low = &lows[..];
+    let mut high = &highs[..];
+    let mut lower = 0;
+    let mut upper = 0;
+    let mut size = count;
+    while 3 < size {
+        let width = size / 4;
+        let below = passed(low, width, lo);
+        let above = passed(high, width, hi);
+        low = &low[below as usize..];
+        high = &high[above as usize..];
+        lower += below;
+        upper += above;
+        size -= 3 * width;
+    }
+    let first = lower + halved(low, size, lo);
+    let last = upper + halved(high, size, hi);
+    Pair {
+        lower: first,
+        upper: last,
+    }
+}
+
+// As `passed` says, of a part that 16-bit positions are not enough for.
+fn far_passed(part: &[u64], width: usize, key: u64) -> usize
+    requires { ⌜ 3 * width < length (now part) ⌝ }
+    ensures { λ r. ⌜ (r ≡ width * quarterOf (now (part .entry)) key 0 width) × (r ≤ 3 * width) ⌝ }
+{
+    let third = width + width;
+    let fourth = third + width;
+    let up = bit(part[width] <= key) + bit(part[third] <= key) + bit(part[fourth] <= key);
+    width * up as usize
+}
+
+// Where two parts of a run begin, and how many keys either has.
+struct Parts {
+    lower: usize,
+    upper: usize,
+    size: usize,
+}
+
+// The parts that quartering comes to, for each of two keys, once 16-bit positions are enough.
+fn near(keys: &[u64], count: usize, lo: u64, hi: u64) -> Parts
+    requires { ⌜ (0 < count) × (count ≤ length (now keys)) ⌝ }
+    ensures { λ r. ⌜ (0 < r .size) × (r .size < 2 ^ 16) × (r .lower + r .size ≤ count) × (r .upper + r .size ≤ count)
+        × (quartered count (now (keys .entry)) lo 0 count ≡ r .lower + quartered (r .size) (drop (r .lower) (now (keys .entry))) lo 0 (r .size))
+        × (quartered count (now (keys .entry)) hi 0 count ≡ r .upper + quartered (r .size) (drop (r .upper) (now (keys .entry))) hi 0 (r .size)) ⌝ }
+{
+    let mut low = &keys[..];
+    let mut high = &keys[..];
+    let mut lower = 0;
+    let mut upper = 0;
+    let mut size = count;
+    while NEAR < size {
+        let width = size / 4;
+        let below = far_passed(low, width, lo);
+        let above = far_passed(high, width, hi);
+        low = &low[below..];
+        high = &high[above..];
+        lower += below;
+        upper += above;
+        size -= 3 * width;
+    }
+    Parts { lower, upper, size }
+}
+
+// Two positions in a run of any length.
+pub(crate) struct Found {
+    pub(crate) lower: usize,
+    pub(crate) upper: usize,
+}
+
+// The last keys that are at most `lo` and at most `hi`, as above, in a run of any length.
+pub(crate) fn far_both(keys: &[u64], count: usize, lo: u64, hi: u64) -> Found
+    requires { ⌜ (0 < count) × (count ≤ length (now keys)) ⌝ }
+    ensures { λ r. ⌜ (r .lower ≡ quartered count (now (keys .entry)) lo 0 count) × (r .upper ≡ quartered count (now (keys .entry)) hi 0 count) ⌝ }
+{
+    let parts = near(keys, count, lo, hi);
+    let first = parts.lower;
+    let last = parts.upper;
+    let found = both_quartered(&keys[first..], &keys[last..], parts.size as u16, lo, hi);
+    let lower = first + found.lower as usize;
+    let upper = last + found.upper as usize;
+    Found { lower, upper }
 }

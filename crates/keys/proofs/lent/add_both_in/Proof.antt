@@ -10,11 +10,8 @@ add-in-requires c κs = search needs
 returns : tie.Need-returns
 returns c = search both-one
 
-place-in-requires : tie.Need-place-in-requires
-place-in-requires c κs = search needs
-
-place-in-requires-2 : tie.Need-place-in-requires-2
-place-in-requires-2 c κs = search needs
+places-in-requires : tie.Need-places-in-requires
+places-in-requires c κs = search needs
 
 add-two-requires : tie.Need-add-two-requires
 add-two-requires c κs = search place-le
@@ -28,7 +25,6 @@ add-both-in-spec =
     (tie.spec
     add-in-requires
     returns
-    place-in-requires
-    place-in-requires-2
+    places-in-requires
     add-two-requires
     returns-2)

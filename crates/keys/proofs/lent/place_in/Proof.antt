@@ -1,51 +1,49 @@
 -- `keys::lent::place_in` meets its contract. Assumes nothing.
-use Prim.Native.Nat.{_<_}
+use Prim.Native.Nat.{_<_, _≤_}
 use borrow.Author.Needs.{needs}
-use Rattle.keys.proofs.LentPaths.{place-none, place-short, place-lt, place-after, place-at}
+use denote.Ref.{now}
+use lib.ListN.{length}
+use Rattle.keys.proofs.LentPaths.{place-lt, place-found}
 use Rattle.keys.proofs.lent.place_in.Statement.{statement}
 use Rattle.keys.proofs.lent.place_in.Tie as tie
 
--- what the function was given, from where the place is found
+-- what the function was given, from where a position is found
 abbrev given : tie.After-quartered → tie.Start
-given c = c .before .before .before .before
+given c = c .before .before .before .before .before
 
--- the place found is below the count
-found-lt : (c : tie.After-quartered) → c .quartered .result < given c .args .count
-found-lt c = search place-lt
+-- there are keys to search, and the run has as many
+searched : (c : tie.After-quartered) → let a = given c .args in (0 < a .count) × (a .count ≤ length (now (a .keys)))
+searched c = search needs
+
+far-places-requires : tie.Need-far-places-requires
+far-places-requires c κs = search needs
 
 returns : tie.Need-returns
-returns c = search place-none
+returns c = search needs
 
-returns-2 : tie.Need-returns-2
-returns-2 c = search place-short
+cast-quartered : tie.Need-cast-quartered
+cast-quartered c = search needs
 
 quartered-requires : tie.Need-quartered-requires
 quartered-requires c κs = search needs
 
-mul-found : tie.Need-mul-found
-mul-found c = let h = found-lt c in search needs
+cast-place-at : tie.Need-cast-place-at
+cast-place-at c = search needs
 
-shared-slice-read-found : tie.Need-shared-slice-read-found
-shared-slice-read-found c = let h = found-lt (c .before) in search needs
+place-at-requires : tie.Need-place-at-requires
+place-at-requires c κs = let h = searched c in search place-lt
 
-add-next : tie.Need-add-next
-add-next c = let h = found-lt (c .before .before) in search needs
-
-returns-3 : tie.Need-returns-3
-returns-3 c = search place-after
-
-returns-4 : tie.Need-returns-4
-returns-4 c = search place-at
+returns-2 : tie.Need-returns-2
+returns-2 c = let h = searched (c .before) in search place-found
 
 pub place-in-spec : {M : Type 1} → statement M
 place-in-spec =
     tie.close
     (tie.spec
+    far-places-requires
     returns
-    returns-2
+    cast-quartered
     quartered-requires
-    mul-found
-    shared-slice-read-found
-    add-next
-    returns-3
-    returns-4)
+    cast-place-at
+    place-at-requires
+    returns-2)

@@ -7,6 +7,9 @@ use Rattle.keys.proofs.search.step.Tie as tie
 add-next : tie.Need-add-next
 add-next c = search needs
 
+cast-bit : tie.Need-cast-bit
+cast-bit c = search needs
+
 mul-bit : tie.Need-mul-bit
 mul-bit c = search needs
 
@@ -24,4 +27,4 @@ returns c = search step-on
 
 pub step-spec : {M : Type 1} → statement M
 step-spec =
-    tie.close (tie.spec add-next mul-bit shared-slice-read-bit bit-requires add-result returns)
+    tie.close (tie.spec add-next cast-bit mul-bit shared-slice-read-bit bit-requires add-result returns)
