@@ -11,7 +11,7 @@ use crate::sums::xor_all;
 use keys::Store;
 use keys::add_both_in;
 use keys::add_in;
-use keys::place_in;
+use keys::places_in;
 ghost use mathlib.Core.Path.{_≡_};
 ghost use mathlib.Core.Bool.{true};
 ghost use Prim.Native.Nat.{_≤_};
@@ -200,12 +200,13 @@ fn answer_at(keys: &[u64], first: usize, last: usize, claim: Claim) -> Answer
 pub fn answer_in(keys: &[u64], count: usize, claim: Claim) -> Answer
     ensures { λ r. ⌜ r ≡ answerIn (storeWith (now (keys .entry)) count) claim ⌝ }
 {
-    let lower = place_in(keys, count, claim.lo);
-    let upper = place_in(keys, count, claim.hi);
-    if !within(keys, count, lower.at, upper.at) {
+    let places = places_in(keys, count, claim.lo, claim.hi);
+    let first = places.lower.at;
+    let last = places.upper.at;
+    if !within(keys, count, first, last) {
         return Answer::Refused(1);
     }
-    answer_at(keys, lower.at, upper.at, claim)
+    answer_at(keys, first, last, claim)
 }
 
 // The reply to a claim. Asks 2 to 5, 16 and 6.

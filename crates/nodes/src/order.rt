@@ -3,7 +3,7 @@ use claims::Claim;
 use claims::judge_formerly;
 use claims::tells;
 use keys::ordered_in;
-use keys::place_in;
+use keys::places_in;
 use rule::Node;
 ghost use mathlib.Core.Path.{_≡_};
 ghost use mathlib.Core.Bool.{true, false, _&&_};
@@ -42,12 +42,11 @@ fn fits(keys: &[u64], held: usize, claim: Claim) -> bool
     if judge_formerly(claim) != 0 {
         return false;
     }
-    let lower = place_in(keys, held, claim.lo);
-    if !lower.held {
+    let places = places_in(keys, held, claim.lo, claim.hi);
+    if !places.lower.held {
         return false;
     }
-    let upper = place_in(keys, held, claim.hi);
-    upper.held
+    places.upper.held
 }
 
 // Whether claims or a node are in order: as those in an image, which 16 is not asked of, and as those that are given.

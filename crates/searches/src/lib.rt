@@ -2,6 +2,7 @@
 // Each call takes any content, and states its whole result and every lent place by equations with the definitions of specs/Told.
 use keys::Place;
 use keys::place_in;
+use keys::places_in;
 ghost use mathlib.Core.Path.{_≡_};
 ghost use Prim.Native.Nat.{_+_, _<_, _^_};
 ghost use lib.Dec.{leb};
@@ -42,9 +43,8 @@ pub extern "C" fn minutefrost_places_in(
     if told.len() < 2 {
         return false;
     }
-    let lower = place_in(keys, count, lo);
-    let upper = place_in(keys, count, hi);
-    told[0] = told_place(lower);
-    told[1] = told_place(upper);
+    let places = places_in(keys, count, lo, hi);
+    told[0] = told_place(places.lower);
+    told[1] = told_place(places.upper);
     true
 }

@@ -7,11 +7,8 @@ use Rattle.searches.proofs.minutefrost_places_in.Tie as tie
 returns : tie.Need-returns
 returns c = places-few _ _ _ _ _ (c .if1 .taken)
 
-place-in-requires : tie.Need-place-in-requires
-place-in-requires c κs = search needs
-
-place-in-requires-2 : tie.Need-place-in-requires-2
-place-in-requires-2 c κs = search needs
+places-in-requires : tie.Need-places-in-requires
+places-in-requires c κs = search needs
 
 told-place-requires : tie.Need-told-place-requires
 told-place-requires c κs = search place-fits
@@ -30,17 +27,15 @@ same-length c = search needs
 
 returns-2 : tie.Need-returns-2
 returns-2 c =
-    let upper = c .before .before in
-    let lower = upper .before in
-    places-two _ _ _ _ _ (lower .before .if1 .left) (lower .place-in .ensures) (upper .place-in2 .ensures) (c .before .told-place .ensures) (c .told-place2 .ensures)
+    let found = c .before .before in
+    places-two _ _ _ _ _ (found .before .if1 .left) (found .places-in .ensures .0) (found .places-in .ensures .1) (c .before .told-place .ensures) (c .told-place2 .ensures)
 
 pub minutefrost-places-in-spec : {M : Type 1} → statement M
 minutefrost-places-in-spec =
     tie.close
     (tie.spec
     returns
-    place-in-requires
-    place-in-requires-2
+    places-in-requires
     told-place-requires
     slice-write-told
     told-place-requires-2

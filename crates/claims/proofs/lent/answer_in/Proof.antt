@@ -4,11 +4,8 @@ use Rattle.claims.proofs.LentPaths.{within-positions, answerIn-not, ans
 use Rattle.claims.proofs.lent.answer_in.Statement.{statement}
 use Rattle.claims.proofs.lent.answer_in.Tie as tie
 
-place-in-requires : tie.Need-place-in-requires
-place-in-requires c κs = search needs
-
-place-in-requires-2 : tie.Need-place-in-requires-2
-place-in-requires-2 c κs = search needs
+places-in-requires : tie.Need-places-in-requires
+places-in-requires c κs = search needs
 
 within-requires : tie.Need-within-requires
 within-requires c κs = search needs
@@ -25,4 +22,4 @@ returns-2 c = search answerIn-at
 pub answer-in-spec : {M : Type 1} → statement M
 answer-in-spec =
     tie.close
-    (tie.spec place-in-requires place-in-requires-2 within-requires returns answer-at-requires returns-2)
+    (tie.spec places-in-requires within-requires returns answer-at-requires returns-2)

@@ -10,14 +10,11 @@ judge-formerly-requires c κs = search needs
 returns : tie.Need-returns
 returns c = search fits-judged
 
-place-in-requires : tie.Need-place-in-requires
-place-in-requires c κs = search needs
+places-in-requires : tie.Need-places-in-requires
+places-in-requires c κs = search needs
 
 returns-2 : tie.Need-returns-2
 returns-2 c = search fits-lo
-
-place-in-requires-2 : tie.Need-place-in-requires-2
-place-in-requires-2 c κs = search needs
 
 returns-3 : tie.Need-returns-3
 returns-3 c = search fits-hi
@@ -25,4 +22,4 @@ returns-3 c = search fits-hi
 pub fits-spec : {M : Type 1} → statement M
 fits-spec =
     tie.close
-    (tie.spec judge-formerly-requires returns place-in-requires returns-2 place-in-requires-2 returns-3)
+    (tie.spec judge-formerly-requires returns places-in-requires returns-2 returns-3)
