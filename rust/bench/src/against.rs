@@ -3,8 +3,10 @@
 //! host` and `rt staticlib rehearsal` have been run, and `rt staticlib
 //! searches` where that crate is there: an early checkout has none.
 //!
-//! Where code happens to stand in memory moves a time by some hundredths. So
-//! each archive is loaded at four places, and the runs at all of them count.
+//! Where code happens to stand in memory moves a time by some hundredths, and
+//! where a call's arrays stand on the stack, a short call's by a tenth. So each
+//! archive is loaded at four places and called from four places of the stack,
+//! and the runs at all of them count.
 //!
 //! A change of the rules may make both give other bytes for the same case. That
 //! fails nothing here: each row says of how many of its cases it is so.
@@ -83,8 +85,30 @@ fn left((_, call): Called, host: Host) -> impl Fn(&Case) -> (i64, Buffers) {
 
 /// The measurements at all places, as one.
 fn at_all_places<T: Copy>(places: &[Two<T>], timed: impl Fn(Two<T>) -> Compared) -> Compared {
-    let times = places.iter().map(|both| timed(*both));
+    let times = places.iter().zip(STACK);
+    let times = times.map(|(both, further)| further(&mut || timed(*both)));
     times.reduce(Compared::with).expect("there are places")
+}
+
+/// Does a measurement further down the stack.
+type Further = fn(&mut dyn FnMut() -> Compared) -> Compared;
+
+/// By as many bytes as a library's code is moved up: arrays of a call begin at
+/// some sixteenth byte, and are copied faster where that is a thirty-second.
+const STACK: [Further; PLACES.len()] = [
+    by::<{ PLACES[0] }>,
+    by::<{ PLACES[1] }>,
+    by::<{ PLACES[2] }>,
+    by::<{ PLACES[3] }>,
+];
+
+#[inline(never)]
+fn by<const BYTES: usize>(timed: &mut dyn FnMut() -> Compared) -> Compared {
+    let room = [0u8; BYTES];
+    black_box(&room);
+    let times = timed();
+    black_box(&room);
+    times
 }
 
 /// One call by both, in turns.
