@@ -94,7 +94,7 @@ fn at_all_places<T: Copy>(places: &[Two<T>], timed: impl Fn(Two<T>) -> Compared)
 type Further = fn(&mut dyn FnMut() -> Compared) -> Compared;
 
 /// By as many bytes as a library's code is moved up: arrays of a call begin at
-/// some sixteenth byte, and are copied faster where that is a thirty-second.
+/// some sixteenth byte of a cache line, and copying them takes longer at some.
 const STACK: [Further; PLACES.len()] = [
     by::<{ PLACES[0] }>,
     by::<{ PLACES[1] }>,

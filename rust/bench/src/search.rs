@@ -41,8 +41,8 @@ impl Searcher for Search {
 }
 
 /// Plain Rust's own search, by halves. Called and not inlined, as the proved one
-/// is. Not by `binary_search`: whether it is `Ok` becomes a branch that no
-/// processor foresees, and takes as long as the search.
+/// is. Not by `binary_search`, which took twice as long where this was written:
+/// it has a branch on whether the key is held.
 #[derive(Clone, Copy)]
 struct Plain;
 
