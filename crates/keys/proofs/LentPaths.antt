@@ -8,13 +8,13 @@ use native.Mathlib.Nat.{add-zero}
 use native.Mathlib.Omega.{arith}
 use borrow.Author.Tests.{lt-ltb, le-ltb, le-leb, lt-leb, eq-eqb, ne-eqb, not-true, not-false}
 use lib.Dec.{leb, eqb}
-use lib.ListN.{length, take, drop, getD, length-drop}
-use lib.Seq.{take-all}
+use lib.ListN.{length, take, drop, getD}
 use Rattle.keys.specs.declared.lent.Added.{Added}
 use Rattle.keys.specs.declared.lent.Place.{Place}
 use Rattle.keys.specs.Store.{limit, rising, allZero}
 use Rattle.keys.specs.Lent.{orderedIn, quartered, placeAt, placeIn, insertedAt, lacking, putIn, putTwo}
 use Rattle.keys.specs.Lent.{storeWith, Grown, grownWith, grown, noRoom, addTwo, addIn, addBothIn}
+use Rattle.keys.proofs.PlaceLaws.{slice-rest}
 use Rattle.keys.proofs.QuarteringLaws.{quartered-lt}
 use Rattle.keys.proofs.LentLaws.{lacking-le, placeIn-le}
 
@@ -37,9 +37,7 @@ module _ (keys : List ℕ) (count : ℕ) where
     pub ordered-all-zero : not rises ≡ false → (blank : Bool) → blank ≡ allZero (take (length keys - count) (drop count keys)) → blank ≡ orderedIn keys count
     unfolding orderedIn
     ordered-all-zero e blank looked =
-        let all : take (length keys - count) (drop count keys) ≡ drop count keys =
-        take-all (length keys - count) (drop count keys) (omega (arith, length-drop count keys)) in
-        looked ∙ rw (le-leb count limit few, le-leb count (length keys) long, ← told, not-false rises e, all)
+        looked ∙ rw (le-leb count limit few, le-leb count (length keys) long, ← told, not-false rises e, slice-rest keys count)
 
 -- `place_at`
 

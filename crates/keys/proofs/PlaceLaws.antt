@@ -1,12 +1,12 @@
 -- Laws of specs/Place, what a lent run holds once something is written at a place of it: nothing written, one element more, a block right after a block,
--- one element, stores one after the other; written to the beginning; over a run of one value. Assumes nothing.
+-- one element, stores one after the other; written to the beginning; over a run of one value; and what a slice of a run holds. Assumes nothing.
 use Prim.Native.Nat.{ℕ, zero, suc, _+_, _-_, _≤_, _<_}
 use native.Mathlib.Nat.{add-zero, add-assoc, sub-zero, zero-sub, suc-sub-suc}
 use native.Mathlib.Omega.{arith}
 use mathlib.Core.Path.{_≡_, refl, sym, _∙_}
 use mathlib.Core.List.{List, [], _∷_, _++_, append-assoc}
 use lib.ListN.{length, take, drop, getD, set, replicate, length-append, length-take, length-drop, length-set, take-append-drop}
-use lib.Seq.{sets, sets-eq, take-set-le, drop-set-lt, getD-set-same, drop-drop, drop-cons, set-at, take-at, drop-append-add}
+use lib.Seq.{take-all, sets, sets-eq, take-set-le, drop-set-lt, getD-set-same, drop-drop, drop-cons, set-at, take-at, drop-append-add}
 use Rattle.keys.specs.Place.{putAt}
 
 module _ {A : Type 0} where
@@ -106,3 +106,7 @@ module _ {A : Type 0} where
   -- what is written over a run of one value is followed by those that are left
   pub putAt-replicate : (xs : List A) (n : ℕ) (a : A) → putAt (replicate n a) 0 xs ≡ xs ++ replicate (n - length xs) a
   putAt-replicate xs n a = rw (putAt-zero, drop-replicate (length xs) n a)
+
+-- a slice from a place on is the rest of the run
+pub slice-rest : {A : Type 0} (l : List A) (n : ℕ) → take (length l - n) (drop n l) ≡ drop n l
+slice-rest l n = take-all (length l - n) (drop n l) (omega (arith, length-drop n l))

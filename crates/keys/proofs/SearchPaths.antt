@@ -7,8 +7,9 @@ use Prim.Native.Nat.{ℕ, _+_, _-_, _*_, _/_, _≤_, _<_}
 use native.Mathlib.Omega.{arith}
 use lib.Dec.{leb}
 use lib.ListN.{length, take, drop, getD, length-drop}
-use lib.Seq.{take-all, drop-drop}
+use lib.Seq.{drop-drop}
 use Rattle.keys.specs.Lent.{halved, quarterOf, quartered}
+use Rattle.keys.proofs.PlaceLaws.{slice-rest}
 use Rattle.keys.proofs.HalvingLaws.{halved-lt, halved-one, halved-two, halved-three}
 use Rattle.keys.proofs.QuarteringLaws.{quarters-le, quartered-few, quartered-turn}
 use Rattle.keys.proofs.PartingLaws.{quartered-part}
@@ -53,6 +54,9 @@ pub passed-is : (part : List ℕ) (key width second third fourth : ℕ)
     → width * (second + third + fourth) ≡ width * quarterOf part key 0 width
 passed-is part key width second third fourth two three four = let here : 0 + width ≡ width = omega arith in rw (two, three, four, here)
 
+pub passed-lt : (width second third fourth most : ℕ) → 3 * width < most → second ≤ 1 → third ≤ 1 → fourth ≤ 1 → width * (second + third + fourth) < most
+passed-lt width second third fourth most fits two three four = omega (arith, passed-le width second third fourth two three four)
+
 -- The loops: the part of a run that is left, `size` keys of it from `at` on. What is found in it, counted from there, is what is found in the run.
 
 pub record Narrowed (keys : List ℕ) (count key : ℕ) (part : List ℕ) (at size : ℕ) : Type 0 where
@@ -62,19 +66,15 @@ pub record Narrowed (keys : List ℕ) (count key : ℕ) (part : List ℕ) (at si
   pub rest : part ≡ drop at keys
   pub same : quartered count keys key 0 count ≡ at + quartered size part key 0 size
 
--- the slice from a place on
-slice-rest : (l : List ℕ) (n : ℕ) → n ≤ length l → take (length l - n) (drop n l) ≡ drop n l
-slice-rest l n h = take-all (length l - n) (drop n l) (omega (arith, length-drop n l))
-
 pub narrowed-none : (keys : List ℕ) (count key : ℕ) → 0 < count → count ≤ length keys
     → Narrowed keys count key keys 0 count
 narrowed-none keys count key some long = record { some = some; inside = omega arith; long = long; rest = refl; same = omega arith }
 
 module _ {keys : List ℕ} {count key : ℕ} {part : List ℕ} {at size : ℕ} (left : Narrowed keys count key part at size) where
-  pub narrowed-turn : 3 < size → (more : ℕ) → more ≡ size / 4 * quarterOf part key 0 (size / 4) → more ≤ 3 * (size / 4)
+  pub narrowed-turn : {least : ℕ} → 3 ≤ least → least < size → (more : ℕ) → more ≡ size / 4 * quarterOf part key 0 (size / 4) → more ≤ 3 * (size / 4)
       → Narrowed keys count key (take (length part - more) (drop more part)) (at + more) (size - 3 * (size / 4))
-  narrowed-turn many more e few =
-      rw (slice-rest part more (omega (arith, left .long)))
+  narrowed-turn enough many more e few =
+      rw (slice-rest part more)
       (record {
         some = omega arith;
         inside = omega (arith, left .inside);
@@ -87,7 +87,7 @@ module _ {keys : List ℕ} {count key : ℕ} {part : List ℕ} {at size : ℕ} (
       found =
           let there : 0 + size / 4 * quarterOf part key 0 (size / 4) ≡ more + 0 = omega (arith, e) in
           let on : quartered size part key 0 size ≡ more + quartered (size - 3 * (size / 4)) (drop more part) key 0 (size - 3 * (size / 4)) =
-          quartered-turn part key 0 size many
+          quartered-turn part key 0 size (omega arith)
           ∙ (ap (λ (b : ℕ). quartered (size - 3 * (size / 4)) part key b (size - 3 * (size / 4))) there
           ∙ sym (quartered-part part key more (size - 3 * (size / 4)) 0 (size - 3 * (size / 4)))) in
           omega (arith, left .same, on)
@@ -105,4 +105,4 @@ pub part-found : (keys : List ℕ) (count key from size : ℕ) → from + size �
     → quartered count keys key 0 count ≡ from + quartered size (drop from keys) key 0 size
     → (r : ℕ) → r ≡ quartered size (take (length keys - from) (drop from keys)) key 0 size
     → from + r ≡ quartered count keys key 0 count
-part-found keys count key from size inside long same r e = rw (e, slice-rest keys from (omega arith)) (sym same)
+part-found keys count key from size inside long same r e = rw (e, slice-rest keys from) (sym same)

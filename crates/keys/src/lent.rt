@@ -110,7 +110,7 @@ pub fn place_in(keys: &[u64], count: usize, key: u64) -> Place
     place_at(keys, at as usize, key)
 }
 
-// The places of two keys, found side by side; otherwise as above.
+// The places of two keys, found side by side; otherwise as `place_in`.
 pub fn places_in(keys: &[u64], count: usize, lo: u64, hi: u64) -> Places
     ensures { λ r. ⌜ (r .lower ≡ placeIn (now (keys .entry)) count lo) × (r .upper ≡ placeIn (now (keys .entry)) count hi) ⌝ }
 {

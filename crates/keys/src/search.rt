@@ -1,6 +1,6 @@
-// The search for a key's position among the first keys of a lent run (specs/Lent, `quartered`). It "works inside with 16-bit positions, however it is done
-// now, and widens one only to index a place or to answer" (document 02, slip 3). A run may have more keys than 16 bits count, though no store has: then the
-// first turns narrow it to a part in which they are enough (`near`).
+// "The search for a key's position works inside with 16-bit positions, however it is done now, and widens one only to index a place or to answer. Its
+// promise, and everything seen by a caller, remains as it was." (document 02, slip 3). The promise is `quartered` (specs/Lent), among the first keys of a
+// lent run. A run may have more keys than 16 bits count, though no store has: then the first turns narrow it to a part in which they are enough (`near`).
 ghost use mathlib.Core.Path.{_≡_};
 ghost use mathlib.Core.Bool.{cond};
 ghost use Prim.Native.Nat.{_≤_, _<_, _+_, _*_, _^_};
@@ -8,7 +8,7 @@ ghost use lib.ListN.{length, drop};
 ghost use Rattle.keys.specs.Lent.{halved, quarterOf, quartered};
 
 // The most keys that 16-bit positions are enough for.
-pub(crate) const NEAR: usize = 65535;
+pub(crate) const NEAR: usize = u16::MAX as usize;
 
 // 1 for yes and 0 for no.
 fn bit(yes: bool) -> u16
@@ -81,8 +81,8 @@ pub(crate) struct Pair {
     pub(crate) upper: u16,
 }
 
-// The same of two keys, each in a run of its own: one loop, since what is left has as many keys for one as for the other, and neither search waits for the
-// other.
+// What `quartered` finds, for two keys, each in a run of its own: one loop, since what is left has as many keys for one as for the other, and neither search
+// waits for the other.
 pub(crate) fn both_quartered<'a>(
     lows: &'a [u64],
     highs: &'a [u64],
@@ -165,7 +165,7 @@ pub(crate) struct Found {
     pub(crate) upper: usize,
 }
 
-// The last keys that are at most `lo` and at most `hi`, as above, in a run of any length.
+// What `both_quartered` finds, for two keys in one run of any length.
 pub(crate) fn far_both(keys: &[u64], count: usize, lo: u64, hi: u64) -> Found
     requires { ⌜ (0 < count) × (count ≤ length (now keys)) ⌝ }
     ensures { λ r. ⌜ (r .lower ≡ quartered count (now (keys .entry)) lo 0 count) × (r .upper ≡ quartered count (now (keys .entry)) hi 0 count) ⌝ }

@@ -141,24 +141,15 @@ impl Row {
         }
     }
 
-    /// A program's searches, a piece of them at each call. The sum uses the
-    /// answers and nothing waits for it.
     fn ones(&self, program: impl Searcher) -> impl FnMut() {
-        let mut next = self.ones.chunks_exact(SEARCHES).cycle();
-        move || {
-            let piece = next.next().expect("a cycle");
-            let told = piece.iter().map(|key| self.one(program, *key));
-            black_box(told.fold(0, usize::wrapping_add));
-        }
+        in_pieces(&self.ones, move |key| self.one(program, *key))
     }
 
     fn twos(&self, program: impl Searcher) -> impl FnMut() {
-        let mut next = self.twos.chunks_exact(SEARCHES).cycle();
-        move || {
-            let piece = next.next().expect("a cycle");
-            let told = piece.iter().flat_map(|two| self.two(program, *two));
-            black_box(told.fold(0, usize::wrapping_add));
-        }
+        in_pieces(&self.twos, move |two| {
+            let [lower, upper] = self.two(program, *two);
+            lower.wrapping_add(upper)
+        })
     }
 
     /// What a search takes by one program and by another.
@@ -173,6 +164,16 @@ impl Row {
             Sought::Two => compare(PIECES, self.twos(program), self.twos(base)),
         };
         pieces.each_of(SEARCHES)
+    }
+}
+
+/// Searches, a piece of them at each call. The sum uses the answers and nothing
+/// waits for it.
+fn in_pieces<K>(sought: &[K], told: impl Fn(&K) -> usize) -> impl FnMut() {
+    let mut next = sought.chunks_exact(SEARCHES).cycle();
+    move || {
+        let piece = next.next().expect("a cycle");
+        black_box(piece.iter().map(&told).fold(0, usize::wrapping_add));
     }
 }
 

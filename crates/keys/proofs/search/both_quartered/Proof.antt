@@ -2,6 +2,7 @@
 -- Assumes nothing.
 use Prim.Native.Nat.{_<_}
 use borrow.Author.Needs.{needs}
+use lib.Dec.{lit≤}
 use Rattle.keys.proofs.SearchPaths.{halve-lt, Narrowed, narrowed-none, narrowed-turn, narrowed-few}
 use Rattle.keys.proofs.search.both_quartered.Statement.{statement}
 use Rattle.keys.proofs.search.both_quartered.Tie as tie
@@ -68,7 +69,7 @@ loop-less : tie.Need-loop-less Inv-loop μ-loop
 loop-less c = search needs
 
 loop-again : tie.Need-loop-again Inv-loop μ-loop
-loop-again c = search narrowed-turn
+loop-again c = search (narrowed-turn, lit≤)
 
 halved-requires : tie.Need-halved-requires Inv-loop μ-loop
 halved-requires c κs = search needs

@@ -1,7 +1,7 @@
 -- `keys::search::near` meets its contract. The invariant: for either key, what is found in the part that is left is what is found in the run.
 -- Assumes nothing.
-use Prim.Native.Nat.{_<_}
 use borrow.Author.Needs.{needs}
+use lib.Dec.{lit≤}
 use Rattle.keys.proofs.SearchPaths.{Narrowed, narrowed-none, narrowed-turn, narrowed-found}
 use Rattle.keys.proofs.search.near.Statement.{statement}
 use Rattle.keys.proofs.search.near.Tie as tie
@@ -62,7 +62,7 @@ loop-less : tie.Need-loop-less Inv-loop μ-loop
 loop-less c = search needs
 
 loop-again : tie.Need-loop-again Inv-loop μ-loop
-loop-again c = let many : 3 < c .before .before .before .before .before .loop .size = search needs in search narrowed-turn
+loop-again c = search (narrowed-turn, lit≤)
 
 returns : tie.Need-returns Inv-loop μ-loop
 returns c = search (needs, narrowed-found)

@@ -1,18 +1,8 @@
 -- `keys::search::passed` meets its contract. Assumes nothing.
-use Prim.Native.Nat.{_+_, _*_, _≤_}
 use borrow.Author.Needs.{needs}
-use Rattle.keys.proofs.SearchPaths.{passed-is, passed-le}
+use Rattle.keys.proofs.SearchPaths.{passed-is, passed-le, passed-lt}
 use Rattle.keys.proofs.search.passed.Statement.{statement}
 use Rattle.keys.proofs.search.passed.Tie as tie
-
--- what the function was given, from where the last of three keys is compared
-abbrev given : tie.After-bit3 → tie.Start
-given c = c .before .before .before .before .before .before .before
-
--- at most three quarters are passed
-three-at-most : (c : tie.After-bit3) → let width = given c .args .width in
-    width * (c .before .before .before .before .bit .result + c .before .before .bit2 .result + c .bit3 .result) ≤ 3 * width
-three-at-most c = search passed-le
 
 add-third : tie.Need-add-third
 add-third c = search needs
@@ -60,7 +50,7 @@ add-up-2 : tie.Need-add-up-2
 add-up-2 c = search needs
 
 mul-result : tie.Need-mul-result
-mul-result c = let l = three-at-most c in search needs
+mul-result c = search (needs, passed-lt)
 
 returns : tie.Need-returns
 returns c = search (passed-is, passed-le)

@@ -1,6 +1,7 @@
 -- `keys::search::quartered` meets its contract. The invariant: what is found in the part that is left is what is found in the run. Assumes nothing.
 use Prim.Native.Nat.{_<_}
 use borrow.Author.Needs.{needs}
+use lib.Dec.{lit≤}
 use Rattle.keys.proofs.SearchPaths.{halve-lt, Narrowed, narrowed-none, narrowed-turn, narrowed-few}
 use Rattle.keys.proofs.search.quartered.Statement.{statement}
 use Rattle.keys.proofs.search.quartered.Tie as tie
@@ -45,7 +46,7 @@ loop-less : tie.Need-loop-less Inv-loop μ-loop
 loop-less c = search needs
 
 loop-again : tie.Need-loop-again Inv-loop μ-loop
-loop-again c = search narrowed-turn
+loop-again c = search (narrowed-turn, lit≤)
 
 halved-requires : tie.Need-halved-requires Inv-loop μ-loop
 halved-requires c κs = search needs
