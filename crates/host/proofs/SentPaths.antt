@@ -1,6 +1,5 @@
 -- The functions of src/sent.rt, one law for each way that the code goes. In order: four claims of a lent run; one frame; the frames. Assumes nothing.
 use Prim.Native.Nat.{ℕ, zero, suc, _+_, _-_, _*_, _≤_, _<_, min}
-use native.Mathlib.Nat.{zero-add}
 use native.Mathlib.Omega.{arith}
 use mathlib.Core.Bool.{true}
 use mathlib.Core.List.{List, [], _∷_, _++_, append-nil}
@@ -13,7 +12,7 @@ use lib.Seq.{drop-drop, take-all}
 use Rattle.keys.specs.Store.{limit}
 use Rattle.keys.specs.Place.{putAt}
 use Rattle.keys.proofs.Tests.{and-left, and-right}
-use Rattle.keys.proofs.PlaceLaws.{length-putAt, putAt-nil, putAt-zero, putAt-append}
+use Rattle.keys.proofs.PlaceLaws.{putAt-zero}
 use Rattle.claims.specs.declared.claim.Claim.{Claim}
 use Rattle.claims.specs.Claim.{noClaim}
 use Rattle.claims.specs.Call.{judged}
@@ -29,6 +28,7 @@ use Rattle.wire.specs.Run.{readRun}
 use Rattle.wire.proofs.FrameLaws.{countable-of, writable-0, writeFrame-0, frameLent-yes}
 use Rattle.wire.proofs.FrameTrips.{length-frameBytes}
 use Rattle.wire.proofs.RunLaws.{length-readRun, set-readRun}
+use Rattle.text.proofs.PutLaws.{Left, left-all, left-more, left-none}
 use Rattle.host.specs.Frames.{framesBytes, inWords}
 use Rattle.host.specs.Known.{FramesWritten}
 use Rattle.host.proofs.Words.{getD-readRun}
@@ -105,24 +105,21 @@ module _ (frames : List ℕ) (at n : ℕ) (cs : List Claim) (many : countable n 
       let past : drop (length frames) frames ≡ [] = drop-of-length-le frames all in
       rw (post-is at (length frames) frames (omega arith), past, append-nil) (ap (λ (z : List ℕ). take at frames ++ z) g)
 
--- ---- the frames: what is left to write makes up the whole
+-- ---- the frames: what is left to write, from the claim i on, makes up the whole
 
-pub record Written (cs : List Claim) (before frames : List ℕ) (i at : ℕ) : Type 0 where
-  pub whole : at + length (framesBytes (drop i cs)) ≡ length (framesBytes cs)
-  pub put : putAt frames at (framesBytes (drop i cs)) ≡ putAt before 0 (framesBytes cs)
-  pub long : length frames ≡ length before
+abbrev pub Written : List Claim → List ℕ → List ℕ → ℕ → ℕ → Type 0
+Written cs before frames i at = Left before 0 (framesBytes cs) frames at (framesBytes (drop i cs))
 
 module _ (cs : List Claim) (before : List ℕ) where
   pub written-none : Written cs before before 0 0
-  written-none = record { whole = zero-add (length (framesBytes cs)); put = refl; long = refl }
+  written-none = left-all before 0 (framesBytes cs)
 
   module _ (frames : List ℕ) (i at : ℕ) (so : Written cs before frames i at) where
     pub written-all : length cs ≤ i → FramesWritten cs before frames at
     written-all h =
         let none : framesBytes (drop i cs) ≡ [] = ap framesBytes (drop-of-length-le cs h) ∙ framesBytes-nil in
-        let w = so .whole in
-        let e : length (framesBytes (drop i cs)) ≡ 0 = ap length none in
-        record { size = omega arith; frames = sym (putAt-nil frames at) ∙ (ap (λ (bs : List ℕ). putAt frames at bs) (sym none) ∙ so .put) }
+        let (ends, put) = left-none (rw none at so) in
+        record { size = omega arith; frames = put }
 
 -- the next frame: that of the n claims from i on
 pub record Turn (cs : List Claim) (before frames : List ℕ) (i at n : ℕ) : Type 0 where
@@ -162,21 +159,13 @@ module _ {cs : List Claim} {before frames : List ℕ} {i at n : ℕ} (t : Turn c
   turn-length = ap length turn-split ∙ rw (length-append, turn-size)
 
   pub turn-room : at + frameLength n ≤ length frames
-  turn-room = omega (arith, turn-length, t .so .whole, t .so .long, t .fits)
+  turn-room = omega (arith, turn-length, t .so .ends, t .so .long, t .fits)
 
   pub turn-pass : allPass cs ≡ true → allPass (take n (drop i cs)) ≡ true
   turn-pass p = allPass-take n (drop i cs) (allPass-drop i cs p)
 
   pub turn-written : {after : List ℕ} {next : ℕ} → next ≡ at + frameLength n → after ≡ putAt frames at (frameBytes (take n (drop i cs)))
       → Written cs before after (i + n) next
-  turn-written {after} {next} e f =
-      let size = turn-size in
-      let room = turn-room in
-      record {
-        whole = omega (arith, turn-length, t .so .whole);
-        put =
-            rw (e, f)
-            (putAt-append frames at (frameBytes (take n (drop i cs))) (framesBytes (drop (i + n) cs)) (frameLength n) turn-size turn-room
-            ∙ (ap (λ (bs : List ℕ). putAt frames at bs) (sym turn-split) ∙ t .so .put));
-        long = rw f (length-putAt frames at (frameBytes (take n (drop i cs))) (omega arith) ∙ t .so .long);
-      }
+  turn-written e f =
+      left-more (t .so) (frameBytes (take n (drop i cs))) (framesBytes (drop (i + n) cs)) turn-split (omega (arith, t .fits)) f
+      (e ∙ ap (λ (k : ℕ). at + k) (sym turn-size))

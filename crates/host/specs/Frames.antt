@@ -1,24 +1,18 @@
 -- A beat's claims in frames (document 01, "Host calls"): "the claims to a second, four to a frame and the rest in a last one". Then how long the frames of so
 -- many claims are, and the claims in a lent run of words. Assumes nothing.
-use Prim.Native.Nat.{ℕ, zero, suc, _+_, _-_, _*_, _/_}
+use Prim.Native.Nat.{ℕ, _+_, _*_}
 use mathlib.Core.List.{List, [], _∷_, _++_}
-use lib.ListN.{length, take, drop}
 use Rattle.claims.specs.declared.claim.Claim.{Claim}
 use Rattle.claims.specs.Words.{claimWidth, wordsOf, fromWords}
 use Rattle.rule.specs.Table.{beatLimit}
 use Rattle.wire.specs.Claim.{claimSize}
 use Rattle.wire.specs.Frame.{frameLimit, headSize, frameBytes}
 use Rattle.wire.specs.Run.{Layout}
+use Rattle.text.specs.Groups.{inGroups, groupCount}
 
--- groups of n, and the rest in a last one: at most `most` groups
-abbrev pub groups : {A : Type 0} → ℕ → ℕ → List A → List (List A)
-groups zero n xs = []
-groups (suc most) n [] = []
-groups (suc most) n (x ∷ xs) = take n (x ∷ xs) ∷ groups most n (drop n (x ∷ xs))
-
--- "four to a frame and the rest in a last one". As many groups as claims are enough: `flatten-fours` of proofs/FramesLaws says that no claim is lost.
-unfoldable pub fours : List Claim → List (List Claim)
-fours cs = groups (length cs) frameLimit cs
+-- "four to a frame and the rest in a last one"
+abbrev pub fours : List Claim → List (List Claim)
+fours cs = inGroups frameLimit cs
 
 -- frames, one after the other
 abbrev pub inFrames : List (List Claim) → List ℕ
@@ -30,7 +24,7 @@ framesBytes cs = inFrames (fours cs)
 
 -- how many frames m claims make, and how long they are
 abbrev pub framesFor : ℕ → ℕ
-framesFor m = (m + (frameLimit - 1)) / frameLimit
+framesFor m = groupCount m frameLimit
 
 abbrev pub framesLength : ℕ → ℕ
 framesLength m = headSize * framesFor m + claimSize * m

@@ -1,12 +1,13 @@
--- Laws of specs/Place, what a lent run holds once something is written at a place of it: nothing written, one element more, a block right after a block,
--- one element, stores one after the other; written to the beginning; over a run of one value; and what a slice of a run holds. Assumes nothing.
+-- Laws of specs/Place, what a lent run holds once something is written at a place of it: nothing written, a block right after a block in either
+-- order, one element, stores one after the other; written to the beginning; over a run of one value; and what a slice of a run holds. Assumes nothing.
 use Prim.Native.Nat.{ℕ, zero, suc, _+_, _-_, _≤_, _<_}
-use native.Mathlib.Nat.{add-zero, add-assoc, sub-zero, zero-sub, suc-sub-suc}
+use native.Mathlib.Nat.{add-assoc, sub-zero, zero-sub, suc-sub-suc}
+use native.Mathlib.Numerals.{add-one}
 use native.Mathlib.Omega.{arith}
-use mathlib.Core.Path.{_≡_, refl, sym, _∙_}
+use mathlib.Core.Path.{_≡_, refl, _∙_}
 use mathlib.Core.List.{List, [], _∷_, _++_, append-assoc}
 use lib.ListN.{length, take, drop, getD, set, replicate, length-append, length-take, length-drop, length-set, take-append-drop}
-use lib.Seq.{take-all, sets, sets-eq, take-set-le, drop-set-lt, getD-set-same, drop-drop, drop-cons, set-at, take-at, drop-append-add}
+use lib.Seq.{take-all, take-take, take-append-le, sets, sets-eq, set-split, drop-drop, drop-cons, set-at, take-at, drop-at, drop-append-add}
 use Rattle.keys.specs.Place.{putAt}
 
 module _ {A : Type 0} where
@@ -27,17 +28,6 @@ module _ {A : Type 0} where
   unfolding putAt
   putAt-past s at bs = rw drop-drop
 
-  -- one element more: the one past the end may be written first
-  pub putAt-snoc : (s : List A) (at : ℕ) (bs : List A) (b : A) (n : ℕ) → length bs ≡ n → at + n < length s
-      → putAt (set s (at + n) b) at bs ≡ putAt s at (bs ++ (b ∷ []))
-  putAt-snoc s at bs b n e h =
-      let front : take at (set s (at + n) b) ≡ take at s = take-set-le at s (at + n) b (omega arith) in
-      let past : at + length (bs ++ (b ∷ [])) ≡ suc (at + n) = rw (length-append, e) (omega arith) in
-      let rest : drop (at + length bs) (set s (at + n) b) ≡ b ∷ drop (suc (at + n)) s =
-      let there : at + n < length (set s (at + n) b) = rw length-set h in
-      rw (e, drop-cons (set s (at + n) b) (at + n) b, getD-set-same s (at + n) b b h, drop-set-lt (suc (at + n)) s (at + n) b (omega arith)) in
-      rw (putAt-past, putAt-past, front, rest, past, append-assoc bs)
-
   -- a block right after a block is one block
   pub putAt-append : (s : List A) (at : ℕ) (xs ys : List A) (n : ℕ) → length xs ≡ n → at + n ≤ length s
       → putAt (putAt s at xs) (at + n) ys ≡ putAt s at (xs ++ ys)
@@ -49,6 +39,18 @@ module _ {A : Type 0} where
       let rest : drop (at + n + length ys) (take at s ++ (xs ++ drop (at + length xs) s)) ≡ drop (at + length (xs ++ ys)) s =
       rw (whole, ← long, drop-append-add, long, drop-drop, length-append, e, add-assoc) in
       rw (putAt-past s at xs, putAt-past, putAt-past, front, rest, append-assoc (take at s), append-assoc xs)
+
+  -- .. and the second one may be written first
+  pub putAt-behind : (s : List A) (at : ℕ) (xs ys : List A) (n : ℕ) → length xs ≡ n → at + n + length ys ≤ length s
+      → putAt (putAt s (at + n) ys) at xs ≡ putAt s at (xs ++ ys)
+  putAt-behind s at xs ys n e h =
+      let long : length (take (at + n) s) ≡ at + n = rw length-take (omega arith) in
+      let front : take at (take (at + n) s ++ (ys ++ drop (at + n + length ys) s)) ≡ take at s =
+      take-append-le at (take (at + n) s) (ys ++ drop (at + n + length ys) s) (omega arith) ∙ take-take at (at + n) s (omega arith) in
+      let rest : drop (at + n) (take (at + n) s ++ (ys ++ drop (at + n + length ys) s)) ≡ ys ++ drop (at + n + length ys) s =
+      drop-at (take (at + n) s) (ys ++ drop (at + n + length ys) s) (at + n) long in
+      let past : at + length (xs ++ ys) ≡ at + n + length ys = rw (length-append, e) (omega arith) in
+      rw (putAt-past s (at + n) ys, putAt-past, putAt-past s at (xs ++ ys), e, front, rest, past, append-assoc xs)
 
   -- .. as code leaves it: i is the place after the first one
   pub putAt-then : (s : List A) (at i : ℕ) (a b : List A) {o₁ o₂ : List A} → i ≡ at + length a → i ≤ length s
@@ -66,10 +68,12 @@ module _ {A : Type 0} where
 
   -- one element, and what stands right after it
   pub putAt-one : (s : List A) (at : ℕ) (b : A) → at < length s → set s at b ≡ putAt s at (b ∷ [])
-  putAt-one s at b h =
-      let z : at + 0 ≡ at = add-zero at in
-      let e : putAt (set s (at + 0) b) at [] ≡ putAt s at (b ∷ []) = putAt-snoc s at [] b 0 refl (rw z h) in
-      sym (putAt-nil (set s at b) at) ∙ (rw z at e)
+  putAt-one s at b h = rw (putAt-past, add-one at) (set-split s at b h)
+
+  -- one element more: the one past the end may be written first
+  pub putAt-snoc : (s : List A) (at : ℕ) (bs : List A) (b : A) (n : ℕ) → length bs ≡ n → at + n < length s
+      → putAt (set s (at + n) b) at bs ≡ putAt s at (bs ++ (b ∷ []))
+  putAt-snoc s at bs b n e h = rw (putAt-one s (at + n) b h) (putAt-behind s at bs (b ∷ []) n e (omega arith))
 
   pub putAt-cons : (s : List A) (at : ℕ) (b : A) (bs : List A) → at < length s → putAt (set s at b) (at + 1) bs ≡ putAt s at (b ∷ bs)
   putAt-cons s at b bs h = rw putAt-one (putAt-append s at (b ∷ []) bs 1 refl (omega arith))

@@ -2,15 +2,9 @@
 -- src/x.rt goes.
 --   RehearsalLaws  what is decided by a number; the deliveries fit the records
 --   RunPaths       the two images and the round
---   PutLaws        text at a place of a buffer
---   DecimalLaws    numbers as text
---   DigitsPaths    digits put at a place
 --   TextLaws       the lines of deliveries
 --   PagePaths      lines, and the whole text
 pub mod RehearsalLaws
 pub mod RunPaths
-pub mod PutLaws
-pub mod DecimalLaws
-pub mod DigitsPaths
 pub mod TextLaws
 pub mod PagePaths

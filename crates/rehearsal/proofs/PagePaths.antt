@@ -1,57 +1,48 @@
--- One law for each way that src/page.rt goes: bytes one after another, lines one after another, one line, the whole text. Assumes nothing.
-use Prim.Native.Nat.{ℕ, _+_, _*_, _≤_, _<_}
+-- One law for each way that src/page.rt goes: the pieces of a line, lines one after another, the last line, the whole text. Assumes nothing.
+use Prim.Native.Nat.{ℕ, _+_, _*_, _^_, _≤_, _<_}
 use native.Mathlib.Numerals.{add-one}
 use native.Mathlib.Omega.{arith}
-use mathlib.Core.List.{List, [], _∷_, _++_}
+use mathlib.Core.List.{List, _++_}
 use mathlib.Core.Path.{_≡_, refl, ap, ap₂, sym, _∙_}
-use lib.ListN.{length, take, drop, getD, set, length-set, length-map}
-use lib.Seq.{take-all, take-suc, length-take-le}
-use Rattle.keys.specs.Place.{putAt}
-use Rattle.keys.proofs.PlaceLaws.{length-putAt, putAt-nil, putAt-zero, putAt-append, putAt-one}
+use lib.ListN.{length, drop, getD, set, length-set, length-map}
+use Rattle.keys.proofs.PlaceLaws.{length-putAt, putAt-nil, putAt-zero}
 use Rattle.claims.proofs.QuestionLaws.{settle-done, settle-refused}
 use Rattle.rule.specs.Round.{Line}
 use Rattle.rule.specs.Call.{roundBy, deliveryWords, recordWidth, recordsIn}
+use Rattle.text.specs.Decimal.{decimal}
+use Rattle.text.specs.Line.{lineFeed, space, refusedLine}
+use Rattle.text.specs.Put.{putFrom, endFrom, Put}
+use Rattle.text.proofs.DecimalLaws.{length-decimal-most}
+use Rattle.text.proofs.LineLaws.{length-refusedLine}
+use Rattle.text.proofs.PutLaws.{put-one, put-then, put-from}
 use Rattle.rehearsal.specs.declared.answer.Rehearsed.{Rehearsed}
 use Rattle.rehearsal.specs.Rehearsal.{firstBytes, secondBytes, storeIn, rehearseNumber, rehearsed, Rehearsal, roundWords}
-use Rattle.rehearsal.specs.Put.{Put}
-use Rattle.rehearsal.specs.Decimal.{decimal, digitLimit}
-use Rattle.rehearsal.specs.Text.{field, labelled, lineFeed, leftWord, rightWord, claimsWord, refusedWord, letter, lines, lastLine, refusedLine}
+use Rattle.rehearsal.specs.Text.{field, labelled, leftWord, rightWord, claimsWord, letter, lines, lastLine}
 use Rattle.rehearsal.specs.Text.{report, lentRecords, deliveriesOf, printed, fourAt, rowAt, rows, fieldLimit, lineLimit, lastLimit, textLimit}
 use Rattle.rehearsal.proofs.RehearsalLaws.{rehearsed-number, rehearsed-told, deliveries-fit, rehearsedWords-told}
-use Rattle.rehearsal.proofs.PutLaws.{put-one, put-then}
 use Rattle.rehearsal.proofs.TextLaws.{rows-lines}
-
--- ---- bytes one after another
-
-module _ (s : List ℕ) (at : ℕ) where
-  pub bytes-none : s ≡ putAt s at []
-  bytes-none = sym (putAt-nil s at)
-
-  module _ (bs t : List ℕ) (i : ℕ) (so : t ≡ putAt s at (take i bs)) where
-    pub bytes-more : i < length bs → at + length bs ≤ length s → set t (at + i) (getD bs i 0) ≡ putAt s at (take (i + 1) bs)
-    bytes-more h p =
-        let n : length (take i bs) ≡ i = length-take-le i bs (omega arith) in
-        let long : length (putAt s at (take i bs)) ≡ length s = length-putAt s at (take i bs) (omega arith) in
-        rw so
-        (putAt-one (putAt s at (take i bs)) (at + i) (getD bs i 0) (omega arith)
-        ∙ (putAt-append s at (take i bs) (getD bs i 0 ∷ []) i n (omega arith) ∙ rw (add-one, take-suc bs i 0)))
-
-    pub bytes-all : i ≤ length bs → length bs ≤ i → Put s at bs (length bs) (at + i) t
-    bytes-all h k =
-        let e : i ≡ length bs = omega arith in
-        record { end-is = ap (λ n. at + n) e; end-by = omega arith; after-is = so ∙ ap (putAt s at) (take-all i bs k) }
 
 -- ---- the pieces of a line
 
 -- the space, then the digits
-pub field-put : (s t : List ℕ) (n at m : ℕ) → Put (set s at 32) (at + 1) (decimal n) digitLimit m t → at + fieldLimit ≤ length s
-    → Put s at (field n) fieldLimit m t
+pub field-put : (s t : List ℕ) (n at m : ℕ) → m ≡ endFrom (set s at space) (at + 1) (decimal n) → t ≡ putFrom (set s at space) (at + 1) (decimal n)
+    → n < 2 ^ 64 → at + fieldLimit ≤ length s → Put s at (field n) fieldLimit m t
 unfolding field
-field-put s t n at m p h = put-then (put-one s at 32 (omega arith)) p (omega arith) (omega (arith, p .end-by))
+field-put s t n at m e f small h =
+    let long : length (set s at space) ≡ length s = rw length-set in
+    let p = put-from (set s at space) (at + 1) (decimal n) e f (length-decimal-most n small) (omega arith) in
+    put-then (put-one s at space (omega arith)) p (omega arith) (omega (arith, p .end-by))
 
-pub labelled-put : (s t u word : List ℕ) (n at m e : ℕ) → Put s at word (length word) m t → Put t m (field n) fieldLimit e u
-    → at + (length word + fieldLimit) ≤ length s → Put s at (labelled word n) (length word + fieldLimit) e u
-labelled-put s t u word n at m e p q h = put-then p q (omega arith) (omega (arith, p .end-by, q .end-by))
+-- a word: there is room for what follows, and then the field
+module _ (s t word : List ℕ) (at m : ℕ) (e : m ≡ endFrom s at word) (f : t ≡ putFrom s at word) (h : at + (length word + fieldLimit) ≤ length s) where
+  word-put : Put s at word (length word) m t
+  word-put = put-from s at word e f (omega arith) (omega arith)
+
+  pub word-room : m + fieldLimit ≤ length t
+  word-room = rw (word-put .after-is, length-putAt s at word (omega arith)) (omega (arith, word-put .end-is))
+
+  pub labelled-put : (u : List ℕ) (n k : ℕ) → Put t m (field n) fieldLimit k u → Put s at (labelled word n) (length word + fieldLimit) k u
+  labelled-put u n k q = put-then word-put q (omega arith) (omega (arith, word-put .end-by, q .end-by))
 
 -- one field after another
 pub four-put : {s t u v w : List ℕ} {at k l m n : ℕ} (words : List ℕ) (from : ℕ) → Put s at (field (getD words from 0)) fieldLimit k t
@@ -105,23 +96,22 @@ module _ (words : List ℕ) (i n : ℕ) (s t : List ℕ) (m : ℕ) (p : Put s 0 
 pub last-put : {s t u v w : List ℕ} {at k l m n : ℕ} (left right deliveries : ℕ) → Put s at (labelled leftWord left) (4 + fieldLimit) k t
     → Put t k (labelled rightWord right) (6 + fieldLimit) l u
     → Put u l (labelled claimsWord deliveries) (7 + fieldLimit) m v
-    → Put v m lineFeed 1 n w
+    → n ≡ endFrom v m lineFeed
+    → w ≡ putFrom v m lineFeed
     → length t ≡ length s
     → length u ≡ length t
+    → length v ≡ length u
     → at + lastLimit ≤ length s
     → Put s at (lastLine left right deliveries) lastLimit n w
-last-put {s} {t} {u} {v} {w} {at} {k} {l} {m} {n} left right deliveries a b c d e f h =
+last-put {s} {t} {u} {v} {w} {at} {k} {l} {m} {n} left right deliveries a b c ends put e f g h =
     let p = a .end-by in
     let q = b .end-by in
     let r = c .end-by in
+    let d = put-from v m lineFeed {most = 1} ends put (omega arith) (omega arith) in
     let z = d .end-by in
     let third = put-then {xs = labelled claimsWord deliveries} {most = 7 + fieldLimit + 1} c d (omega arith) (omega arith) in
     let second = put-then {xs = labelled rightWord right} {most = 6 + fieldLimit + (7 + fieldLimit) + 1} b third (omega arith) (omega arith) in
     put-then {xs = labelled leftWord left} a second (omega arith) (omega arith)
-
-pub refused-put : (s t u : List ℕ) (number m n : ℕ) → Put s 0 (labelled refusedWord number) (7 + fieldLimit) m t → Put t m lineFeed 1 n u → lastLimit ≤ length s
-    → Put s 0 (refusedLine number) lastLimit n u
-refused-put s t u number m n p q h = put-then {xs = labelled refusedWord number} p q (omega arith) (omega (arith, p .end-by, q .end-by))
 
 -- ---- the whole text
 
@@ -139,10 +129,11 @@ module _ (input lent : List ℕ) (long : length lent ≡ recordWidth * lentRecor
         ap (λ (x : Rehearsed). refusedLine (x .number)) told
         ∙ sym (settle-refused (rehearsed input lentRecords .number) _ refusedLine (λ z. no (ap (λ (x : Rehearsed). x .number) told ∙ z)))
 
-    pub text-refused : (s t : List ℕ) (n : ℕ) → Put s 0 (refusedLine (r .number)) lastLimit n t → Put s 0 (printed input) textLimit n t
-    text-refused s t n p =
-        let q = rw printed-refused at p in
-        record { end-is = q .end-is; end-by = omega (arith, q .end-by); after-is = q .after-is }
+    pub text-refused : (s t : List ℕ) (n : ℕ) → length s ≡ textLimit → r .number < 256 → n ≡ endFrom s 0 (refusedLine (r .number))
+        → t ≡ putFrom s 0 (refusedLine (r .number)) → Put s 0 (printed input) textLimit n t
+    text-refused s t n long small e f =
+        let short = length-refusedLine (r .number) (omega arith) in
+        rw printed-refused at (put-from s 0 (refusedLine (r .number)) {most = textLimit} e f (omega arith) (omega arith))
 
   module _ (yes : r .number ≡ 0) where
     number-zero : rehearsed input lentRecords .number ≡ 0

@@ -9,25 +9,22 @@ use Rattle.claims.specs.Question.{settle}
 use Rattle.rule.specs.declared.delivery.Delivery.{Delivery}
 use Rattle.rule.specs.Round.{transcript}
 use Rattle.rule.specs.Call.{roundBy, recordWidth}
+use Rattle.text.specs.Decimal.{decimal, digitLimit}
+use Rattle.text.specs.Line.{lineFeed, space, refusedLine}
 use Rattle.rehearsal.specs.declared.answer.Rehearsed.{Rehearsed}
-use Rattle.rehearsal.specs.Decimal.{decimal, digitLimit}
 use Rattle.rehearsal.specs.Rehearsal.{firstBytes, secondBytes, storeIn, rehearsed}
 
 -- ---- characters
 
--- the character after every line
-abbrev pub lineFeed : List ℕ
-lineFeed = 10 ∷ []
-
 -- a number, and the space before it
 unfoldable pub field : ℕ → List ℕ
-field n = 32 ∷ decimal n
+field n = space ∷ decimal n
 
 -- a word, and a number after it
 abbrev pub labelled : List ℕ → ℕ → List ℕ
 labelled word n = word ++ field n
 
--- `left`, ` right`, ` claims` and `refused`
+-- `left`, ` right` and ` claims`
 abbrev pub leftWord : List ℕ
 leftWord = 108 ∷ 101 ∷ 102 ∷ 116 ∷ []
 
@@ -36,9 +33,6 @@ rightWord = 32 ∷ 114 ∷ 105 ∷ 103 ∷ 104 ∷ 116 ∷ []
 
 abbrev pub claimsWord : List ℕ
 claimsWord = 32 ∷ 99 ∷ 108 ∷ 97 ∷ 105 ∷ 109 ∷ 115 ∷ []
-
-abbrev pub refusedWord : List ℕ
-refusedWord = 114 ∷ 101 ∷ 102 ∷ 117 ∷ 115 ∷ 101 ∷ 100 ∷ []
 
 -- ---- lines
 
@@ -62,13 +56,9 @@ lines (d ∷ ds) = line d ++ lines ds
 abbrev pub lastLine : ℕ → ℕ → ℕ → List ℕ
 lastLine left right deliveries = labelled leftWord left ++ (labelled rightWord right ++ (labelled claimsWord deliveries ++ lineFeed))
 
--- "or only `refused`, a space and the number"
-abbrev pub refusedLine : ℕ → List ℕ
-refusedLine number = labelled refusedWord number ++ lineFeed
-
 -- ---- the whole text
 
--- the text of an outcome and its deliveries
+-- the text of an outcome and its deliveries: "or only `refused`, a space and the number" (`refusedLine` of `text`)
 unfoldable pub report : Rehearsed → List Delivery → List ℕ
 report r ds = settle (r .number) (lines ds ++ lastLine (r .left) (r .right) (r .deliveries)) refusedLine
 

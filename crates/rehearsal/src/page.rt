@@ -1,28 +1,17 @@
 // What the program prints, put into a buffer piece by piece. Each piece is put where the one before it ended.
 use crate::answer::Rehearsed;
-use crate::digits::put_decimal;
 use crate::run::rehearse;
+use text::put_bytes;
+use text::put_decimal;
+use text::put_refused;
 use transcript::RECORD;
 ghost use mathlib.Core.Path.{_≡_};
 ghost use Prim.Native.Nat.{_+_, _*_, _≤_};
 ghost use lib.ListN.{length};
 ghost use Rattle.rule.specs.Call.{recordWidth};
-ghost use Rattle.rehearsal.specs.Put.{Put};
-ghost use Rattle.rehearsal.specs.Text.{field, labelled, letter, fourAt, rowAt, rows, lastLine, refusedLine};
+ghost use Rattle.text.specs.Put.{Put};
+ghost use Rattle.rehearsal.specs.Text.{field, labelled, letter, fourAt, rowAt, rows, lastLine};
 ghost use Rattle.rehearsal.specs.Text.{lentRecords, printed, fieldLimit, lineLimit, lastLimit, textLimit};
-
-// A run of bytes.
-fn put_bytes(out: &mut [u8], at: usize, bytes: &[u8]) -> usize
-    requires { ⌜ at + length (now bytes) ≤ length (now out) ⌝ }
-    ensures { λ r. ⌜ Put (now (out .entry)) at (now (bytes .entry)) (length (now (bytes .entry))) r (now (out .exit)) ⌝ }
-{
-    let mut i: usize = 0;
-    while i < bytes.len() {
-        out[at + i] = bytes[i];
-        i += 1;
-    }
-    at + i
-}
 
 // A number, and the space before it.
 fn put_field(out: &mut [u8], at: usize, n: u64) -> usize
@@ -97,15 +86,6 @@ fn put_last(out: &mut [u8], at: usize, told: Rehearsed) -> usize
     let right = put_labelled(out, left, b" right", told.right as u64);
     let claims = put_labelled(out, right, b" claims", told.deliveries as u64);
     put_bytes(out, claims, b"\n")
-}
-
-// Only `refused`, a space and the number.
-fn put_refused(out: &mut [u8], number: u8) -> usize
-    requires { ⌜ lastLimit ≤ length (now out) ⌝ }
-    ensures { λ r. ⌜ Put (now (out .entry)) 0 (refusedLine number) lastLimit r (now (out .exit)) ⌝ }
-{
-    let end = put_labelled(out, 0, b"refused", number as u64);
-    put_bytes(out, end, b"\n")
 }
 
 // The words of the records that the program lends.

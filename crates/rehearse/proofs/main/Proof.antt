@@ -1,7 +1,7 @@
 -- `rehearse::main` meets its contract: what is written lies within the text. Assumes nothing.
 use native.Mathlib.Omega.{arith}
 use borrow.Author.Needs.{needs}
-use Rattle.rehearsal.proofs.PutLaws.{put-within}
+use Rattle.text.proofs.PutLaws.{put-within}
 use Rattle.rehearse.proofs.main.Statement.{statement}
 use Rattle.rehearse.proofs.main.Tie as tie
 

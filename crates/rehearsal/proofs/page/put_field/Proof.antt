@@ -1,5 +1,4 @@
 -- `rehearsal::page::put_field` meets its contract: the space, then the digits. Assumes nothing.
-use native.Mathlib.Omega.{arith}
 use mathlib.Core.Path.{_∙_}
 use borrow.Author.Needs.{needs}
 use lib.ListN.{length-set}
@@ -14,13 +13,13 @@ add-put-decimal : tie.Need-add-put-decimal
 add-put-decimal c = search needs
 
 put-decimal-requires : tie.Need-put-decimal-requires
-put-decimal-requires c κs = simp length-set (omega arith)
+put-decimal-requires c κs = search needs
 
 same-length : tie.Need-same-length
 same-length c = c .before .before .put-decimal .kept .0 ∙ simp length-set
 
 returns : tie.Need-returns
-returns c = search field-put
+returns c = search (needs, field-put)
 
 pub put-field-spec : {M : Type 1} → statement M
 put-field-spec =

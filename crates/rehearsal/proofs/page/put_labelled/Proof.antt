@@ -1,6 +1,6 @@
 -- `rehearsal::page::put_labelled` meets its contract: the word, then the field. Assumes nothing.
 use borrow.Author.Needs.{needs}
-use Rattle.rehearsal.proofs.PagePaths.{labelled-put}
+use Rattle.rehearsal.proofs.PagePaths.{word-room, labelled-put}
 use Rattle.rehearsal.proofs.page.put_labelled.Statement.{statement}
 use Rattle.rehearsal.proofs.page.put_labelled.Tie as tie
 
@@ -8,7 +8,7 @@ put-bytes-requires : tie.Need-put-bytes-requires
 put-bytes-requires c κs = search needs
 
 put-field-requires : tie.Need-put-field-requires
-put-field-requires c κs = search needs
+put-field-requires c κs = search word-room
 
 same-length : tie.Need-same-length
 same-length c = search needs

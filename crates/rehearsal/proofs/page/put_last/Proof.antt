@@ -50,8 +50,8 @@ returns c =
     let r = third d in
     let q = second r in
     let p = first q in
-    last-put _ _ _ (p .put-labelled .ensures) (q .put-labelled2 .ensures) (r .put-labelled3 .ensures) (d .put-bytes .ensures)
-    (p .put-labelled .kept .0) (q .put-labelled2 .kept .0) (given p .pre)
+    last-put _ _ _ (p .put-labelled .ensures) (q .put-labelled2 .ensures) (r .put-labelled3 .ensures) (d .put-bytes .ensures .0) (d .put-bytes .ensures .1)
+    (p .put-labelled .kept .0) (q .put-labelled2 .kept .0) (r .put-labelled3 .kept .0) (given p .pre)
 
 pub put-last-spec : {M : Type 1} → statement M
 put-last-spec =

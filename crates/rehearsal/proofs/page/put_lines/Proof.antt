@@ -3,7 +3,7 @@ use Prim.Native.Nat.{_-_, _*_, _≤_}
 use mathlib.Core.Path.{_≡_}
 use borrow.Author.Needs.{needs}
 use lib.ListN.{length}
-use Rattle.rehearsal.specs.Put.{Put}
+use Rattle.text.specs.Put.{Put}
 use Rattle.rehearsal.specs.Text.{rows, lineLimit}
 use Rattle.rehearsal.proofs.PagePaths.{rows-none, rows-more, rows-all}
 use Rattle.rehearsal.proofs.page.put_lines.Statement.{statement}

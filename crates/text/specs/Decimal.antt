@@ -1,5 +1,5 @@
 -- Numbers as text: "Written numbers have base ten" (document 01, the opening paragraph), in ASCII. The number zero is one digit; no other begins
--- with 0. Not here: the lines (Text). Assumes nothing.
+-- with 0. Not here: lines (Line). Assumes nothing.
 use Prim.Native.Nat.{ℕ, zero, suc, _+_, _-_, _*_, _/_, _%_, _^_}
 use mathlib.Core.Bool.{cond}
 use mathlib.Core.List.{List, [], _∷_, _++_}
@@ -18,6 +18,10 @@ decimalIn (suc turns) n = cond (ltb n 10) (digit n ∷ []) (decimalIn turns (n /
 -- the text of a number: a number has fewer digits than its value has units, so this cuts nothing off (`decimal-step` of proofs/DecimalLaws)
 unfoldable pub decimal : ℕ → List ℕ
 decimal n = decimalIn n n
+
+-- the two digits of a number below 100
+abbrev pub pairDigits : ℕ → List ℕ
+pairDigits n = digit (n / 10) ∷ digit (n % 10) ∷ []
 
 -- the digits that a 64-bit number has at most
 abbrev pub digitLimit : ℕ

@@ -1,12 +1,12 @@
--- `rehearsal::page::put_bytes` meets its contract. The invariant: the bytes passed stand at their place. Assumes nothing.
+-- `text::bytes::copy_to` meets its contract. The invariant: the bytes passed stand at their place. Assumes nothing.
+use borrow.Author.Needs.{needs}
 use Prim.Native.Nat.{_-_, _≤_}
 use mathlib.Core.Path.{_≡_}
-use borrow.Author.Needs.{needs}
 use lib.ListN.{length, take}
 use Rattle.keys.specs.Place.{putAt}
-use Rattle.rehearsal.proofs.PagePaths.{bytes-none, bytes-more, bytes-all}
-use Rattle.rehearsal.proofs.page.put_bytes.Statement.{statement}
-use Rattle.rehearsal.proofs.page.put_bytes.Tie as tie
+use Rattle.text.proofs.BytesPaths.{bytes-none, bytes-more, bytes-all}
+use Rattle.text.proofs.bytes.copy_to.Statement.{statement}
+use Rattle.text.proofs.bytes.copy_to.Tie as tie
 
 abbrev Inv-loop : tie.InvT-loop
 Inv-loop out₀ at bytes i₀ out i = (i ≤ length bytes) × (length out ≡ length out₀) × (out ≡ putAt out₀ at (take i bytes))
@@ -35,17 +35,14 @@ loop-less c = search needs
 loop-again : tie.Need-loop-again Inv-loop μ-loop
 loop-again c = search (needs, bytes-more)
 
-add-result : tie.Need-add-result Inv-loop μ-loop
-add-result c = search needs
-
 same-length : tie.Need-same-length Inv-loop μ-loop
 same-length c = search needs
 
 returns : tie.Need-returns Inv-loop μ-loop
 returns c = search bytes-all
 
-pub put-bytes-spec : {M : Type 1} → statement M
-put-bytes-spec =
+pub copy-to-spec : {M : Type 1} → statement M
+copy-to-spec =
     tie.close
     (tie.spec
     Inv-loop
@@ -57,6 +54,5 @@ put-bytes-spec =
     add-i
     loop-less
     loop-again
-    add-result
     same-length
     returns)

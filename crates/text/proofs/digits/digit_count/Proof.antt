@@ -1,13 +1,13 @@
--- `rehearsal::digits::digit_count` meets its contract. The invariant: the digits counted and those of the rest are one more than the number's.
+-- `text::digits::digit_count` meets its contract. The invariant: the digits counted and those of the rest are one more than the number's.
 -- Assumes nothing.
 use Prim.Native.Nat.{_+_, _≤_}
 use native.Mathlib.Omega.{arith}
 use mathlib.Core.Path.{_≡_}
 use lib.ListN.{length}
-use Rattle.rehearsal.specs.Decimal.{decimal, digitLimit}
-use Rattle.rehearsal.proofs.DecimalLaws.{length-decimal-digit, length-decimal-step, length-decimal-some, length-decimal-most}
-use Rattle.rehearsal.proofs.digits.digit_count.Statement.{statement}
-use Rattle.rehearsal.proofs.digits.digit_count.Tie as tie
+use Rattle.text.specs.Decimal.{decimal, digitLimit}
+use Rattle.text.proofs.DecimalLaws.{length-decimal-digit, length-decimal-step, length-decimal-some, length-decimal-most}
+use Rattle.text.proofs.digits.digit_count.Statement.{statement}
+use Rattle.text.proofs.digits.digit_count.Tie as tie
 
 abbrev Inv-loop : tie.InvT-loop
 Inv-loop n rest₀ count₀ rest count = (count + length (decimal rest) ≡ length (decimal n) + 1) × (length (decimal n) ≤ digitLimit)
