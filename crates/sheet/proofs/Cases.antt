@@ -1,0 +1,15 @@
+-- The worked sheets hold, as one table (`table` of specs/Cases), by computing both columns; and the sizes that the request names come out. Assumes nothing.
+use mathlib.Core.List.{map}
+use mathlib.Core.Path.{_≡_, refl}
+use Rattle.text.specs.Decimal.{decimal, decimalIn}
+use Rattle.text.specs.Groups.{inGroups}
+use Rattle.sheet.specs.Sheet.{spaces, rightAligned, field, row, padded, headLine, rows, sheetLines, sheetLength}
+use Rattle.sheet.specs.Cases.{Row, table}
+
+pub sheets-hold : map (λ (r : Row). r .gives) table ≡ map (λ (r : Row). r .wanted) table
+unfolding decimal decimalIn inGroups spaces rightAligned field row padded headLine rows sheetLines
+sheets-hold = refl
+
+-- a line is 62 characters and a line feed; a full store of 1,024 keys takes 9 pages
+pub sheet-sizes : (sheetLength 0 ≡ 63) × (sheetLength 3 ≡ 126) × (sheetLength 120 ≡ 2583) × (sheetLength 121 ≡ 2709) × (sheetLength 1024 ≡ 22113)
+sheet-sizes = (refl, refl, refl, refl, refl)
