@@ -11,6 +11,7 @@
 --   EnterPaths  src/enter.rt: a key entered into a node in order
 --   SavePaths   src/save.rt: the end of a call that writes one image
 --   LibPaths    src/lib.rt: what the host calls return
+--   SheetPaths  src/lib.rt: the wall sheet of an image
 --   Fitting     numbers that fit their widths in bytes
 --   Trips       what the daemon is given back is what the next call takes
 pub mod Cases
@@ -24,5 +25,6 @@ mod Beats
 mod EnterPaths
 mod SavePaths
 mod LibPaths
+mod SheetPaths
 mod Fitting
 pub mod Trips

@@ -1,6 +1,6 @@
 -- What the host calls return, one law for each way that the code goes. In order: what reading tells; every question has a number; an image that was loaded:
 -- counting, taking a frame, entering a key; a beat. Not here: the end of a call that writes one image (SavePaths). Assumes nothing.
-use Prim.Native.Nat.{ℕ, _≤_, _<_}
+use Prim.Native.Nat.{ℕ, _^_, _≤_, _<_}
 use native.Mathlib.Omega.{arith}
 use mathlib.Core.Bool.{true, false, cond, not}
 use mathlib.Core.List.{List, [], _∷_, _++_}
@@ -124,15 +124,14 @@ module _ (image : List ℕ) {keys : List ℕ} {r : Rest} (loaded : Loaded image 
     pub loaded-ordered : Ordered (nodeIn image)
     loaded-ordered = subst Ordered (loaded .node read) (nodeInOrder-ordered (nodeHeld keys r) (loaded .sound .ordered read))
 
-    loaded-held : r .held ≡ length (nodeKeys (nodeIn image))
+    pub loaded-held : r .held ≡ length (nodeKeys (nodeIn image))
     loaded-held = rw (← loaded .node read)
         (sym (length-keysOf (nodeHeld keys r .store) (loaded .sound .long) (nodeInOrder-ordered (nodeHeld keys r) (loaded .sound .ordered read) .store)))
 
-    loaded-few : r .held ≤ limit
+    pub loaded-few : r .held ≤ limit
     loaded-few = inOrder-count (nodeHeld keys r .store) (nodeInOrder-ordered (nodeHeld keys r) (loaded .sound .ordered read) .store)
 
-    -- a count is no greater than an image's length
-    pub loaded-small : r .held ≤ imageLimit
+    pub loaded-small : r .held < 2 ^ 63
     loaded-small = omega (arith, loaded-few)
 
     pub counted-yes : {z : ℤ} → z ≡ pos (r .held) → toZ w64 (ofZ w64 z) ≡ imageCounted image
@@ -140,7 +139,7 @@ module _ (image : List ℕ) {keys : List ℕ} {r : Rest} (loaded : Loaded image 
     counted-yes e = returned e (fits-pos (r .held) loaded-small) ∙ rw (← loaded .number, read, loaded-held)
 
     -- what is asked behind 14 and 1
-    past-image : (b : List Question) → firstNo (readImageQuestions image ++ b) ≡ firstNo b
+    pub past-image : (b : List Question) → firstNo (readImageQuestions image ++ b) ≡ firstNo b
     past-image b = firstNo-append-zero (readImageQuestions image) b (image-numbered image) (sym (loaded .number) ∙ read)
 
     -- ---- taking a frame

@@ -1,6 +1,6 @@
 -- The end of a call that writes one image (src/save.rt). In order: what is known where a question was answered no; the longest image has room for any; one law
 -- for each way that the code goes; the questions put so far come to the same as one and one by one. Assumes nothing.
-use Prim.Native.Nat.{ℕ, _≤_, _<_}
+use Prim.Native.Nat.{ℕ, _^_, _≤_, _<_}
 use native.Mathlib.Omega.{arith}
 use mathlib.Core.Bool.{true}
 use mathlib.Core.List.{List, [], _∷_}
@@ -44,14 +44,14 @@ writeImageIn-room n shaped ordered out h =
     let l = image-at-most n shaped ordered in
     writeImageIn-0 n out (ordered-withinLimits n out (shaped .keys) ordered) (omega arith)
 
--- .. and then its length is at most that
+-- .. and then its length is small
 pub written-length : (n : Node) → Shaped n → nodeInOrder n ≡ true → (out : List ℕ) → imageLimit ≤ length out
     → {w : Length} → w ≡ writeImageIn n (length out) → w .length ≡ length (nodeBytes n)
 written-length n shaped ordered out h e = ap (λ (x : Length). x .length) (e ∙ sym (writeImageIn-room n shaped ordered out h .0))
 
 pub written-most : (n : Node) → Shaped n → nodeInOrder n ≡ true → (out : List ℕ) → imageLimit ≤ length out
-    → {w : Length} → w ≡ writeImageIn n (length out) → w .length ≤ imageLimit
-written-most n shaped ordered out h e = rw (written-length n shaped ordered out h e) (image-at-most n shaped ordered)
+    → {w : Length} → w ≡ writeImageIn n (length out) → w .length < 2 ^ 63
+written-most n shaped ordered out h e = let most = image-at-most n shaped ordered in rw (written-length n shaped ordered out h e) (omega arith)
 
 -- ---- the ways of the code: z is what a function above returned, handed on
 
@@ -78,7 +78,7 @@ module _ {keys : List ℕ} {r : Rest} {out : List ℕ} {z : ℤ} where
     saved-0 shaped ordered room written e f =
         let yes = le-leb imageLimit (length out) room in
         let long = written-length (nodeHeld keys r) shaped ordered out room written in
-        let fit = fits-pos _ (image-at-most (nodeHeld keys r) shaped ordered) in
+        let fit = fits-pos (length (nodeBytes (nodeHeld keys r))) (omega (arith, image-at-most (nodeHeld keys r) shaped ordered)) in
         let result = returned (e ∙ ap pos long) fit in
         let image = f ∙ sym (writeImageIn-room (nodeHeld keys r) shaped ordered out room .1) in
         record { returned = result ∙ rw (none, yes); fits = subst (SFits w64) (sym result) fit; left = image ∙ rw (none, yes) }

@@ -1,12 +1,11 @@
 -- Numbers as signed ones of 64 bits: a length stays what it is, and a question's number is turned round. Assumes nothing.
-use Prim.Native.Nat.{ℕ, zero, suc, _≤_, _<_}
+use Prim.Native.Nat.{ℕ, zero, suc, _^_, _<_}
 use native.Mathlib.Omega.{arith}
 use mathlib.Core.Path.{_≡_, ap, subst, sym, _∙_}
 use lib.IntN.{ℤ, pos, _-ℤ_, +ℤ-idl}
 use mir.Syntax.{w64}
 use mir.Val.{SFits, toZ, ofZ}
 use mir.Facts.{toZ-ofZ, toZ-pos}
-use Rattle.wire.specs.Image.{imageLimit}
 use Rattle.host.specs.Call.{minus}
 
 -- a signed result, as the machine reads it back
@@ -17,7 +16,7 @@ returned e f = rw e (toZ-ofZ {w = w64} f)
 pub handed-on : {z y : ℤ} → z ≡ y → SFits w64 z → toZ w64 (ofZ w64 z) ≡ y
 handed-on e f = toZ-ofZ {w = w64} f ∙ e
 
-pub fits-pos : (n : ℕ) → n ≤ imageLimit → SFits w64 (pos n)
+pub fits-pos : (n : ℕ) → n < 2 ^ 63 → SFits w64 (pos n)
 fits-pos n h = record { sfits = omega arith }
 
 pub fits-minus : (n : ℕ) → n < 256 → SFits w64 (minus n)

@@ -13,6 +13,8 @@ use Rattle.rule.specs.Table.{serve, sending}
 use Rattle.rule.specs.Question.{question15}
 use Rattle.wire.specs.Frame.{frameClaims, readFrameQuestions}
 use Rattle.wire.specs.Image.{imageLimit, nodeBytes, readImageQuestions, readImage}
+use Rattle.sheet.specs.Sheet.{sheetText}
+use Rattle.sheet.specs.Call.{sheetQuestion15}
 use Rattle.host.specs.Taking.{questions6, takenInTurn}
 use Rattle.host.specs.Frames.{framesBytes, framesLimit}
 
@@ -28,6 +30,20 @@ nodeIn image = readImage image .node
 
 unfoldable pub imageCounted : List ℕ → ℤ
 imageCounted image = settle (firstNo (readImageQuestions image)) (pos (length (nodeKeys (nodeIn image)))) minus
+
+-- ---- an image whose wall sheet is written (document 02, slip 4): the keys that it holds. Asks 14 and 1, and 15 for the sheet's own length.
+
+abbrev pub sheetOf : List ℕ → List ℕ
+sheetOf image = sheetText (nodeKeys (nodeIn image))
+
+abbrev pub sheetQuestions : List ℕ → ℕ → List Question
+sheetQuestions image room = readImageQuestions image ++ (sheetQuestion15 (nodeKeys (nodeIn image)) room ∷ [])
+
+unfoldable pub imageSheet : List ℕ → ℕ → ℤ
+imageSheet image room = settle (firstNo (sheetQuestions image room)) (pos (length (sheetOf image))) minus
+
+unfoldable pub imageSheetOut : List ℕ → List ℕ → List ℕ
+imageSheetOut image out = settle (firstNo (sheetQuestions image (length out))) (putAt out 0 (sheetOf image)) (λ k. out)
 
 -- ---- an image that is written: after the questions of a call comes 15 ("the frame host call needs 9,860"), and then a node's image goes to the front of a
 -- buffer and its length is returned, or minus the number and the buffer is as it was

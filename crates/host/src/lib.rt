@@ -1,4 +1,4 @@
-// What the kiosk daemon links: four calls on images and frames (document 01, "Host calls").
+// What the kiosk daemon links: five calls on images and frames (document 01, "Host calls"; document 02, slip 4).
 mod enter;
 mod load;
 mod save;
@@ -15,10 +15,12 @@ use crate::sign::minus;
 use crate::sign::size;
 use crate::turn::taken_from;
 use keys::Store;
+use sheet::write_sheet_in;
 use wire::Imaged;
 ghost use mathlib.Core.Path.{_≡_};
 ghost use lib.ListN.{length};
-ghost use Rattle.host.specs.Call.{imageCounted, frameTaken, frameTakenOut, keyEntered, keyEnteredOut, imageBeaten, imageBeatenOut, imageBeatenFrames};
+ghost use Rattle.host.specs.Call.{imageCounted, imageSheet, imageSheetOut, frameTaken, frameTakenOut, keyEntered, keyEnteredOut};
+ghost use Rattle.host.specs.Call.{imageBeaten, imageBeatenOut, imageBeatenFrames};
 
 // Takes an image and a frame, takes each claim in turn, writes the new image to the front of `out` and returns its length; or minus the number of the
 // first question answered no, and then nothing is written. Asks 14, 1, 10 to 13, 6 claim by claim, and 15.
@@ -55,6 +57,27 @@ pub extern "C" fn minutefrost_count(image: &[u8]) -> i64
         return minus(read.number);
     }
     size(read.held)
+}
+
+// Takes an image, writes the wall sheet of the keys that it holds to the front of `out` and returns its length; or minus the number of the first question
+// answered no, and then nothing is written. Asks 14, 1, and 15 for the sheet's own length.
+#[no_mangle]
+pub extern "C" fn minutefrost_sheet(image: &[u8], out: &mut [u8]) -> i64
+    ensures { λ r. ⌜ (r ≡ imageSheet (now (image .entry)) (length (now (out .entry))))
+        × (now (out .exit) ≡ imageSheetOut (now (image .entry)) (now (out .entry))) ⌝ }
+{
+    let mut keys = [0; Store::LIMIT];
+    let read = load(image, &mut keys);
+    if read.number != 0 {
+        return minus(read.number);
+    }
+    let held = read.held;
+    let places = &keys[..];
+    let written = write_sheet_in(&places[..held], out);
+    if written.number != 0 {
+        return minus(written.number);
+    }
+    size(written.length)
 }
 
 // Takes an image, runs a beat, writes the new image to the front of `out` and the claims to the front of `frames`, four to a frame and the rest in a last
