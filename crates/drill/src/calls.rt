@@ -57,19 +57,28 @@ fn needed(call: u64) -> usize {
         card::PAST_NODE, // ordered
         card::RIGHT, // Store::empty
         card::PAST_BOTH, // round_record
+        card::RIGHT, // write_sheet
     ];
-    if call < 16 {
+    if call < 17 {
         return by_number[call as usize];
     }
     usize::MAX
 }
 
-// Makes one call, if there is one of this number and all that it needs is there. Calls 8 to 12 are lent the first of the bytes.
+// Whether a call is lent the first of the bytes.
+fn lent_bytes(call: u64) -> bool {
+    if call == 16 {
+        return true;
+    }
+    8 <= call && call <= 12
+}
+
+// Makes one call, if there is one of this number and all that it needs is there.
 fn make_call(call: u64, words: &mut [u64; MOST], n: usize, bytes: &mut [u8]) -> Said {
     if n < needed(call) {
         return Said::NOTHING;
     }
-    if call < 8 || 12 < call {
+    if !lent_bytes(call) {
         return on_words(call, words, n);
     }
     let lent = get(words, card::SECOND) as usize;
@@ -100,7 +109,8 @@ fn on_bytes(call: u64, words: &mut [u64; MOST], lent: &mut [u8]) -> Said {
         9 => write_frame(words, lent),
         10 => read_image(words, lent),
         11 => write_image(words, lent),
-        _ => image_length(lent),
+        12 => image_length(lent),
+        _ => write_sheet(words, lent),
     }
 }
 
@@ -301,6 +311,16 @@ fn image_length(lent: &[u8]) -> Said {
         made: true,
         number: told.number,
         count: told.length,
+    }
+}
+
+fn write_sheet(words: &[u64; MOST], lent: &mut [u8]) -> Said {
+    let store = card::store_at(words, card::LEFT);
+    let written = sheet::write_sheet(store, lent);
+    Said {
+        made: true,
+        number: written.number,
+        count: written.length,
     }
 }
 

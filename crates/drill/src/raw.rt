@@ -3,8 +3,11 @@ ghost use Prim.Native.Nat.{_≤_};
 ghost use lib.ListN.{length};
 ghost use mathlib.Core.Path.{_≡_};
 
-// The most words, and the most bytes, of a request.
+// The most words of a request.
 pub const MOST: usize = 16384;
+
+// The most bytes of a request: a sheet is longer than anything else that is lent.
+pub const BYTES: usize = 65536;
 
 // The bytes of so many words, and of the mark before a reply's.
 const SPACE: usize = 8 * MOST + 1;
