@@ -1,9 +1,10 @@
 //! The host calls, on numbers and byte slices (document 01, "Frame and
 //! image").
 //!
-//! Document 01 names two of them, [`take_frame`] and [`beat`]. By the other two
-//! a daemon enters a key, as document 01 enters one into a store, and learns
-//! how many keys an image holds.
+//! Document 01 names two of them, [`take_frame`] and [`beat`]. By the other
+//! three a daemon enters a key, as document 01 enters one into a store, learns
+//! how many keys an image holds, and lays them out as the wall sheet (document
+//! 02, slip 4).
 //!
 //! An image with pending claims that fail 16 "is written back without" them
 //! (document 02, slip 2) by each call that writes one.
@@ -11,6 +12,7 @@
 use crate::frame::{FRAME_CLAIMS, claims_of_frame, put_frame};
 use crate::image::{IMAGE_MOST, node_of_image, put_image};
 use crate::questions::{self, Asked, ask};
+use crate::sheet::{put_sheet, sheet_length};
 
 /// The bytes of a beat's frames: "129 claims' worth (3,486 bytes)".
 pub const BEAT_FRAMES: usize = 3_486;
@@ -18,7 +20,7 @@ pub const BEAT_FRAMES: usize = 3_486;
 /// A length or a count, or minus the number.
 fn answer(found: Asked<usize>) -> i64 {
     match found {
-        // At most 9,860.
+        // At most the length of the longest sheet.
         Ok(found) => found as i64,
         Err(number) => -i64::from(number),
     }
@@ -93,4 +95,20 @@ fn try_enter(image: &[u8], key: u64, out: &mut [u8]) -> Asked<usize> {
 /// How many keys an image holds, or minus the number. Asks 14 and 1.
 pub fn count(image: &[u8]) -> i64 {
     answer(node_of_image(image).map(|node| node.store.keys().len()))
+}
+
+/// Writes the wall sheet of the keys of an image and returns its length, or
+/// minus the number. Whatever is pending isn't on it.
+///
+/// Asks 14 and 1 of the image, then 15, which "wants the sheet's own length of
+/// lent output" (document 02, slip 4).
+pub fn sheet(image: &[u8], out: &mut [u8]) -> i64 {
+    answer(try_sheet(image, out))
+}
+
+fn try_sheet(image: &[u8], out: &mut [u8]) -> Asked<usize> {
+    let store = node_of_image(image)?.store;
+    let needs = [(out.len(), sheet_length(store.keys().len()))];
+    ask(15, questions::q15_outputs_long_enough(&needs))?;
+    Ok(put_sheet(store.keys(), out))
 }

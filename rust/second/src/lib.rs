@@ -1,6 +1,7 @@
-//! Document 01 and slips 1 and 2 of document 02 in plain Rust, written from
-//! these and the paper alone; beyond them are two host calls, [`host::enter`]
-//! and [`host::count`].
+//! Document 01 and slips 1, 2 and 4 of document 02 in plain Rust, written from
+//! these and the paper alone; slip 3 changed nothing that is seen. Three host
+//! calls are beyond document 01: [`host::enter`], [`host::count`] and, with the
+//! program [`wallsheet()`], [`host::sheet`] for the wall sheet of slip 4.
 //!
 //! This is the second program of document 01 ("the rest, with random stores,
 //! run against a second program"): it shares no code, table or constant with
@@ -25,7 +26,9 @@ mod node;
 pub mod questions;
 mod rehearse;
 mod round;
+mod sheet;
 mod store;
+mod wallsheet;
 
 pub use claim::Claim;
 pub use frame::{CLAIM_BYTES, FRAME_MOST, FrameRead, MARK, VERSION, read_frame, write_frame};
@@ -33,4 +36,6 @@ pub use image::{IMAGE_MOST, ImageRead, Length, image_length, read_image, write_i
 pub use node::{BEAT_PLACES, Beaten, PENDING, RawNode, Taken, beat, take};
 pub use rehearse::{REHEARSAL_RECORDS, rehearse};
 pub use round::{Delivery, Rounded, is_false_match, round, round_watched};
+pub use sheet::{SHEET_MOST, write_sheet};
 pub use store::{Entered, Made, RawStore, Replied, Reply, enter, make, reply};
+pub use wallsheet::wallsheet;

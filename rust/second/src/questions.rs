@@ -16,6 +16,7 @@ use crate::host::BEAT_FRAMES;
 use crate::image::{IMAGE_MOST, front_length, length_of_counts, node_of_image};
 use crate::node::{BEAT_PLACES, PENDING, RawNode};
 use crate::rehearse::REHEARSAL_RECORDS;
+use crate::sheet::sheet_length;
 use crate::store::RawStore;
 
 /// A value, or the number of the first question answered no.
@@ -276,6 +277,14 @@ pub fn of_write_image(node: &RawNode, out: usize) -> Asked {
     ask(15, q15_outputs_long_enough(&[(out, need)]))
 }
 
+/// 1, 15: it "wants the sheet's own length of lent output" (document 02, slip
+/// 4).
+pub fn of_write_sheet(store: &RawStore, out: usize) -> Asked {
+    ask(1, q1_store_in_order(store))?;
+    let need = sheet_length(store.count);
+    ask(15, q15_outputs_long_enough(&[(out, need)]))
+}
+
 /// 14, of an image with anything behind it.
 pub fn of_image_length(bytes: &[u8]) -> Asked {
     front_length(bytes).map(drop)
@@ -322,6 +331,13 @@ pub fn of_host_enter(image: &[u8], key: u64, out: usize) -> Asked {
 /// 14, 1.
 pub fn of_host_count(image: &[u8]) -> Asked {
     of_read_image(image)
+}
+
+/// 14, 1, 15, of the sheet's own length.
+pub fn of_host_sheet(image: &[u8], out: usize) -> Asked {
+    let node = node_of_image(image)?;
+    let need = sheet_length(node.store.keys().len());
+    ask(15, q15_outputs_long_enough(&[(out, need)]))
 }
 
 /// 14 and 1 of the first image, 14 and 1 of the second, 8, 9.
