@@ -3,6 +3,7 @@
 --   Cases        worked sheets
 --   LineLaws     one line (specs/Sheet)
 --   SheetLaws    lines, pages and the text of a sheet: `sheet-lines`, every line has 62 characters and a line feed
+--   TellsLaws    the sheet tells the keys: `sheet-tells-keys`
 --   CallLaws     what the calls tell (specs/Call)
 -- The laws of the code, cited by its proofs alone.
 --   LayoutPaths  src/layout.rt
@@ -11,6 +12,7 @@
 pub mod Cases
 pub mod LineLaws
 pub mod SheetLaws
+pub mod TellsLaws
 pub mod CallLaws
 mod LayoutPaths
 mod CallPaths
