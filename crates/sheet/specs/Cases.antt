@@ -1,11 +1,16 @@
 -- Worked sheets, as they hang on the wall: stores of no key, of one to four, and of as many as fill a page and one more, of which the lines are given that tell
--- where pages begin and end. That each row gives what is wanted is one law (`sheets-hold` of proofs/Cases), by computing. Assumes nothing.
-use Prim.Native.Nat.{ℕ, zero, suc, _+_, _-_}
+-- where pages begin and end; then what the call returns. That each row gives what is wanted is one law for each table, in proofs/Cases, by computing.
+-- Assumes nothing.
+use Prim.Native.Nat.{ℕ, zero, suc, _+_}
 use Prim.Native.Char.{code}
 use Prim.Native.String.{String, charAt}
 use mathlib.Core.List.{List, [], _∷_, _++_}
-use lib.ListN.{length, drop, take}
+use lib.ListN.{drop, take}
+use Rattle.keys.specs.declared.store.Store.{Store}
+use Rattle.keys.specs.Store.{storeOf}
+use Rattle.wire.specs.declared.answer.Length.{Length}
 use Rattle.sheet.specs.Sheet.{lineWidth, pageKeys, sheetLines}
+use Rattle.sheet.specs.Call.{writeSheet}
 
 -- the first n characters of a text, by their codes
 abbrev pub codes : ℕ → String → List ℕ
@@ -28,7 +33,7 @@ whole l ls = record { gives = sheetLines l; wanted = ls }
 abbrev pub part : List ℕ → ℕ → ℕ → List (List ℕ) → Row
 part l from n ls = record { gives = take n (drop from (sheetLines l)); wanted = ls }
 
--- the keys n - 1 to 0 below a number, rising
+-- the keys below a number
 abbrev pub below : ℕ → List ℕ
 below zero = []
 below (suc n) = below n ++ (n ∷ [])
@@ -67,4 +72,26 @@ table =
     ∷ written "page    2 of    2                                             "
     ∷ written "                 120                                          "
     ∷ [])
+    ∷ []
+
+-- ---- what `write_sheet` returns: of a store and so many places of a lent buffer, the number and the length
+
+pub record Called : Type 0 where
+  pub gives : Length
+  pub wanted : Length
+
+abbrev pub tells : Store → ℕ → ℕ → ℕ → Called
+tells s room number length = record { gives = writeSheet s room; wanted = record { number = number; length = length } }
+
+abbrev pub calls : List Called
+calls =
+    -- "15 wants the sheet's own length of lent output, and that length is returned."
+    tells (storeOf []) 62 15 0
+    ∷ tells (storeOf []) 63 0 63
+    ∷ tells (storeOf (1 ∷ 2 ∷ 3 ∷ [])) 125 15 0
+    ∷ tells (storeOf (1 ∷ 2 ∷ 3 ∷ [])) 126 0 126
+    ∷ tells (storeOf (1 ∷ 2 ∷ 3 ∷ 4 ∷ [])) 10000 0 189
+    -- a store out of order gets 1, whatever is lent
+    ∷ tells (storeOf (2 ∷ 1 ∷ [])) 0 1 0
+    ∷ tells (storeOf (1 ∷ 1 ∷ [])) 10000 1 0
     ∷ []
