@@ -5,12 +5,17 @@
  * each, rising), pending count (2 bytes), pending claims (26 each, rising by
  * cnt, then lo, hi, sum). A frame is what kiosks send: hex 4C 43, version 1,
  * n from 1 to 4, n claims of 26 bytes (lo 8, hi 8, sum 8, cnt 2). Numbers are
- * unsigned, high byte first.
+ * unsigned, high byte first. A sheet is what staff pin up: the keys as text.
  *
  * Each buffer is a pointer and then a length. The pointers are not null, even
  * if the length is 0, and what is written overlaps nothing else. The calls
  * read and write nothing but these bytes, keep no state, allocate nothing and
  * may run on several threads at once, on stacks of at least 128 KB each.
+ *
+ * A buffer to write an image to has at least MINUTEFROST_IMAGE_MOST bytes, and
+ * one for the frames of a beat MINUTEFROST_BEAT_FRAMES, however little will be
+ * written. One for a sheet has at least the bytes of that sheet;
+ * MINUTEFROST_SHEET_MOST are enough for any.
  *
  * A kiosk begins with an image of four zeros: no key, nothing pending. Frames
  * may be lost, repeated, delayed and reordered.
@@ -42,7 +47,7 @@
 #include <stddef.h>
 #include <stdint.h>
 
-/* The bytes of the longest image: what `out` needs. */
+/* The bytes of the longest image: what `out` needs, but for a sheet. */
 #define MINUTEFROST_IMAGE_MOST 9860
 
 /* The bytes of the most that a beat sends: what `frames` needs. */
@@ -50,6 +55,9 @@
 
 /* The bytes of the longest frame. */
 #define MINUTEFROST_FRAME_MOST 108
+
+/* The bytes of the longest sheet. */
+#define MINUTEFROST_SHEET_MOST 22113
 
 #ifdef __cplusplus
 extern "C" {
@@ -85,6 +93,20 @@ int64_t minutefrost_beat(const uint8_t *image, size_t image_len,
  * Asks 14, 1: so this tells whether bytes are an image at all.
  */
 int64_t minutefrost_count(const uint8_t *image, size_t image_len);
+
+/*
+ * Lays out the keys of an image for the wall, writes the sheet to the front of
+ * `out` and returns its length. Every line has 62 characters, all ASCII, and a
+ * line feed; no zero byte is written behind the last. It has up to three keys
+ * in base ten, rising, each right-aligned in 20 characters, with a space
+ * between them; what isn't used is spaces. A page has 40 lines, the last page
+ * only those it needs, and above each page stands a head line, which begins as
+ * "page    1 of    9" does. An image without keys makes one page with its head
+ * line only. Pending claims aren't on the sheet. Asks 14, 1, and 15 for the
+ * bytes of this sheet.
+ */
+int64_t minutefrost_sheet(const uint8_t *image, size_t image_len,
+                          uint8_t *out, size_t out_len);
 
 #ifdef __cplusplus
 }

@@ -1,4 +1,4 @@
-//! The archive's four calls, and the only unsafe code of this crate.
+//! The archive's five calls, and the only unsafe code of this crate.
 //!
 //! A slice passes as a pointer and then a length. The calls are proved to read
 //! and write within the slices they are given, to keep nothing of them, and to
@@ -33,6 +33,13 @@ mod c {
         ) -> i64;
 
         pub fn minutefrost_count(image: *const u8, image_len: usize) -> i64;
+
+        pub fn minutefrost_sheet(
+            image: *const u8,
+            image_len: usize,
+            out: *mut u8,
+            out_len: usize,
+        ) -> i64;
     }
 }
 
@@ -88,4 +95,11 @@ pub fn count(image: &[u8]) -> i64 {
     // SAFETY: the pointer comes with the length of its slice, and nothing is
     // written.
     unsafe { c::minutefrost_count(image.as_ptr(), image.len()) }
+}
+
+/// The sheet's length, or minus the number of the refusal.
+pub fn sheet(image: &[u8], out: &mut [u8]) -> i64 {
+    // SAFETY: each pointer comes with the length of its slice, and the slice
+    // that is written doesn't overlap the one that is read.
+    unsafe { c::minutefrost_sheet(image.as_ptr(), image.len(), out.as_mut_ptr(), out.len()) }
 }

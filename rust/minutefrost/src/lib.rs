@@ -4,7 +4,7 @@
 //! bytes that lies on its card: the slip keys it holds and the claims that
 //! wait for an answer. A new kiosk has [`EMPTY_IMAGE`]. What kiosks send each
 //! other are *frames* of at most [`FRAME_MOST`] bytes, one to four claims in
-//! each. A daemon does four things, at any time and in any order:
+//! each. A daemon does five things, at any time and in any order:
 //!
 //! - A book was lent or came back: [`enter`] gives the image with the slip's
 //!   key in it.
@@ -12,9 +12,11 @@
 //! - Every now and then: [`beat`] gives the image after a beat, and the
 //!   [`frames`] to send.
 //! - Someone asks what the kiosk holds: [`keys`] gives the keys in order.
+//! - Staff pin up what it holds: [`sheet`] gives the keys as text, by pages.
 //!
 //! ```
-//! use minutefrost::{BEAT_FRAMES, EMPTY_IMAGE, IMAGE_MOST, beat, enter, frames, keys, take_frame};
+//! use minutefrost::{BEAT_FRAMES, EMPTY_IMAGE, IMAGE_MOST, SHEET_MOST};
+//! use minutefrost::{beat, enter, frames, keys, sheet, take_frame};
 //!
 //! let (mut out, mut sent) = ([0; IMAGE_MOST], [0; BEAT_FRAMES]);
 //! // The van enters the key 7 and beats.
@@ -29,6 +31,8 @@
 //!     kiosk = out[..length].to_vec();
 //! }
 //! assert!(keys(&kiosk)?.eq([7, 9]));
+//! // Its sheet has a head line and a line with both keys, 63 bytes each.
+//! assert_eq!(sheet(&kiosk, &mut [0; SHEET_MOST])?, 126);
 //! # Ok::<(), minutefrost::Refusal>(())
 //! ```
 //!
@@ -81,6 +85,10 @@ pub const BEAT_FRAMES: usize = 3_486;
 
 /// The bytes of the longest frame, of four claims.
 pub const FRAME_MOST: usize = 108;
+
+/// The bytes of the longest sheet, of 1,024 keys; [`sheet`] itself asks only
+/// for the length of the sheet that it writes.
+pub const SHEET_MOST: usize = 22_113;
 
 /// The image of a kiosk that holds no key, with nothing pending.
 ///
@@ -199,9 +207,53 @@ pub fn beat(image: &[u8], out: &mut [u8], frames: &mut [u8]) -> Result<Beat, Ref
     })
 }
 
+/// Lays out the keys of an image for the wall: writes the sheet, which is text,
+/// to the front of `out` and returns its length.
+///
+/// Every line has 62 characters, all ASCII, and a line feed. It has up to three
+/// keys, each right-aligned in 20 characters, with a space between them; they
+/// rise along the line and from line to line, and what isn't used is spaces. A
+/// page has 40 lines, the last page only those it needs, and above each page
+/// stands a head line with its number and the number of pages. An image without
+/// keys makes one page with its head line only. Pending claims aren't on the
+/// sheet, and the image stays as it is.
+///
+/// `out` has at least as many bytes as this sheet; [`SHEET_MOST`] are enough
+/// for any.
+///
+/// # Errors
+///
+/// Refused by 14 and 1 of the image and 15 of the buffer; the first one
+/// answered no counts.
+///
+/// ```
+/// # use minutefrost::{EMPTY_IMAGE, IMAGE_MOST, SHEET_MOST, enter, sheet};
+/// let (mut out, mut text) = ([0; IMAGE_MOST], [0; SHEET_MOST]);
+/// let mut image = EMPTY_IMAGE.to_vec();
+/// for key in [1_000, 7, 52, u64::MAX] {
+///     let length = enter(&image, key, &mut out)?;
+///     image = out[..length].to_vec();
+/// }
+/// let length = sheet(&image, &mut text)?;
+/// let lines = str::from_utf8(&text[..length]).unwrap().lines();
+/// assert!(lines.eq([
+///     "page    1 of    1                                             ",
+///     "                   7                   52                 1000",
+///     "18446744073709551615                                          ",
+/// ]));
+///
+/// let short = sheet(&image, &mut text[..length - 1]);
+/// assert_eq!(short.unwrap_err().number(), 15);
+/// # Ok::<(), minutefrost::Refusal>(())
+/// ```
+pub fn sheet(image: &[u8], out: &mut [u8]) -> Result<usize, Refusal> {
+    accepted(archive::sheet(image, out))
+}
+
 /// The length or count that a call's answer is, or its refusal.
 fn accepted(answer: i64) -> Result<usize, Refusal> {
-    // Below 0 is a refusal; a length is at most 9,860, and a count 1,024.
+    // Below 0 is a refusal; a length is at most that of the longest sheet, and
+    // a count 1,024.
     usize::try_from(answer).map_err(|_| Refusal::of_answer(answer))
 }
 
@@ -236,6 +288,7 @@ mod tests {
     fn answers_below_0_are_refusals() {
         assert_eq!(accepted(0), Ok(0));
         assert_eq!(accepted(9_860), Ok(IMAGE_MOST));
+        assert_eq!(accepted(22_113), Ok(SHEET_MOST));
         assert_eq!(accepted(-14).unwrap_err().number(), 14);
     }
 }

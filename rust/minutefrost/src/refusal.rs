@@ -5,7 +5,7 @@ use std::fmt;
 
 /// A call refused: the number of the first question that was answered no.
 ///
-/// A refused call has written nothing, neither to an image nor to frames.
+/// A refused call has written nothing: no image, no frames and no sheet.
 ///
 /// ```
 /// use minutefrost::{EMPTY_IMAGE, IMAGE_MOST, take_frame};
@@ -36,8 +36,8 @@ impl Refusal {
     ///
     /// [`take_frame`](crate::take_frame) gives 14 and 1 (the image), 10 to 13
     /// (the frame), 6 (no room for a key) and 15 (a short buffer);
-    /// [`enter`](crate::enter) gives 14, 1, 6 and 15, [`beat`](crate::beat) 14,
-    /// 1 and 15, and [`keys`](crate::keys) 14 and 1.
+    /// [`enter`](crate::enter) gives 14, 1, 6 and 15, [`beat`](crate::beat) and
+    /// [`sheet`](crate::sheet) 14, 1 and 15, and [`keys`](crate::keys) 14 and 1.
     pub const fn number(self) -> u8 {
         self.number
     }

@@ -146,6 +146,19 @@ fn keys_both(image: &[u8], seen: &Seen) -> Option<usize> {
     })
 }
 
+/// Lays out a sheet by both programs; the number, 0 if it stands in the buffer.
+fn sheet_both(image: &[u8], out: &mut Guarded, seen: &Seen) -> u8 {
+    let given = image.to_vec();
+    let mut other = out.clone();
+    let answer = as_number(sheet(image, out.lent()));
+    let expected = second::host::sheet(image, other.lent());
+    assert_eq!(answer, expected);
+    assert!(*out == other, "the sheets differ");
+    assert!(image == given, "the input changed");
+    seen.note(number_of(answer));
+    number_of(answer)
+}
+
 fn bytes_of(node: &RawNode) -> Vec<u8> {
     image_of(node.store.held(), node.table())
 }
@@ -349,11 +362,101 @@ fn keys_agree() {
     left_out.check(&[false, true], 50);
 }
 
+/// Counts of keys at the edges of a line, of a page and of a store.
+const EDGES: [usize; 12] = [0, 1, 2, 3, 4, 119, 120, 121, 240, 241, 1_023, 1_024];
+
+/// An image with so many keys as one of the edges, of any number of digits,
+/// and with nothing pending, claims, or claims of which some are left out.
+fn draw_edge_image(rng: &mut Rng) -> (Vec<u64>, Vec<u8>) {
+    let count = *rng.pick(&EDGES);
+    let mut keys = BTreeSet::new();
+    for end in [0, u64::MAX] {
+        if keys.len() < count && rng.one_in(2) {
+            keys.insert(end);
+        }
+    }
+    while keys.len() < count {
+        keys.insert(rng.next() >> rng.below(64));
+    }
+    let keys: Vec<u64> = keys.into_iter().collect();
+    let mut pending = rng.saved_table(&keys);
+    if rng.one_in(2) {
+        pending.retain(|claim| second::questions::of_claim(claim).is_ok());
+    }
+    let image = image_of(&keys, &pending);
+    (keys, image)
+}
+
+/// The bytes of the sheet of so many keys: 63 for each line, three keys to a
+/// line, 40 lines to a page, and a line above each page.
+fn sheet_length(count: usize) -> usize {
+    63 * (count.div_ceil(3) + count.div_ceil(120).max(1))
+}
+
+/// How long a lent buffer is for what is to be written.
+fn lent_for(lent: usize, need: usize) -> &'static str {
+    match lent {
+        _ if lent + 1 == need => "a byte too short",
+        _ if lent < need => "too short",
+        _ if lent == need => "just long enough",
+        _ => "longer",
+    }
+}
+
+/// What an image in order has pending.
+fn pending_in(image: &[u8], count: usize) -> &'static str {
+    match image[2 + 8 * count..] {
+        [0, 0] => "nothing",
+        _ if is_left_out(image) => "claims that are left out",
+        _ => "claims",
+    }
+}
+
+/// Each of these with a sheet that was written and with one refused by 15.
+fn written_and_refused<What: Copy>(all: &[What]) -> Vec<(u8, What)> {
+    all.iter().flat_map(|&it| [(0, it), (15, it)]).collect()
+}
+
+#[test]
+fn sheet_agrees() {
+    let (seen, lent, edges) = (Seen::default(), Seen::default(), Seen::default());
+    let (ends, pending) = (Seen::default(), Seen::default());
+    for_seeds(6_000, |rng| {
+        let draw = *rng.pick(&[draw_image, draw_edge_image]);
+        let (keys, image) = draw(rng);
+        let need = sheet_length(keys.len());
+        for _ in 0..3 {
+            let mut out = Guarded::draw(rng, need);
+            let number = sheet_both(&image, &mut out, &seen);
+            if let 0 | 15 = number {
+                // Those of a damaged image may be others, but are as many.
+                let held = second::read_image(&image).node.store;
+                ends.note((number, [0, u64::MAX].map(|end| held.held().contains(&end))));
+                lent.note((number, lent_for(out.length, need)));
+                pending.note((number, pending_in(&image, keys.len())));
+                if EDGES.contains(&keys.len()) {
+                    edges.note((number, keys.len()));
+                }
+            }
+        }
+    });
+    seen.check(&[0, 1, 14, 15], 50);
+    let short = ["a byte too short", "too short"].map(|length| (15, length));
+    let enough = ["just long enough", "longer"].map(|length| (0, length));
+    lent.check(&[short, enough].concat(), 50);
+    edges.check(&written_and_refused(&EDGES), 20);
+    let tables = ["nothing", "claims", "claims that are left out"];
+    pending.check(&written_and_refused(&tables), 50);
+    let held = [[false, false], [false, true], [true, false], [true, true]];
+    ends.check(&written_and_refused(&held), 50);
+}
+
 /// Bytes of no sense at all, of any length.
 #[test]
 fn noise_agrees() {
     let (frames, beats) = (Seen::default(), Seen::default());
     let (keys, counts) = (Seen::default(), Seen::default());
+    let sheets = Seen::default();
     for_seeds(3_000, |rng| {
         let mut noise = |most| -> Vec<u8> {
             let length = rng.below(most);
@@ -366,6 +469,7 @@ fn noise_agrees() {
         take_both(&image, &frame, &mut out.clone(), &frames);
         enter_both(&image, rng.next(), &mut out.clone(), &keys);
         keys_both(&image, &counts);
+        sheet_both(&image, &mut out.clone(), &sheets);
         beat_both(&image, &mut out, &mut sent, &beats);
     });
 }

@@ -40,6 +40,13 @@ fn beat_refused(image: &[u8], mut out: Vec<u8>, mut frames: Vec<u8>) -> u8 {
     refusal.number()
 }
 
+/// The number with which a sheet is refused; nothing is written then.
+fn sheet_refused(image: &[u8], mut out: Vec<u8>) -> u8 {
+    let refusal = sheet(image, &mut out).unwrap_err();
+    assert!(out.iter().all(|&byte| byte == 0xA5), "{refusal}");
+    refusal.number()
+}
+
 /// Keys 0, 2, 4, …, so many of them.
 fn even(count: u64) -> Vec<u64> {
     (0..count).map(|at| 2 * at).collect()
@@ -102,8 +109,10 @@ fn every_call_refuses_what_is_no_image() {
             key_refused(&image, 7, buffers().0),
             key_refused(&image, 7, none()),
             keys_refused(&image),
+            sheet_refused(&image, vec![0xA5; SHEET_MOST]),
+            sheet_refused(&image, none()),
         ];
-        assert_eq!(refused, [number; 7], "{image:?}");
+        assert_eq!(refused, [number; 9], "{image:?}");
     }
 }
 
@@ -209,6 +218,8 @@ fn empty_slices_are_answered() {
     assert_eq!(key_refused(&[], 0, Vec::new()), 14);
     assert_eq!(key_refused(&EMPTY_IMAGE, 0, Vec::new()), 15);
     assert_eq!(keys_refused(&[]), 14);
+    assert_eq!(sheet_refused(&[], Vec::new()), 14);
+    assert_eq!(sheet_refused(&EMPTY_IMAGE, Vec::new()), 15);
 }
 
 /// Enters a key where there is room; the new image, behind which nothing is
@@ -417,10 +428,154 @@ fn the_most_that_a_beat_sends_fits() {
     assert_eq!(lengths, expected);
 }
 
+/// The bytes of a sheet's line, the line feed with them.
+const LINE: usize = 63;
+
+/// The sheet of an image, which has so many lines: a buffer of just its length
+/// is enough, one byte less is refused, and behind it nothing is written.
+fn sheet_of(image: &[u8], lines: usize) -> String {
+    let length = LINE * lines;
+    assert_eq!(sheet_refused(image, vec![0xA5; length - 1]), 15);
+    let sheets = [0, 1, 40, SHEET_MOST].map(|spare| {
+        let mut out = vec![0xA5; length + spare];
+        assert_eq!(sheet(image, &mut out), Ok(length));
+        assert!(out[length..].iter().all(|&byte| byte == 0xA5));
+        out.truncate(length);
+        out
+    });
+    let [text, ..] = &sheets;
+    assert!(sheets.iter().all(|other| other == text));
+    String::from_utf8(text.clone()).unwrap()
+}
+
+#[test]
+fn a_sheet_is_laid_out_line_by_line() {
+    let head = "page    1 of    1                                             ";
+    let max = u64::MAX;
+    for (keys, lines) in [
+        (&[][..], &[][..]),
+        (
+            &[0],
+            &["                   0                                          "],
+        ),
+        (
+            &[max],
+            &["18446744073709551615                                          "],
+        ),
+        (
+            &[0, max],
+            &["                   0 18446744073709551615                     "],
+        ),
+        (
+            &[9, 10, 100],
+            &["                   9                   10                  100"],
+        ),
+        (
+            &[0, 7, max - 1, max],
+            &[
+                "                   0                    7 18446744073709551614",
+                "18446744073709551615                                          ",
+            ],
+        ),
+    ] {
+        let expected = [&[head], lines, &[""]].concat().join("\n");
+        let told = sheet_of(&image_of_keys(keys), 1 + lines.len());
+        assert_eq!(told, expected, "{keys:?}");
+    }
+}
+
+/// The sheet of these keys by way of strings, where it has so many pages.
+fn sheet_by_strings(keys: &[u64], pages: usize) -> String {
+    let fields: Vec<String> = keys.iter().map(|key| format!("{key:>20}")).collect();
+    let lines: Vec<String> = fields.chunks(3).map(|line| line.join(" ")).collect();
+    let mut rest = lines.chunks(40);
+    let mut sheet = String::new();
+    for page in 1..=pages {
+        let head = format!("page {page:>4} of {pages:>4}");
+        let lines = rest.next().unwrap_or_default();
+        for line in [&head].into_iter().chain(lines) {
+            sheet += &format!("{line:<62}\n");
+        }
+    }
+    assert_eq!(rest.next(), None);
+    sheet
+}
+
+/// The head line isn't one of a page's 40.
+#[test]
+fn a_page_has_forty_lines() {
+    for (count, pages, on_the_last) in [
+        (0, 1, 0),
+        (1, 1, 1),
+        (3, 1, 1),
+        (4, 1, 2),
+        (117, 1, 39),
+        (118, 1, 40),
+        (119, 1, 40),
+        (120, 1, 40),
+        (121, 2, 1),
+        (240, 2, 40),
+        (241, 3, 1),
+        (1_023, 9, 21),
+        (1_024, 9, 22),
+    ] {
+        // 0, 1, 64, 729, … and the largest key.
+        let mut keys: Vec<u64> = (0_u64..count).map(|at| at.pow(6)).collect();
+        if let Some(last) = keys.last_mut() {
+            *last = u64::MAX;
+        }
+        let lines = 41 * (pages - 1) + 1 + on_the_last;
+        let told = sheet_of(&image_of_keys(&keys), lines);
+        assert_eq!(told, sheet_by_strings(&keys, pages), "{count} keys");
+    }
+}
+
+#[test]
+fn keys_of_every_length_are_told_on_a_sheet() {
+    let powers = (0..20).map(|digits| 10_u64.pow(digits));
+    let mut keys: Vec<u64> = powers.flat_map(|power| [power - 1, power]).collect();
+    keys.extend([u64::MAX - 1, u64::MAX]);
+    let told = sheet_of(&image_of_keys(&keys), 15);
+    assert_eq!(told, sheet_by_strings(&keys, 1));
+}
+
+#[test]
+fn the_longest_sheet_fits() {
+    // 342 lines of keys and nine head lines.
+    let told = sheet_of(&image_of_keys(&even(1_024)), 342 + 9);
+    assert_eq!(told.len(), SHEET_MOST);
+    assert_eq!(told, sheet_by_strings(&even(1_024), 9));
+}
+
+/// Those that 16 refuses don't keep an image from having a sheet.
+#[test]
+fn pending_claims_are_not_on_the_sheet() {
+    let [own, good] = [c(1, 16, 17, 2), three(1, 2, 16)];
+    let [above, at_hi] = [three(1, 20, 16), three(1, 16, 16)];
+    let told = sheet_of(&image_of_keys(&[1, 16]), 2);
+    for mut pending in [
+        vec![own],
+        vec![own, good],
+        vec![above],
+        vec![above, at_hi],
+        vec![own, above, at_hi, good],
+    ] {
+        pending.sort_by_key(Claim::rank);
+        let image = image_of(&[1, 16], &pending);
+        assert_eq!(sheet_of(&image, 2), told, "{pending:?}");
+    }
+    // Full, with full tables: 16 refuses each of the claims of three.
+    let lines = SHEET_MOST / LINE;
+    let told = sheet_of(&image_of_keys(&even(1_024)), lines);
+    for cnt in [2, 3, 1_000] {
+        assert_eq!(sheet_of(&full(cnt), lines), told);
+    }
+}
+
 /// On four threads at once, each with a stack of 128 KB.
 #[test]
 fn small_stacks_are_enough() {
-    fn all_calls() -> [Vec<u8>; 4] {
+    fn all_calls() -> [Vec<u8>; 5] {
         let image = full(1_000);
         let frame = frame_of(&[c(0, 2_046, 1, 700); 4]);
         let (mut taken, mut sent) = buffers();
@@ -429,7 +584,9 @@ fn small_stacks_are_enough() {
         assert!(beat(&taken, &mut beaten, &mut sent).is_ok());
         assert_eq!(enter(&taken, 0, &mut entered), Ok(IMAGE_MOST));
         assert!(keys(&entered).is_ok_and(|keys| keys.eq(even(1_024))));
-        [taken, beaten, sent, entered]
+        let mut text = vec![0xA5; SHEET_MOST];
+        assert_eq!(sheet(&entered, &mut text), Ok(SHEET_MOST));
+        [taken, beaten, sent, entered, text]
     }
     let threads: Vec<_> = (0..4)
         .map(|_| {

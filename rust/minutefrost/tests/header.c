@@ -3,6 +3,31 @@
 
 #include <string.h>
 
+/* The sheet of an image of 12 bytes with the key 7; the number of the check that fails, or 0. */
+static int check_sheet(const uint8_t *image)
+{
+    static const char expected[] =
+        "page    1 of    1                                             \n"
+        "                   7                                          \n";
+    static uint8_t text[MINUTEFROST_SHEET_MOST];
+    const size_t length = sizeof expected - 1;
+
+    text[length] = 0xA5;
+    if (minutefrost_sheet(image, 12, text, length - 1) != -15)
+        return 12;
+    if (minutefrost_sheet(image, 11, text, sizeof text) != -14)
+        return 13;
+    if (text[0] != 0)
+        return 14;
+    if (minutefrost_sheet(image, 12, text, sizeof text) != (int64_t)length)
+        return 15;
+    if (memcmp(text, expected, length) != 0 || text[length] != 0xA5)
+        return 16;
+    if (minutefrost_sheet(image, 12, text, length) != (int64_t)length)
+        return 17;
+    return 0;
+}
+
 int main(void)
 {
     static const uint8_t empty[4] = {0};
@@ -41,5 +66,5 @@ int main(void)
         return 10;
     if (minutefrost_count(entered, 11) != -14)
         return 11;
-    return 0;
+    return check_sheet(entered);
 }
