@@ -5,9 +5,10 @@
 use second::*;
 
 use crate::draw::claims_in;
-use crate::drill::{Call, Card};
+use crate::drill::{Call, Card, MOST_BYTES};
 use crate::left_out;
 use crate::middle::{self, ADDED};
+use crate::sheet;
 
 const NUMBER: usize = 0;
 const COUNT: usize = 1;
@@ -446,6 +447,33 @@ pub fn write_image_case(node: &RawNode, lent: usize, noise: Noise) -> Case {
         written.number
     })
     .on_node(left_out::is_node_by_16_alone(node))
+}
+
+/// The sheet of a store to the first `lent` of a buffer, which goes on behind
+/// them where a request can have more. Nothing but the sheet is written, and it
+/// tells the keys held.
+pub fn write_sheet_case(store: &RawStore, lent: usize, noise: Noise) -> Case {
+    let mut given = Card::noise(RIGHT, MOST_BYTES.min(lent + 19), noise);
+    given.words[SECOND] = lent as u64;
+    given.put_store(LEFT, store);
+    let mut case = case(Call::WriteSheet, given, |card| {
+        let written = write_sheet(store, &mut card.bytes[..lent]);
+        card.answer(written.number, written.length);
+        written.number
+    });
+    let (text, rest) = case.expected.bytes.split_at(case.expected.count());
+    assert!(case.given.bytes.ends_with(rest), "the rest stays");
+    if case.number == 1 {
+        case.ways.extend(sheet::way_out_of_order(store));
+        let short = lent < sheet::length(store.held().len());
+        return case.on(sheet::BEFORE_15, short);
+    }
+    if case.number == 0 {
+        assert_eq!(sheet::keys_on(text).as_deref(), Ok(store.held()));
+    }
+    case.ways
+        .extend(sheet::ways(store.held(), lent, case.number));
+    case
 }
 
 pub fn image_length_case(bytes: Vec<u8>, lent: usize, noise: Noise) -> Case {

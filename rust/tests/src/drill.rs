@@ -26,7 +26,12 @@ pub enum Call {
     Ordered,
     Empty,
     RoundRecord,
+    WriteSheet,
 }
+
+/// The most words and the most bytes of a request.
+pub const MOST_WORDS: usize = 16_384;
+pub const MOST_BYTES: usize = 65_536;
 
 /// The words and bytes of a request, or of the reply to it.
 #[derive(Clone, Debug, Default, PartialEq, Eq)]

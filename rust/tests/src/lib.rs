@@ -1,8 +1,9 @@
 //! What the comparisons share: the proved program behind a pipe ([`drill`]),
 //! the words and bytes of its requests ([`card`]), cases drawn from a seed
 //! ([`draw`]), claims of three and the ways they go ([`middle`]), images that
-//! have some which no store could make ([`left_out`]), and runs of many cases
-//! with what was seen in them ([`cases`]).
+//! have some which no store could make ([`left_out`]), wall sheets and the keys
+//! on them ([`sheet`]), what other programs print ([`program`]), and runs of
+//! many cases with what was seen in them ([`cases`]).
 
 #![forbid(unsafe_code)]
 
@@ -12,3 +13,5 @@ pub mod draw;
 pub mod drill;
 pub mod left_out;
 pub mod middle;
+pub mod program;
+pub mod sheet;

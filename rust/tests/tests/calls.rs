@@ -6,7 +6,7 @@ use second::*;
 use tests::card::*;
 use tests::cases::{Seen, compare, for_seeds, one_seed};
 use tests::draw::{Density, Rng, frame_of, image_of};
-use tests::drill::{Call, Card, Drill, request_bytes};
+use tests::drill::{Call, Card, Drill, MOST_BYTES, MOST_WORDS, request_bytes};
 use tests::left_out;
 use tests::middle::{self, OUTCOMES, REFUSED};
 
@@ -525,6 +525,15 @@ fn gives_the_empty_store() {
     run(100, &[0], &[], |rng| empty_case(&mut noise(rng)));
 }
 
+/// A request whose words are all the same.
+fn request_of(word: u64, call: u64, words: usize, bytes: usize) -> Vec<u8> {
+    let card = Card {
+        words: vec![word; words],
+        bytes: vec![0; bytes],
+    };
+    request_bytes(call, &card)
+}
+
 /// Requests that can't be read get the byte '?', and nothing after it.
 #[test]
 fn refuses_requests_that_it_cannot_read() {
@@ -536,13 +545,7 @@ fn refuses_requests_that_it_cannot_read() {
         },
     );
     let cut = |bytes: &[u8], at: usize| bytes[..at].to_vec();
-    let with = |call: u64, words: usize, bytes: usize| {
-        let card = Card {
-            words: vec![u64::MAX; words],
-            bytes: vec![0; bytes],
-        };
-        request_bytes(call, &card)
-    };
+    let with = |call, words, bytes| request_of(u64::MAX, call, words, bytes);
     let head = |numbers: [u64; 3]| numbers.map(u64::to_be_bytes).concat();
     let malformed = [
         cut(&judge, 1),
@@ -550,7 +553,7 @@ fn refuses_requests_that_it_cannot_read() {
         cut(&judge, 24),
         cut(&judge, judge.len() - 1),
         with(0, 20, 0),
-        with(16, 2_070, 0),
+        with(17, 2_070, 0),
         with(u64::MAX, 2_070, 0),
         // Too few words.
         with(1, 1_044, 0),
@@ -561,6 +564,7 @@ fn refuses_requests_that_it_cannot_read() {
         with(13, 1_301, 0),
         with(14, 1_044, 0),
         with(15, 2_069, 0),
+        request_of(0, 16, 1_044, 0),
         // More lent than is there.
         with(6, 1_302, 0),
         with(7, 2_070, 0),
@@ -569,10 +573,11 @@ fn refuses_requests_that_it_cannot_read() {
         with(10, 1_302, 9),
         with(11, 1_302, 9),
         with(12, 20, 9),
+        with(16, 1_045, 9),
         // More than the drill has room for.
-        head([4, 16_385, 0]),
+        head([4, MOST_WORDS as u64 + 1, 0]),
         head([4, u64::MAX, 0]),
-        head([12, 0, 16_385]),
+        head([12, 0, MOST_BYTES as u64 + 1]),
         head([12, 0, u64::MAX]),
     ];
     for request in malformed {

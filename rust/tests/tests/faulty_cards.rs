@@ -7,14 +7,16 @@
 mod archive;
 mod cards;
 mod rehearse;
+mod wallsheet;
 
-use archive::{Asked, compare};
+use archive::{Asked, compare, sheet_by};
 use cards::*;
-use minutefrost::{BEAT_FRAMES, EMPTY_IMAGE, IMAGE_MOST, frames};
+use minutefrost::{BEAT_FRAMES, EMPTY_IMAGE, IMAGE_MOST, SHEET_MOST, frames};
 use second::{Claim, PENDING, RawNode, RawStore};
 use tests::card::{image_length_case, read_image_case, write_image_case};
 use tests::draw::{claim_of, frame_of, image_of};
 use tests::drill::Drill;
+use tests::sheet;
 
 /// Fills the buffers that are lent, and the places that mean nothing.
 const NOISE: u64 = 0x5A5A_0101_F0F0_3C3C;
@@ -41,6 +43,10 @@ fn enter(image: &[u8], key: u64) -> Asked {
 
 fn count(image: &[u8]) -> Asked {
     Asked::Count(image.to_vec())
+}
+
+fn sheet(image: &[u8]) -> Asked {
+    Asked::Sheet(image.to_vec(), SHEET_MOST)
 }
 
 /// Both programs write this image, and answer its length.
@@ -141,6 +147,22 @@ fn images_are_written_again_without_faulty_claims() {
     }
 }
 
+/// The program for staff prints the same sheet.
+#[test]
+fn sheets_tell_the_keys_held() {
+    let program = wallsheet::program();
+    for card in faulty_cards() {
+        let keys = keys_in(&card.image);
+        let length = sheet::length(keys.len());
+        let written = sheet_by(&Asked::Sheet(card.image.clone(), length), NOISE);
+        let written = written.expect("the card is taken");
+        assert_eq!(written.len(), length, "{}", card.name);
+        assert_eq!(sheet::keys_on(&written), Ok(keys), "{}", card.name);
+        let printed = wallsheet::compare(&program, &card.image);
+        assert!(printed.as_bytes() == written, "{}", card.name);
+    }
+}
+
 /// Whatever a call is given with the card, and whether it is refused or not.
 #[test]
 fn calls_go_as_without_faulty_claims() {
@@ -153,6 +175,7 @@ fn calls_go_as_without_faulty_claims() {
         };
         same(&count);
         same(&beat);
+        same(&sheet);
         for frame in speakers.iter().flat_map(|speaker| frames(&speaker.sent)) {
             same(&|image| take(image, frame));
         }
@@ -235,6 +258,11 @@ fn rehearsals_go_as_without_faulty_claims() {
 
 // ---- refused by a later question ----
 
+/// A byte too few for the sheet of a card.
+fn short_of_a_sheet(image: &[u8]) -> usize {
+    sheet::length(keys_in(image).len()) - 1
+}
+
 /// Calls with a card, and the number that refuses each.
 fn refused_calls(card: &Card) -> Vec<(Asked, u8)> {
     let image = card.image.clone();
@@ -258,7 +286,8 @@ fn refused_calls(card: &Card) -> Vec<(Asked, u8)> {
         (Asked::Take(image.clone(), frame, IMAGE_MOST - 1), 15),
         (Asked::Enter(image.clone(), key, IMAGE_MOST - 1), 15),
         (Asked::Beat(image.clone(), IMAGE_MOST - 1, BEAT_FRAMES), 15),
-        (Asked::Beat(image, IMAGE_MOST, BEAT_FRAMES - 1), 15),
+        (Asked::Beat(image.clone(), IMAGE_MOST, BEAT_FRAMES - 1), 15),
+        (Asked::Sheet(image.clone(), short_of_a_sheet(&image)), 15),
     ]
 }
 
@@ -344,10 +373,18 @@ fn expect_no_rehearsal(images: [&[u8]; 2], number: u8) {
 fn expect_no_image(drill: &mut Drill, image: &[u8], number: u8) {
     let told = format!("{image:?}");
     let frame = frame_of(&[claim_of(&[16])]);
-    let taken = take(image, &frame);
-    for asked in [count(image), beat(image), enter(image, 16), taken] {
+    let calls = [
+        count(image),
+        beat(image),
+        enter(image, 16),
+        take(image, &frame),
+        sheet(image),
+    ];
+    for asked in calls {
         expect_refused(&asked, number, &told);
     }
+    let printed = wallsheet::compare(&wallsheet::program(), image);
+    assert_eq!(printed, format!("refused {number}\n"), "{told}");
     let read = read_image(drill, image);
     assert!(read == (number, RawNode::empty()), "{told}");
     expect_no_rehearsal([&EMPTY_IMAGE, image], number);

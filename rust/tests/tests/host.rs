@@ -2,18 +2,20 @@
 //! answer, and every byte of every lent buffer the same, with bytes past its
 //! end that must stay as they were. Here images are bent in every way that a
 //! node can be, and all cases run on small stacks too; the calls by hand, a
-//! radio of frames and plain noise are tests of the crate `minutefrost`.
+//! radio of frames and plain noise are tests of the crate `minutefrost`, and
+//! sheets by hand come in `sheet`.
 
 mod archive;
 
 use std::thread;
 
-use archive::{ARCHIVE, Asked, Left, SECOND, compare, number};
+use archive::{ARCHIVE, Asked, Left, SECOND, compare, number, sheet_by};
 use second::*;
 use tests::cases::{Seen, for_seeds, one_seed, seeds};
 use tests::draw::{Rng, claims_in, frame_of, image_of};
 use tests::left_out;
 use tests::middle::{self, OUTCOMES};
+use tests::sheet::{self, DIGITS, LAYOUTS, LENT};
 
 /// How often each number and each way must be seen.
 const OFTEN: usize = 60;
@@ -108,6 +110,20 @@ fn enter_asked(rng: &mut Rng) -> Asked {
 
 fn count_asked(rng: &mut Rng) -> Asked {
     Asked::Count(image(rng).0)
+}
+
+/// With an image as for the other calls, or one of keys for a sheet and as
+/// much pending as any other has.
+fn sheet_asked(rng: &mut Rng) -> Asked {
+    let (mut image, _) = image(rng);
+    if rng.one_in(2) {
+        let keys = rng.keys_for_sheet();
+        let node = rng.node_of(&keys);
+        image = image_of(node.store.held(), node.table());
+    }
+    let count = read_image(&image).node.store.count;
+    let lent = rng.room_for_sheet(count);
+    Asked::Sheet(image, lent)
 }
 
 /// Which claim of a frame has no room, counted from 0.
@@ -296,19 +312,60 @@ fn counts_keys() {
     }
 }
 
+#[test]
+fn lays_out_sheets() {
+    let mut seen = Seen::default();
+    for_seeds(8_000, |seed, rng| {
+        let asked = sheet_asked(rng);
+        let Asked::Sheet(image, lent) = &asked else {
+            panic!("a sheet is asked for");
+        };
+        let sheet = sheet_by(&asked, seed);
+        let number = sheet.as_ref().err().copied().unwrap_or(0);
+        let node = read_image(image).node;
+        seen.number(number);
+        seen.all(left_out::ways_of_image(image, number));
+        if number == 0 || number == 15 {
+            seen.all(sheet::ways(node.store.held(), *lent, number));
+        }
+        if let Ok(sheet) = sheet {
+            assert_eq!(sheet::keys_on(&sheet).as_deref(), Ok(node.store.held()));
+            seen.way(match node.pending_count {
+                0 => "nothing is pending",
+                _ => "claims are pending",
+            });
+        }
+    });
+    let pending = ["nothing is pending", "claims are pending"];
+    if !one_seed() {
+        seen.expect(&[0, 1, 14, 15], &pending, OFTEN);
+        seen.expect_ways(&LEFT_OUT, OFTEN);
+        seen.expect_ways(&[left_out::LATER], OFTEN);
+        seen.expect_ways(&LENT, OFTEN);
+        seen.expect_ways(&LAYOUTS, OFTEN);
+        seen.expect_ways(&DIGITS, OFTEN);
+    }
+}
+
 /// Nothing is proved of the stack: any case must do with 128 KB, on several
 /// threads at a time.
 #[test]
 fn runs_on_small_stacks() {
     const STACK: usize = 128 << 10;
+    const DRAWN: [fn(&mut Rng) -> Asked; 5] = [
+        take_asked,
+        beat_asked,
+        enter_asked,
+        count_asked,
+        sheet_asked,
+    ];
     let drawn = |seed| {
         let mut rng = Rng(seed);
-        let draw = [take_asked, beat_asked, enter_asked, count_asked][seed as usize % 4];
-        let asked = draw(&mut rng);
+        let asked = DRAWN[seed as usize % DRAWN.len()](&mut rng);
         let wanted = asked.by(seed, &SECOND);
         (seed, asked, wanted)
     };
-    let cases: Vec<(u64, Asked, Left)> = seeds(4_000).map(drawn).collect();
+    let cases: Vec<(u64, Asked, Left)> = seeds(5_000).map(drawn).collect();
     let differs = |part: &[(u64, Asked, Left)]| {
         let case = |(seed, asked, wanted): &(u64, Asked, Left)| {
             (asked.by(*seed, &ARCHIVE) != *wanted).then_some(*seed)

@@ -17,6 +17,7 @@ use tests::draw::{Rng, claim_of, frame_of, image_of};
 use tests::drill::{Card, Drill};
 use tests::left_out::{self, BROKEN, LATER, NARROW, PLACES, READ, TOO_MANY, kept};
 use tests::middle::{BEFORE_6, REFUSED, is_faulty, three};
+use tests::sheet;
 
 const LIMIT: usize = RawStore::LIMIT;
 
@@ -365,6 +366,17 @@ fn enters_keys_into_saved_images() {
 #[test]
 fn counts_keys_of_saved_images() {
     calls(&[0, 1, 14], |_, image| Asked::Count(image));
+}
+
+#[test]
+fn lays_out_sheets_of_saved_images() {
+    let seen = calls(&[0, 1, 14, 15], |rng, image| {
+        let (keys, _) = contents(&image);
+        Asked::Sheet(image, room(rng, sheet::length(keys.len())))
+    });
+    if !one_seed() {
+        seen.expect_ways(&[LATER], OFTEN);
+    }
 }
 
 // ---- image in, image out, image in again ----

@@ -9,11 +9,13 @@
 //! `faulty_cards`; here their kiosks are heard, and hear the others.
 
 mod cards;
+mod wallsheet;
 
 use cards::{Card, cards_of, faulty_cards, keys_in, sound_cards};
-use minutefrost::{BEAT_FRAMES, IMAGE_MOST, Refusal, frames};
+use minutefrost::{BEAT_FRAMES, IMAGE_MOST, Refusal, SHEET_MOST, frames};
 use second::{Claim, host};
 use tests::draw::{frame_of, image_of};
+use tests::sheet;
 
 /// What a call leaves: its answer, the image it wrote, and the buffer for
 /// frames.
@@ -71,6 +73,33 @@ fn images_hold_what_they_held() -> Result<(), Refusal> {
         assert_eq!((read.number, held), (0, card.holds), "{}", card.name);
         assert_eq!(read.node.store.held(), keys, "{}", card.name);
         assert!(minutefrost::keys(&card.image)?.eq(keys), "{}", card.name);
+    }
+    Ok(())
+}
+
+/// The wall sheet of an image, by both programs; past it nothing is written.
+fn sheet_of(image: &[u8]) -> Result<Vec<u8>, Refusal> {
+    let mut out = vec![0xA5; SHEET_MOST];
+    let mut other = out.clone();
+    let length = minutefrost::sheet(image, &mut out)?;
+    assert_eq!(host::sheet(image, &mut other), length as i64, "the answers");
+    assert!(out == other, "the buffers");
+    let rest = out.split_off(length);
+    assert!(rest.iter().all(|byte| *byte == 0xA5), "the rest stays");
+    Ok(out)
+}
+
+/// Whatever is pending. The program for staff prints the same.
+#[test]
+fn sheets_tell_the_keys_held() -> Result<(), Refusal> {
+    let program = wallsheet::program();
+    for card in sound_cards() {
+        let sheet = sheet_of(&card.image)?;
+        assert_eq!(sheet.len(), sheet::length(card.holds.0), "{}", card.name);
+        let keys = keys_in(&card.image);
+        assert_eq!(sheet::keys_on(&sheet), Ok(keys), "{}", card.name);
+        let printed = wallsheet::compare(&program, &card.image);
+        assert!(printed.as_bytes() == sheet, "{}", card.name);
     }
     Ok(())
 }

@@ -14,6 +14,7 @@ pub enum Asked {
     Beat(Vec<u8>, usize, usize),
     Enter(Vec<u8>, u64, usize),
     Count(Vec<u8>),
+    Sheet(Vec<u8>, usize),
 }
 
 /// What a call leaves: its answer, and both buffers with their guards.
@@ -30,12 +31,13 @@ fn buffer(seed: u64, lent: usize) -> Vec<u8> {
     (0..lent + GUARD).map(|_| noise.next() as u8).collect()
 }
 
-/// The four calls of a program, their answers as the archive gives them.
+/// The five calls of a program, their answers as the archive gives them.
 pub struct Program {
     take_frame: fn(&[u8], &[u8], &mut [u8]) -> i64,
     beat: fn(&[u8], &mut [u8], &mut [u8]) -> i64,
     enter: fn(&[u8], u64, &mut [u8]) -> i64,
     count: fn(&[u8]) -> i64,
+    sheet: fn(&[u8], &mut [u8]) -> i64,
 }
 
 pub const SECOND: Program = Program {
@@ -43,6 +45,7 @@ pub const SECOND: Program = Program {
     beat: host::beat,
     enter: host::enter,
     count: host::count,
+    sheet: host::sheet,
 };
 
 pub const ARCHIVE: Program = Program {
@@ -52,6 +55,7 @@ pub const ARCHIVE: Program = Program {
     },
     enter: |image, key, out| number_or(minutefrost::enter(image, key, out)),
     count: |image| number_or(minutefrost::keys(image).map(|keys| keys.len())),
+    sheet: |image, out| number_or(minutefrost::sheet(image, out)),
 };
 
 fn number_or(length: Result<usize, minutefrost::Refusal>) -> i64 {
@@ -65,7 +69,9 @@ impl Asked {
     /// Both buffers as they are lent; a call without one has none.
     fn lent(&self, seed: u64) -> (Vec<u8>, Vec<u8>) {
         match self {
-            Asked::Take(_, _, lent) | Asked::Enter(_, _, lent) => (buffer(seed, *lent), Vec::new()),
+            Asked::Take(_, _, lent) | Asked::Enter(_, _, lent) | Asked::Sheet(_, lent) => {
+                (buffer(seed, *lent), Vec::new())
+            }
             Asked::Beat(_, lent, lent_frames) => (buffer(seed, *lent), buffer(!seed, *lent_frames)),
             Asked::Count(_) => (Vec::new(), Vec::new()),
         }
@@ -75,7 +81,7 @@ impl Asked {
     pub fn image(&self) -> &[u8] {
         match self {
             Asked::Take(image, ..) | Asked::Beat(image, ..) => image,
-            Asked::Enter(image, ..) | Asked::Count(image) => image,
+            Asked::Enter(image, ..) | Asked::Count(image) | Asked::Sheet(image, _) => image,
         }
     }
 
@@ -86,6 +92,7 @@ impl Asked {
             Asked::Beat(_, lent, frames) => Asked::Beat(image, *lent, *frames),
             Asked::Enter(_, key, lent) => Asked::Enter(image, *key, *lent),
             Asked::Count(_) => Asked::Count(image),
+            Asked::Sheet(_, lent) => Asked::Sheet(image, *lent),
         }
     }
 
@@ -101,6 +108,7 @@ impl Asked {
             }
             Asked::Enter(image, key, lent) => (program.enter)(image, *key, &mut out[..*lent]),
             Asked::Count(image) => (program.count)(image),
+            Asked::Sheet(image, lent) => (program.sheet)(image, &mut out[..*lent]),
         };
         Left {
             answer,
@@ -141,12 +149,25 @@ pub fn left_by(asked: Asked) -> (Vec<u8>, Vec<u8>) {
     (image, frames)
 }
 
+/// The sheet that such a call leaves, by both programs, or the number of its
+/// refusal. Nothing else is written.
+pub fn sheet_by(asked: &Asked, seed: u64) -> Result<Vec<u8>, u8> {
+    let left = compare(asked, seed);
+    let sheet = left.out[..left.answer.max(0) as usize].to_vec();
+    let wanted = asked.leaving(seed, left.answer, &sheet, &[]);
+    assert!(left == wanted, "the rest stays");
+    match number(left.answer) {
+        0 => Ok(sheet),
+        number => Err(number),
+    }
+}
+
 /// What the archive leaves, and the second program with it.
 pub fn compare(asked: &Asked, seed: u64) -> Left {
     let found = asked.by(seed, &ARCHIVE);
     let wanted = asked.by(seed, &SECOND);
     assert_eq!(found.answer, wanted.answer, "the answer");
-    assert!(found.out == wanted.out, "the image's buffer");
+    assert!(found.out == wanted.out, "the image's or the sheet's buffer");
     assert!(found.frames == wanted.frames, "the frames' buffer");
     found
 }

@@ -1,32 +1,14 @@
 //! The program `rehearse` and the second one, side by side.
 
-use std::io::Write;
 use std::path::{Path, PathBuf};
-use std::process::{Command, Stdio};
-use std::thread;
 
 use second::rehearse;
 use tests::drill::made_by_rt;
-
-/// All that the program prints for this standard input.
-fn printed(program: &Path, input: &[u8]) -> String {
-    let mut child = Command::new(program)
-        .stdin(Stdio::piped())
-        .stdout(Stdio::piped())
-        .spawn()
-        .expect("rehearse starts");
-    let mut stdin = child.stdin.take().expect("a pipe was asked for");
-    let output = thread::scope(|scope| {
-        // A program that refuses may end before it has read everything.
-        scope.spawn(move || drop(stdin.write_all(input)));
-        child.wait_with_output().expect("rehearse ends")
-    });
-    String::from_utf8(output.stdout).expect("text")
-}
+use tests::program::printed;
 
 /// What it prints, and the second program with it.
 pub fn compare(program: &Path, input: &[u8]) -> String {
-    let found = printed(program, input);
+    let found = String::from_utf8(printed(program, input)).expect("text");
     let wanted = rehearse(input);
     assert!(
         found == wanted,
