@@ -1,6 +1,6 @@
 //! What is timed: images and frames of a kiosk that hears another one.
 
-use minutefrost::{BEAT_FRAMES, IMAGE_MOST};
+use minutefrost::{BEAT_FRAMES, IMAGE_MOST, SHEET_MOST};
 use second::{Claim, RawNode, RawStore};
 
 /// Each time is of so many cases in turn, alike but for their keys. A program
@@ -149,6 +149,7 @@ pub fn heard(union: usize, differing: usize, pending: usize) -> Vec<Case> {
 pub struct Buffers {
     pub image: Vec<u8>,
     pub frames: Vec<u8>,
+    pub sheet: Vec<u8>,
 }
 
 impl Buffers {
@@ -156,6 +157,7 @@ impl Buffers {
         Buffers {
             image: vec![0; IMAGE_MOST],
             frames: vec![0; BEAT_FRAMES],
+            sheet: vec![0; SHEET_MOST],
         }
     }
 }

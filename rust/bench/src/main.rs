@@ -12,6 +12,7 @@ mod library;
 mod machine;
 mod round;
 mod search;
+mod sheet;
 mod timing;
 
 use std::hint::black_box;
@@ -68,6 +69,7 @@ fn print_report() {
     print_full();
     print_calls();
     print_growth();
+    sheet::print_sheets();
     search::print_searches();
     round::print_rounds();
 }
