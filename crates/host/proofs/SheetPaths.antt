@@ -10,10 +10,8 @@ use lib.ListN.{length, take}
 use mir.Syntax.{w64}
 use mir.Val.{toZ, ofZ}
 use Rattle.keys.specs.Store.{limit}
-use Rattle.keys.specs.Place.{putAt}
 use Rattle.claims.specs.Question.{Question, firstNo}
 use Rattle.claims.proofs.QuestionLaws.{firstNo-append-no}
-use Rattle.rule.specs.declared.node.Node.{Node}
 use Rattle.rule.specs.declared.answer.Rest.{Rest}
 use Rattle.rule.specs.Node.{nodeKeys}
 use Rattle.wire.specs.declared.answer.Length.{Length}

@@ -1,12 +1,12 @@
 -- One law for each way that src/layout.rt goes. In order: spaces; a number in its field; a column and a row; a numbered word and the head line; rows one after
 -- the other; a page; pages one after the other. Assumes nothing.
-use Prim.Native.Nat.{ℕ, suc, _+_, _-_, _^_, _≤_, _<_, min}
+use Prim.Native.Nat.{ℕ, suc, _+_, _-_, _*_, _^_, _≤_, _<_, min}
 use native.Mathlib.Numerals.{add-one}
 use native.Mathlib.Omega.{arith}
 use mathlib.Core.List.{List, [], _∷_, _++_, append-assoc}
 use mathlib.Core.Logic.{_⊎_, inl, inr, ⊎-elim}
 use mathlib.Core.Path.{_≡_, refl, ap, sym, _∙_}
-use lib.ListN.{length, take, drop, getD, set, length-append, length-drop, length-take, drop-of-length-le}
+use lib.ListN.{length, take, drop, getD, set, length-append, length-drop, drop-of-length-le}
 use lib.Seq.{drop-drop, take-all}
 use Rattle.keys.specs.Store.{limit}
 use Rattle.keys.specs.Place.{putAt}
@@ -20,8 +20,8 @@ use Rattle.text.proofs.PutLaws.{from-room, before-room, Left, left-all, left-mo
 use Rattle.sheet.specs.Sheet.{lineWidth, lineSize, fieldWidth, numberWidth, rowKeys, pageKeys, spaces, rightAligned, field, row, pageWord, ofWord, headLine}
 use Rattle.sheet.specs.Sheet.{rows, page, pageGroups, pagesFrom, line, linesText, sheetLines, sheetText, pageCount}
 use Rattle.sheet.specs.Laid.{KeysFit, HeadGiven, PageGiven}
-use Rattle.sheet.proofs.LineLaws.{length-spaces, spaces-none, spaces-more, length-rightAligned, field-used, field-unused, length-field, row-columns, row-is-line}
-use Rattle.sheet.proofs.LineLaws.{keysFit-drop, head-pieces, head-is-line, length-line}
+use Rattle.sheet.proofs.LineLaws.{length-spaces, spaces-none, spaces-more, length-rightAligned, field-used, field-unused, length-field, columnWidth, row-columns, row-is-line}
+use Rattle.sheet.proofs.LineLaws.{keysFit-drop, headWidth, head-pieces, head-is-line, length-line}
 use Rattle.sheet.proofs.SheetLaws.{linesText-nil, linesText-cons, linesText-append, rows-nil, rows-turn, pageGroups-last, pageGroups-more, length-pageGroups, head-given}
 
 -- ---- spaces
@@ -80,7 +80,7 @@ module _ (s : List ℕ) (at : ℕ) (ks : List ℕ) (i : ℕ) (t : List ℕ) wher
 
   -- and the character behind it
   module _ (put : t ≡ putAt s at (field ks i)) (fit : getD ks i 0 < 2 ^ 64) (room : at + (fieldWidth + 1) ≤ length s) where
-    pub column-room : at + fieldWidth < length t
+    column-room : at + fieldWidth < length t
     column-room = rw (put, length-putAt s at (field ks i) (omega (arith, length-field ks i fit))) (omega arith)
 
     pub column-put : (b : ℕ) → set t (at + fieldWidth) b ≡ putAt s at (field ks i ++ (b ∷ []))
@@ -91,14 +91,14 @@ module _ (s : List ℕ) (at : ℕ) (ks : List ℕ) (i : ℕ) (t : List ℕ) wher
 -- ---- a row: its three columns
 
 pub row-put : (s : List ℕ) (at : ℕ) (ks : List ℕ) → KeysFit ks → at + lineSize ≤ length s → {t u v : List ℕ} → t ≡ putAt s at (field ks 0 ++ (space ∷ []))
-    → u ≡ putAt t (at + 21) (field ks 1 ++ (space ∷ [])) → v ≡ putAt u (at + 42) (field ks 2 ++ lineFeed) → v ≡ putAt s at (line (row ks))
+    → u ≡ putAt t (at + columnWidth) (field ks 1 ++ (space ∷ [])) → v ≡ putAt u (at + 2 * columnWidth) (field ks 2 ++ lineFeed) → v ≡ putAt s at (line (row ks))
 row-put s at ks fit room {t} {u} {v} e f g =
     let first = field ks 0 ++ (space ∷ []) in
     let second = field ks 1 ++ (space ∷ []) in
-    let a : length first ≡ 21 = rw (length-append (field ks 0), length-field ks 0 (fit 0)) in
-    let b : length second ≡ 21 = rw (length-append (field ks 1), length-field ks 1 (fit 1)) in
-    let two = putAt-then s at (at + 21) first second (omega arith) (omega arith) e f in
-    let three = putAt-then s at (at + 42) (first ++ second) (field ks 2 ++ lineFeed) (omega (arith, length-append first second)) (omega arith) two g in
+    let a : length first ≡ columnWidth = rw (length-append (field ks 0), length-field ks 0 (fit 0)) in
+    let b : length second ≡ columnWidth = rw (length-append (field ks 1), length-field ks 1 (fit 1)) in
+    let two = putAt-then s at (at + columnWidth) first second (omega arith) (omega arith) e f in
+    let three = putAt-then s at (at + 2 * columnWidth) (first ++ second) (field ks 2 ++ lineFeed) (omega (arith, length-append first second)) (omega arith) two g in
     three ∙ ap (putAt s at) (append-assoc first second (field ks 2 ++ lineFeed) ∙ sym (row-columns ks))
 
 -- ---- a word and a number: t has the word, which ends at m
@@ -132,12 +132,12 @@ head-put s at number pages i j {t} {u} {v} g room e₁ f₁ e₂ f₂ f₃ same 
     let b = length-rightAligned numberWidth pages (g .pages-fit) in
     let first = pageWord ++ rightAligned numberWidth number in
     let second = ofWord ++ rightAligned numberWidth pages in
-    let l : length first ≡ 9 = rw (length-append pageWord, a) in
-    let m : length second ≡ 8 = rw (length-append ofWord, b) in
-    let left : at + lineWidth - j ≡ 45 = omega arith in
-    let blank = length-spaces 45 in
-    let third : v ≡ putAt u j (spaces 45) = f₃ ∙ ap (λ (k : ℕ). putAt u j (spaces k)) left in
-    putAt-four-blocks s at i j (at + lineWidth) first second (spaces 45) lineFeed (omega arith) (omega arith) (omega arith) (omega arith)
+    let l : length first ≡ length pageWord + numberWidth = rw (length-append pageWord, a) in
+    let m : length second ≡ length ofWord + numberWidth = rw (length-append ofWord, b) in
+    let left : at + lineWidth - j ≡ lineWidth - headWidth = omega arith in
+    let blank = length-spaces (lineWidth - headWidth) in
+    let third : v ≡ putAt u j (spaces (lineWidth - headWidth)) = f₃ ∙ ap (λ (k : ℕ). putAt u j (spaces k)) left in
+    putAt-four-blocks s at i j (at + lineWidth) first second (spaces (lineWidth - headWidth)) lineFeed (omega arith) (omega arith) (omega arith) (omega arith)
     f₁ f₂ third (putAt-one v (at + lineWidth) 10 (omega arith))
     ∙ ap (putAt s at) (sym (head-pieces number pages g))
 

@@ -79,6 +79,10 @@ plain-field ks i = ⊎-elim {C = Each Plain (field ks i)}
 
 -- ---- three keys
 
+-- a field and the character behind it
+abbrev pub columnWidth : ℕ
+columnWidth = fieldWidth + 1
+
 pub plain-row : (ks : List ℕ) → Each Plain (row ks)
 unfolding row
 plain-row ks =
@@ -133,10 +137,14 @@ keysFit-take (suc n) (k ∷ ks) fit (suc i) = keysFit-take n ks (λ j. fit (suc 
 
 -- ---- the line above a page
 
+-- what stands on it
+abbrev pub headWidth : ℕ
+headWidth = length pageWord + numberWidth + (length ofWord + numberWidth)
+
 module _ (number pages : ℕ) where
   -- its two numbered words, what is left and the line feed
   pub head-pieces : HeadGiven number pages → line (headLine number pages)
-      ≡ (pageWord ++ rightAligned numberWidth number) ++ ((ofWord ++ rightAligned numberWidth pages) ++ (spaces 45 ++ lineFeed))
+      ≡ (pageWord ++ rightAligned numberWidth number) ++ ((ofWord ++ rightAligned numberWidth pages) ++ (spaces (lineWidth - headWidth) ++ lineFeed))
   unfolding headLine padded
   head-pieces g =
       let n = rightAligned numberWidth number in
@@ -144,7 +152,7 @@ module _ (number pages : ℕ) where
       let a = length-rightAligned numberWidth number (g .number-fits) in
       let b = length-rightAligned numberWidth pages (g .pages-fit) in
       let text = pageWord ++ (n ++ (ofWord ++ p)) in
-      let l : length text ≡ 17 = rw (length-append pageWord, length-append n, length-append ofWord, a, b) in
+      let l : length text ≡ headWidth = rw (length-append pageWord, length-append n, length-append ofWord, a, b) in
       rw (l, append-assoc pageWord, append-assoc ofWord, append-assoc pageWord, append-assoc n, append-assoc ofWord, append-assoc pageWord, append-assoc n, append-assoc ofWord, append-assoc p)
 
   length-headLine : HeadGiven number pages → length (headLine number pages) ≡ lineWidth
@@ -155,7 +163,7 @@ module _ (number pages : ℕ) where
       let a = length-rightAligned numberWidth number (g .number-fits) in
       let b = length-rightAligned numberWidth pages (g .pages-fit) in
       let text = pageWord ++ (n ++ (ofWord ++ p)) in
-      let l : length text ≡ 17 = rw (length-append pageWord, length-append n, length-append ofWord, a, b) in
+      let l : length text ≡ headWidth = rw (length-append pageWord, length-append n, length-append ofWord, a, b) in
       rw (length-append text, l, length-spaces)
 
   -- it is a line

@@ -1,6 +1,6 @@
 -- Laws of the lines of a sheet and of its text (specs/Sheet). In order: the text of lines; rows; pages; how many lines there are; how long the text is.
 -- Assumes nothing.
-use Prim.Native.Nat.{ℕ, zero, suc, _+_, _-_, _*_, _≤_, _<_, max, min}
+use Prim.Native.Nat.{ℕ, zero, suc, _+_, _-_, _*_, _≤_, _<_}
 use native.Mathlib.Omega.{arith}
 use mathlib.Core.List.{List, [], _∷_, _++_, flatten, append-nil, append-assoc}
 use mathlib.Core.Logic.{⊎-elim}

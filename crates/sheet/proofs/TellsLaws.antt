@@ -1,7 +1,7 @@
 -- The sheet tells the keys. A sheet is read line by line, 63 bytes to each: a head line tells no key, and every other one the keys of its three fields, of which
 -- those that end with a space are unused. What is read of the sheet of some keys is these keys (`keysOn-sheetText`); so equal sheets are of equal keys
 -- (`sheet-tells-keys`). Assumes nothing.
-use Prim.Native.Nat.{ℕ, zero, suc, _-_, _%_, _^_, _≤_, _<_}
+use Prim.Native.Nat.{ℕ, zero, suc, _-_, _*_, _%_, _^_, _≤_, _<_}
 use native.Mathlib.Omega.{arith}
 use mathlib.Core.Bool.{cond}
 use mathlib.Core.List.{List, [], _∷_, _++_, map, flatten, append-assoc, append-nil}
@@ -20,10 +20,10 @@ use Rattle.text.specs.Groups.{inGroups}
 use Rattle.text.specs.Line.{lineFeed, space}
 use Rattle.text.proofs.DecimalLaws.{length-decimal-some, length-decimal-most, decimal-last, value-decimal}
 use Rattle.text.proofs.GroupsLaws.{inGroups-flatten}
-use Rattle.sheet.specs.Sheet.{lineWidth, lineSize, fieldWidth, rowKeys, pageKeys, spaces, rightAligned, field, row, padded, headLine, rows, page, pageGroups}
+use Rattle.sheet.specs.Sheet.{lineSize, fieldWidth, rowKeys, pageKeys, spaces, rightAligned, field, row, pageWord, padded, headLine, rows, page, pageGroups}
 use Rattle.sheet.specs.Sheet.{sheetLines, line, linesText, sheetText, IsLine}
 use Rattle.sheet.specs.Laid.{KeysFit}
-use Rattle.sheet.proofs.LineLaws.{length-spaces, length-rightAligned, field-used, field-unused, length-field, Plain, plain-row, row-columns, row-is-line}
+use Rattle.sheet.proofs.LineLaws.{length-spaces, field-used, field-unused, length-field, Plain, columnWidth, plain-row, row-columns, row-is-line}
 use Rattle.sheet.proofs.LineLaws.{keysFit-drop, keysFit-take, length-line}
 use Rattle.sheet.proofs.SheetLaws.{rows-nil, rows-turn, by-page, sheet-lines}
 
@@ -34,19 +34,22 @@ abbrev fieldKey : List ℕ → List ℕ
 fieldKey cs = cond (eqb (getD cs (fieldWidth - 1) 0) space) [] (value cs ∷ [])
 
 -- the keys of three fields, each with the character behind it
-abbrev rowKeysIn : List ℕ → List ℕ
-rowKeysIn x = fieldKey (take fieldWidth x) ++ (fieldKey (take fieldWidth (drop 21 x)) ++ fieldKey (take fieldWidth (drop 42 x)))
+abbrev keysInFields : List ℕ → List ℕ
+keysInFields x = fieldKey (take fieldWidth x) ++ (fieldKey (take fieldWidth (drop columnWidth x)) ++ fieldKey (take fieldWidth (drop (2 * columnWidth) x)))
 
--- the keys that a line tells: none if it begins with a `p`
-abbrev keysIn : List ℕ → List ℕ
-keysIn x = cond (eqb (getD x 0 0) 112) [] (rowKeysIn x)
+-- the keys that a line tells: none if it begins as a head line does
+abbrev pageLetter : ℕ
+pageLetter = getD pageWord 0 0
+
+abbrev keysInLine : List ℕ → List ℕ
+keysInLine x = cond (eqb (getD x 0 0) pageLetter) [] (keysInFields x)
 
 -- the keys that lines tell, one after the other, and those that a sheet does
-abbrev keysOf : List (List ℕ) → List ℕ
-keysOf ls = flatten (map keysIn ls)
+abbrev keysInLines : List (List ℕ) → List ℕ
+keysInLines ls = flatten (map keysInLine ls)
 
 abbrev pub keysOn : List ℕ → List ℕ
-keysOn text = keysOf (inGroups lineSize text)
+keysOn text = keysInLines (inGroups lineSize text)
 
 -- ---- a field
 
@@ -86,21 +89,21 @@ fieldKey-field ks i fit = ⊎-elim {C = fieldKey (field ks i) ≡ take 1 (drop i
 
 -- ---- a line
 
--- a row does not begin with a `p`
-first-plain : (xs ys : List ℕ) → 0 < length xs → Each Plain xs → getD (xs ++ ys) 0 0 ≡ 112 → ⊥
+-- a row does not begin so
+first-plain : (xs ys : List ℕ) → 0 < length xs → Each Plain xs → getD (xs ++ ys) 0 0 ≡ pageLetter → ⊥
 first-plain [] ys h plain e = omega arith
 first-plain (x ∷ xs) ys h plain e = let few = plain .0 .1 in omega arith
 
 -- the parts of a line that are its columns
-module _ (a b c : List ℕ) (long : length a ≡ 21) (also : length b ≡ 21) where
+module _ (a b c : List ℕ) (long : length a ≡ columnWidth) (also : length b ≡ columnWidth) where
   first-column : take fieldWidth (a ++ (b ++ c)) ≡ take fieldWidth a
   first-column = take-append-le fieldWidth a (b ++ c) (omega arith)
 
-  second-column : take fieldWidth (drop 21 (a ++ (b ++ c))) ≡ take fieldWidth b
-  second-column = rw (drop-at a (b ++ c) 21 long) (take-append-le fieldWidth b c (omega arith))
+  second-column : take fieldWidth (drop columnWidth (a ++ (b ++ c))) ≡ take fieldWidth b
+  second-column = rw (drop-at a (b ++ c) columnWidth long) (take-append-le fieldWidth b c (omega arith))
 
-  third-column : drop 42 (a ++ (b ++ c)) ≡ c
-  third-column = sym (drop-drop 21 21 (a ++ (b ++ c))) ∙ rw (drop-at a (b ++ c) 21 long) (drop-at b c 21 also)
+  third-column : drop (2 * columnWidth) (a ++ (b ++ c)) ≡ c
+  third-column = sym (drop-drop columnWidth columnWidth (a ++ (b ++ c))) ∙ rw (drop-at a (b ++ c) columnWidth long) (drop-at b c columnWidth also)
 
 three : (ks : List ℕ) → take 1 (drop 0 ks) ++ (take 1 (drop 1 ks) ++ take 1 (drop 2 ks)) ≡ take rowKeys ks
 three [] = refl
@@ -112,18 +115,18 @@ module _ (ks : List ℕ) (fit : KeysFit ks) where
   column : (i b : ℕ) → take fieldWidth (field ks i ++ (b ∷ [])) ≡ field ks i
   column i b = take-at (field ks i) (b ∷ []) fieldWidth (length-field ks i (fit i))
 
-  length-column : (i b : ℕ) → length (field ks i ++ (b ∷ [])) ≡ 21
+  length-column : (i b : ℕ) → length (field ks i ++ (b ∷ [])) ≡ columnWidth
   length-column i b = rw (length-append (field ks i), length-field ks i (fit i))
 
-  keysIn-row : keysIn (line (row ks)) ≡ take rowKeys ks
-  keysIn-row =
+  keysInLine-row : keysInLine (line (row ks)) ≡ take rowKeys ks
+  keysInLine-row =
       let a = field ks 0 ++ (space ∷ []) in
       let b = field ks 1 ++ (space ∷ []) in
       let c = field ks 2 ++ lineFeed in
       let l = length-column 0 space in
       let m = length-column 1 space in
       let some : 0 < length (row ks) = omega (arith, row-is-line ks fit .long) in
-      let columns : rowKeysIn (a ++ (b ++ c)) ≡ take rowKeys ks =
+      let columns : keysInFields (a ++ (b ++ c)) ≡ take rowKeys ks =
       rw (
         first-column a b c l,
         second-column a b c l m,
@@ -135,22 +138,22 @@ module _ (ks : List ℕ) (fit : KeysFit ks) where
         fieldKey-field ks 1 fit,
         fieldKey-field ks 2 fit,
       ) (three ks) in
-      rw (ne-eqb (getD (line (row ks)) 0 0) 112 (first-plain (row ks) lineFeed some (plain-row ks))) (ap rowKeysIn (row-columns ks) ∙ columns)
+      rw (ne-eqb (getD (line (row ks)) 0 0) pageLetter (first-plain (row ks) lineFeed some (plain-row ks))) (ap keysInFields (row-columns ks) ∙ columns)
 
-keysIn-head : (number pages : ℕ) → keysIn (line (headLine number pages)) ≡ []
+keysInLine-head : (number pages : ℕ) → keysInLine (line (headLine number pages)) ≡ []
 unfolding headLine padded
-keysIn-head number pages = refl
+keysInLine-head number pages = refl
 
 -- ---- lines, pages, the sheet
 
 -- with their line feeds
 abbrev told : List (List ℕ) → List ℕ
-told ls = keysOf (map line ls)
+told ls = keysInLines (map line ls)
 
 told-append : (xs ys : List (List ℕ)) → told (xs ++ ys) ≡ told xs ++ told ys
 unfolding flatten
 told-append [] ys = refl
-told-append (x ∷ xs) ys = rw (told-append xs ys, append-assoc (keysIn (line x)))
+told-append (x ∷ xs) ys = rw (told-append xs ys, append-assoc (keysInLine (line x)))
 
 told-rows-in : (m : ℕ) (ks : List ℕ) → length ks ≤ m → KeysFit ks → told (rows ks) ≡ ks
 unfolding flatten
@@ -160,12 +163,12 @@ told-rows-in (suc m) [] h fit = rw rows-nil
 told-rows-in (suc m) (k ∷ ks) h fit =
     let few = length-drop rowKeys (k ∷ ks) in
     ap told (rows-turn (k ∷ ks) (omega arith))
-    ∙ (ap₂ _++_ (keysIn-row (k ∷ ks) fit) (told-rows-in m (drop rowKeys (k ∷ ks)) (omega arith) (keysFit-drop rowKeys (k ∷ ks) fit))
+    ∙ (ap₂ _++_ (keysInLine-row (k ∷ ks) fit) (told-rows-in m (drop rowKeys (k ∷ ks)) (omega arith) (keysFit-drop rowKeys (k ∷ ks) fit))
     ∙ take-append-drop rowKeys (k ∷ ks))
 
 told-page : (number pages : ℕ) (ks : List ℕ) → KeysFit ks → told (page number pages ks) ≡ ks
 unfolding flatten
-told-page number pages ks fit = ap₂ _++_ (keysIn-head number pages) (told-rows-in (length ks) ks (omega arith) fit)
+told-page number pages ks fit = ap₂ _++_ (keysInLine-head number pages) (told-rows-in (length ks) ks (omega arith) fit)
 
 told-sheetLines : (l : List ℕ) → KeysFit l → told (sheetLines l) ≡ l
 unfolding sheetLines
@@ -195,7 +198,7 @@ lines-in-text ls all = inGroups-flatten lineSize (map line ls) (omega arith) (λ
     long (l ∷ ls) (first, rest) x (List·Memᴰ·tail i) = long ls rest x i
 
 pub keysOn-sheetText : (l : List ℕ) → KeysFit l → length l ≤ limit → keysOn (sheetText l) ≡ l
-keysOn-sheetText l fit few = ap keysOf (lines-in-text (sheetLines l) (sheet-lines l fit few)) ∙ told-sheetLines l fit
+keysOn-sheetText l fit few = ap keysInLines (lines-in-text (sheetLines l) (sheet-lines l fit few)) ∙ told-sheetLines l fit
 
 -- equal sheets, equal keys
 pub sheet-tells-keys : (l m : List ℕ) → KeysFit l → KeysFit m → length l ≤ limit → length m ≤ limit → sheetText l ≡ sheetText m → l ≡ m

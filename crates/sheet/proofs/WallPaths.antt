@@ -9,7 +9,7 @@ use Rattle.keys.specs.Store.{limit, inOrder}
 use Rattle.keys.proofs.StoreLaws.{inOrder-count, length-keysOf}
 use Rattle.claims.specs.Question.{firstNo}
 use Rattle.claims.proofs.QuestionLaws.{settle-done, settle-refused}
-use Rattle.rule.specs.Node.{nodeKeys, nodeInOrder}
+use Rattle.rule.specs.Node.{nodeKeys}
 use Rattle.rule.proofs.NodeLaws.{nodeInOrder-ordered}
 use Rattle.wire.specs.declared.answer.Imaged.{Imaged}
 use Rattle.wire.specs.Image.{readImageQuestions, readImage}

@@ -1,6 +1,6 @@
 -- `sheet::layout::put_column` meets its contract. Assumes nothing.
 use borrow.Author.Needs.{needs}
-use Rattle.sheet.proofs.LayoutPaths.{column-room, column-put}
+use Rattle.sheet.proofs.LayoutPaths.{column-put}
 use Rattle.sheet.proofs.layout.put_column.Statement.{statement}
 use Rattle.sheet.proofs.layout.put_column.Tie as tie
 
