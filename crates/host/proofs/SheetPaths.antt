@@ -90,6 +90,7 @@ module _ (image out : List ℕ) {keys : List ℕ} {r : Rest} (loaded : Loaded im
         length-is : w .length ≡ length (sheetText held)
         length-is = ap (λ (x : Length). x .length) wrote ∙ writeSheetIn-length held few-held (length out) none
 
+        -- the premise is what the kit says of every slice, here of one byte to an element
         pub sheet-small : length out * 1 < 2 ^ 63 → w .length < 2 ^ 63
         sheet-small h = omega (arith, length-is, sheet-fits held few-held (length out) none)
 
