@@ -4,7 +4,7 @@
 #[path = "../../second/tests/common/mod.rs"]
 mod common;
 
-use common::{c, claim_of, frame_of, image_of, image_of_keys, three};
+use common::{c, claim_of, even, frame_of, full_image, image_of, image_of_keys, three};
 use minutefrost::*;
 use second::Claim;
 
@@ -45,25 +45,6 @@ fn sheet_refused(image: &[u8], mut out: Vec<u8>) -> u8 {
     let refusal = sheet(image, &mut out).unwrap_err();
     assert!(out.iter().all(|&byte| byte == 0xA5), "{refusal}");
     refusal.number()
-}
-
-/// Keys 0, 2, 4, …, so many of them.
-fn even(count: u64) -> Vec<u64> {
-    (0..count).map(|at| 2 * at).collect()
-}
-
-/// 1,024 keys and 64 claims, each about so many keys as `cnt` says.
-fn full(cnt: u16) -> Vec<u8> {
-    let keys = even(1_024);
-    let pending: Vec<Claim> = (0..64)
-        .map(|at| {
-            let (lo, hi) = (2 * at, 2 * (at + 900));
-            c(lo, hi, lo ^ hi, cnt)
-        })
-        .collect();
-    let image = image_of(&keys, &pending);
-    assert_eq!(image.len(), IMAGE_MOST);
-    image
 }
 
 /// Bytes that are no image, each with its number.
@@ -268,7 +249,7 @@ fn the_last_key_that_fits_is_taken() {
         assert_eq!(entered(&image, key), image_of_keys(&keys));
     }
     // Full, and with a full table: what is held already still is.
-    let image = full(1_000);
+    let image = full_image(1_000);
     for key in even(1_024) {
         assert_eq!(entered(&image, key), image);
     }
@@ -286,7 +267,7 @@ fn keys_come_in_order_from_both_ends() {
     assert_eq!(walk.size_hint(), (2, Some(2)));
     assert_eq!((walk.by_ref().count(), walk.next()), (2, None));
     assert_eq!(keys(&EMPTY_IMAGE).unwrap().next(), None);
-    assert!(keys(&full(2)).unwrap().eq(even(1_024)));
+    assert!(keys(&full_image(2)).unwrap().eq(even(1_024)));
 }
 
 /// Why nobody may count on beats alone: both kiosks say the same of different
@@ -418,7 +399,7 @@ fn a_beat_replies_and_keeps_what_it_asked_about() {
 #[test]
 fn the_most_that_a_beat_sends_fits() {
     let (mut out, mut sent) = buffers();
-    let image = full(2);
+    let image = full_image(2);
     let beaten = beat(&image, &mut out, &mut sent).unwrap();
     assert_eq!(beaten.frames, BEAT_FRAMES);
     assert_eq!(beaten.image, IMAGE_MOST - 64 * 26);
@@ -428,155 +409,11 @@ fn the_most_that_a_beat_sends_fits() {
     assert_eq!(lengths, expected);
 }
 
-/// The bytes of a sheet's line, the line feed with them.
-const LINE: usize = 63;
-
-/// The sheet of an image, which has so many lines: a buffer of just its length
-/// is enough, one byte less is refused, and behind it nothing is written.
-fn sheet_of(image: &[u8], lines: usize) -> String {
-    let length = LINE * lines;
-    assert_eq!(sheet_refused(image, vec![0xA5; length - 1]), 15);
-    let sheets = [0, 1, 40, SHEET_MOST].map(|spare| {
-        let mut out = vec![0xA5; length + spare];
-        assert_eq!(sheet(image, &mut out), Ok(length));
-        assert!(out[length..].iter().all(|&byte| byte == 0xA5));
-        out.truncate(length);
-        out
-    });
-    let [text, ..] = &sheets;
-    assert!(sheets.iter().all(|other| other == text));
-    String::from_utf8(text.clone()).unwrap()
-}
-
-#[test]
-fn a_sheet_is_laid_out_line_by_line() {
-    let head = "page    1 of    1                                             ";
-    let max = u64::MAX;
-    for (keys, lines) in [
-        (&[][..], &[][..]),
-        (
-            &[0],
-            &["                   0                                          "],
-        ),
-        (
-            &[max],
-            &["18446744073709551615                                          "],
-        ),
-        (
-            &[0, max],
-            &["                   0 18446744073709551615                     "],
-        ),
-        (
-            &[9, 10, 100],
-            &["                   9                   10                  100"],
-        ),
-        (
-            &[0, 7, max - 1, max],
-            &[
-                "                   0                    7 18446744073709551614",
-                "18446744073709551615                                          ",
-            ],
-        ),
-    ] {
-        let expected = [&[head], lines, &[""]].concat().join("\n");
-        let told = sheet_of(&image_of_keys(keys), 1 + lines.len());
-        assert_eq!(told, expected, "{keys:?}");
-    }
-}
-
-/// The sheet of these keys by way of strings, where it has so many pages.
-fn sheet_by_strings(keys: &[u64], pages: usize) -> String {
-    let fields: Vec<String> = keys.iter().map(|key| format!("{key:>20}")).collect();
-    let lines: Vec<String> = fields.chunks(3).map(|line| line.join(" ")).collect();
-    let mut rest = lines.chunks(40);
-    let mut sheet = String::new();
-    for page in 1..=pages {
-        let head = format!("page {page:>4} of {pages:>4}");
-        let lines = rest.next().unwrap_or_default();
-        for line in [&head].into_iter().chain(lines) {
-            sheet += &format!("{line:<62}\n");
-        }
-    }
-    assert_eq!(rest.next(), None);
-    sheet
-}
-
-/// The head line isn't one of a page's 40.
-#[test]
-fn a_page_has_forty_lines() {
-    for (count, pages, on_the_last) in [
-        (0, 1, 0),
-        (1, 1, 1),
-        (3, 1, 1),
-        (4, 1, 2),
-        (117, 1, 39),
-        (118, 1, 40),
-        (119, 1, 40),
-        (120, 1, 40),
-        (121, 2, 1),
-        (240, 2, 40),
-        (241, 3, 1),
-        (1_023, 9, 21),
-        (1_024, 9, 22),
-    ] {
-        // 0, 1, 64, 729, … and the largest key.
-        let mut keys: Vec<u64> = (0_u64..count).map(|at| at.pow(6)).collect();
-        if let Some(last) = keys.last_mut() {
-            *last = u64::MAX;
-        }
-        let lines = 41 * (pages - 1) + 1 + on_the_last;
-        let told = sheet_of(&image_of_keys(&keys), lines);
-        assert_eq!(told, sheet_by_strings(&keys, pages), "{count} keys");
-    }
-}
-
-#[test]
-fn keys_of_every_length_are_told_on_a_sheet() {
-    let powers = (0..20).map(|digits| 10_u64.pow(digits));
-    let mut keys: Vec<u64> = powers.flat_map(|power| [power - 1, power]).collect();
-    keys.extend([u64::MAX - 1, u64::MAX]);
-    let told = sheet_of(&image_of_keys(&keys), 15);
-    assert_eq!(told, sheet_by_strings(&keys, 1));
-}
-
-#[test]
-fn the_longest_sheet_fits() {
-    // 342 lines of keys and nine head lines.
-    let told = sheet_of(&image_of_keys(&even(1_024)), 342 + 9);
-    assert_eq!(told.len(), SHEET_MOST);
-    assert_eq!(told, sheet_by_strings(&even(1_024), 9));
-}
-
-/// Those that 16 refuses don't keep an image from having a sheet.
-#[test]
-fn pending_claims_are_not_on_the_sheet() {
-    let [own, good] = [c(1, 16, 17, 2), three(1, 2, 16)];
-    let [above, at_hi] = [three(1, 20, 16), three(1, 16, 16)];
-    let told = sheet_of(&image_of_keys(&[1, 16]), 2);
-    for mut pending in [
-        vec![own],
-        vec![own, good],
-        vec![above],
-        vec![above, at_hi],
-        vec![own, above, at_hi, good],
-    ] {
-        pending.sort_by_key(Claim::rank);
-        let image = image_of(&[1, 16], &pending);
-        assert_eq!(sheet_of(&image, 2), told, "{pending:?}");
-    }
-    // Full, with full tables: 16 refuses each of the claims of three.
-    let lines = SHEET_MOST / LINE;
-    let told = sheet_of(&image_of_keys(&even(1_024)), lines);
-    for cnt in [2, 3, 1_000] {
-        assert_eq!(sheet_of(&full(cnt), lines), told);
-    }
-}
-
 /// On four threads at once, each with a stack of 128 KB.
 #[test]
 fn small_stacks_are_enough() {
     fn all_calls() -> [Vec<u8>; 5] {
-        let image = full(1_000);
+        let image = full_image(1_000);
         let frame = frame_of(&[c(0, 2_046, 1, 700); 4]);
         let (mut taken, mut sent) = buffers();
         let (mut beaten, mut entered) = (taken.clone(), taken.clone());

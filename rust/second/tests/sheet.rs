@@ -143,23 +143,6 @@ fn keys_on(fields: &[&str]) -> Vec<u64> {
     fields[..used].iter().map(key).collect()
 }
 
-/// Counts of keys; the pages of their sheets, and the lines on the last one.
-const PAGES: [(usize, usize, usize); 13] = [
-    (0, 1, 0),
-    (1, 1, 1),
-    (3, 1, 1),
-    (4, 1, 2),
-    (117, 1, 39),
-    (118, 1, 40),
-    (119, 1, 40),
-    (120, 1, 40),
-    (121, 2, 1),
-    (240, 2, 40),
-    (241, 3, 1),
-    (1_023, 9, 21),
-    (1_024, 9, 22),
-];
-
 /// So many keys of one digit and of twenty, and of all lengths between.
 fn spread(count: usize) -> Vec<u64> {
     let mut keys: Vec<u64> = (0..count as u64)

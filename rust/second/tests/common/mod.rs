@@ -322,3 +322,39 @@ pub fn for_seeds(cases: u64, property: impl Fn(&mut Rng)) {
         property(&mut Rng(seed));
     }
 }
+
+/// Keys 0, 2, 4, …, so many of them.
+pub fn even(count: u64) -> Vec<u64> {
+    (0..count).map(|at| 2 * at).collect()
+}
+
+/// 1,024 keys and 64 claims, each about so many keys as `cnt` says.
+pub fn full_image(cnt: u16) -> Vec<u8> {
+    let keys = even(1_024);
+    let pending: Vec<Claim> = (0..64)
+        .map(|at| {
+            let (lo, hi) = (2 * at, 2 * (at + 900));
+            c(lo, hi, lo ^ hi, cnt)
+        })
+        .collect();
+    let image = image_of(&keys, &pending);
+    assert_eq!(image.len(), IMAGE_MOST);
+    image
+}
+
+/// Counts of keys; the pages of their sheets, and the lines on the last one.
+pub const PAGES: [(usize, usize, usize); 13] = [
+    (0, 1, 0),
+    (1, 1, 1),
+    (3, 1, 1),
+    (4, 1, 2),
+    (117, 1, 39),
+    (118, 1, 40),
+    (119, 1, 40),
+    (120, 1, 40),
+    (121, 2, 1),
+    (240, 2, 40),
+    (241, 3, 1),
+    (1_023, 9, 21),
+    (1_024, 9, 22),
+];
