@@ -1,4 +1,5 @@
--- Questions, each with its number when the answer is no (document 01, the section of that name; document 02): 1 to 7 and 16, and the first one answered no.
+-- Questions, each with its number when the answer is no (document 01, the section of that name; document 02): 1 to 7, 16 and 17, and the first one answered
+-- no.
 -- A call's questions are a list in the order in which they are put. Assumes nothing.
 use Prim.Native.Nat.{ℕ, _+_, _-_}
 use mathlib.Core.Bool.{Bool, true, cond, _&&_}
@@ -60,6 +61,10 @@ question7 i j count = question 7 (leb i j && ltb j count)
 -- (document 02, slip 2)
 abbrev pub question16 : Claim → Question
 question16 c = question 16 (cond (eqb (c .cnt) 3) (middleInside c) true)
+
+-- "17, for n above the limit" (document 02, slip 5): of a number of keys
+abbrev pub question17 : ℕ → Question
+question17 n = question 17 (leb n limit)
 
 -- the questions that were put to a single claim before 16 came, in order
 abbrev pub formerQuestions : Claim → List Question

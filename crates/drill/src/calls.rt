@@ -58,8 +58,9 @@ fn needed(call: u64) -> usize {
         card::RIGHT, // Store::empty
         card::PAST_BOTH, // round_record
         card::RIGHT, // write_sheet
+        card::LEFT, // opening_cost
     ];
-    if call < 17 {
+    if call < 18 {
         return by_number[call as usize];
     }
     usize::MAX
@@ -99,7 +100,8 @@ fn on_words(call: u64, words: &mut [u64; MOST], n: usize) -> Said {
         7 => round_words(words, n),
         13 => ordered(words),
         14 => empty(words),
-        _ => round_record(words),
+        15 => round_record(words),
+        _ => opening_cost(words),
     }
 }
 
@@ -321,6 +323,15 @@ fn write_sheet(words: &[u64; MOST], lent: &mut [u8]) -> Said {
         made: true,
         number: written.number,
         count: written.length,
+    }
+}
+
+fn opening_cost(words: &[u64; MOST]) -> Said {
+    let cost = opening::opening_cost(get(words, card::FIRST) as usize);
+    Said {
+        made: true,
+        number: cost.number,
+        count: cost.deliveries,
     }
 }
 

@@ -8,10 +8,11 @@
 //
 // The words of every request, by place:
 //     0            the answer's number: of the first question answered no, or 0
-//     1            the answer's count: of claims (read_frame), of claims written (beat), of deliveries (round_words, round_record), of bytes
-//                  (write_frame, write_image, image_length, write_sheet), 1 or 0 for yes or no (ordered), or which kind of reply (0 match, 1 ask, 2 one,
-//                  3 two; 0 if refused)
-//     2            the first argument: the key (enter), the first position (make), n (write_frame), the record's place (round_record)
+//     1            the answer's count: of claims (read_frame), of claims written (beat), of deliveries (round_words, round_record,
+//                  opening_cost), of bytes (write_frame, write_image, image_length, write_sheet), 1 or 0 for yes or no (ordered), or which
+//                  kind of reply (0 match, 1 ask, 2 one, 3 two; 0 if refused)
+//     2            the first argument: the key (enter), the first position (make), n (write_frame, opening_cost), the record's place
+//                  (round_record)
 //     3            the second argument: the last position (make), or how many words or bytes are lent; what comes after those is not lent
 //     4 to 19      four claims, each lo, hi, sum, cnt (of cnt the low 16 bits count). The first is the argument of reply, judge and take; the
 //                  four are those of write_frame. Answered: the claim of make in the first; of reply in the second and third, zeros where there
@@ -21,7 +22,8 @@
 //     1045 ..      a round's right store, to 2069; from 2070 on the words from which a round is lent its own
 //
 // The calls: 1 enter, 2 make, 3 reply, 4 judge, 5 take, 6 beat, 7 round_words, 8 read_frame, 9 write_frame, 10 read_image, 11 write_image,
-// 12 image_length, 13 ordered, 14 Store::empty, 15 round_record, 16 write_sheet. Calls 8 to 12 and 16 are lent the first of the request's bytes.
+// 12 image_length, 13 ordered, 14 Store::empty, 15 round_record, 16 write_sheet, 17 opening_cost. Calls 8 to 12 and 16 are lent the
+// first of the request's bytes.
 mod calls;
 mod card;
 mod raw;

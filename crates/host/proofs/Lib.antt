@@ -12,6 +12,7 @@
 --   SavePaths   src/save.rt: the end of a call that writes one image
 --   LibPaths    src/lib.rt: what the host calls return
 --   SheetPaths  src/lib.rt: the wall sheet of an image
+--   CostPaths   src/lib.rt: what a new kiosk costs
 --   Fitting     numbers that fit their widths in bytes
 --   Trips       what the daemon is given back is what the next call takes
 pub mod Cases
@@ -26,5 +27,6 @@ mod EnterPaths
 mod SavePaths
 mod LibPaths
 mod SheetPaths
+mod CostPaths
 mod Fitting
 pub mod Trips

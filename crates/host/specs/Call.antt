@@ -13,6 +13,8 @@ use Rattle.rule.specs.Table.{serve, sending}
 use Rattle.rule.specs.Question.{question15}
 use Rattle.wire.specs.Frame.{frameClaims, readFrameQuestions}
 use Rattle.wire.specs.Image.{imageLimit, nodeBytes, readImageQuestions, readImage}
+use Rattle.opening.specs.Cost.{openingCost}
+use Rattle.opening.specs.Call.{costQuestions}
 use Rattle.sheet.specs.Sheet.{sheetText}
 use Rattle.sheet.specs.Call.{sheetQuestion15}
 use Rattle.host.specs.Taking.{questions6, takenInTurn}
@@ -44,6 +46,11 @@ imageSheet image room = settle (firstNo (sheetQuestions image room)) (pos (lengt
 
 unfoldable pub imageSheetOut : List ℕ → List ℕ → List ℕ
 imageSheetOut image out = settle (firstNo (sheetQuestions image (length out))) (putAt out 0 (sheetOf image)) (λ k. out)
+
+-- ---- what a new kiosk costs (document 02, slip 5): the deliveries that fill an empty store with so many keys. Asks 17.
+
+unfoldable pub openingTold : ℕ → ℤ
+openingTold keys = settle (firstNo (costQuestions keys)) (pos (openingCost keys)) minus
 
 -- ---- an image that is written: after the questions of a call comes 15 ("the frame host call needs 9,860"), and then a node's image goes to the front of a
 -- buffer and its length is returned, or minus the number and the buffer is as it was

@@ -1,4 +1,4 @@
-// What the kiosk daemon links: five calls on images and frames (document 01, "Host calls"; document 02, slip 4).
+// What the kiosk daemon links: five calls on images and frames (document 01, "Host calls"; document 02, slip 4), and one for planners (slip 5).
 mod enter;
 mod load;
 mod save;
@@ -15,11 +15,12 @@ use crate::sign::minus;
 use crate::sign::size;
 use crate::turn::taken_from;
 use keys::Store;
+use opening::opening_cost;
 use sheet::write_sheet_in;
 use wire::Imaged;
 ghost use mathlib.Core.Path.{_≡_};
 ghost use lib.ListN.{length};
-ghost use Rattle.host.specs.Call.{imageCounted, imageSheet, imageSheetOut, frameTaken, frameTakenOut, keyEntered, keyEnteredOut};
+ghost use Rattle.host.specs.Call.{openingTold, imageCounted, imageSheet, imageSheetOut, frameTaken, frameTakenOut, keyEntered, keyEnteredOut};
 ghost use Rattle.host.specs.Call.{imageBeaten, imageBeatenOut, imageBeatenFrames};
 
 // Takes an image and a frame, takes each claim in turn, writes the new image to the front of `out` and returns its length; or minus the number of the
@@ -78,6 +79,18 @@ pub extern "C" fn minutefrost_sheet(image: &[u8], out: &mut [u8]) -> i64
         return minus(written.number);
     }
     size(written.length)
+}
+
+// The deliveries of a round that fills an empty store with so many keys; or minus the number of the first question answered no. Asks 17.
+#[no_mangle]
+pub extern "C" fn minutefrost_opening_cost(keys: usize) -> i64
+    ensures { λ r. ⌜ r ≡ openingTold keys ⌝ }
+{
+    let cost = opening_cost(keys);
+    if cost.number != 0 {
+        return minus(cost.number);
+    }
+    size(cost.deliveries)
 }
 
 // Takes an image, runs a beat, writes the new image to the front of `out` and the claims to the front of `frames`, four to a frame and the rest in a last

@@ -1,0 +1,38 @@
+-- Worked costs: stores of 0 to 11 keys with the deliveries that fill an empty one, each beside the round itself; and the numbers for planners. That E and the
+-- round give what is wanted is one law each, in proofs/Cases, by computing. Assumes nothing.
+use Prim.Native.Nat.{ℕ}
+use mathlib.Core.List.{List, [], _∷_}
+use lib.ListN.{length}
+use Rattle.rule.specs.Round.{roundOf}
+use Rattle.opening.specs.Cost.{openingCost}
+
+-- the keys of the right store, and the deliveries of the round
+pub record Row : Type 0 where
+  pub keys : List ℕ
+  pub wanted : ℕ
+
+abbrev pub row : List ℕ → ℕ → Row
+row l n = record { keys = l; wanted = n }
+
+-- what E tells of so many keys, and how many deliveries the round of an empty left store makes
+abbrev pub told : Row → ℕ
+told r = openingCost (length (r .keys))
+
+abbrev pub made : Row → ℕ
+made r = length (roundOf [] (r .keys) .lines)
+
+abbrev pub table : List Row
+table =
+    row [] 0
+    ∷ row (0 ∷ []) 1
+    ∷ row (5 ∷ 6 ∷ []) 1
+    ∷ row (1 ∷ 2 ∷ 16 ∷ []) 1
+    ∷ row (1 ∷ 2 ∷ 4 ∷ 16 ∷ []) 3
+    ∷ row (0 ∷ 1 ∷ 2 ∷ 3 ∷ 4 ∷ []) 3
+    ∷ row (1 ∷ 2 ∷ 4 ∷ 8 ∷ 16 ∷ 32 ∷ []) 4
+    ∷ row (1 ∷ 3 ∷ 4 ∷ 6 ∷ 8 ∷ 10 ∷ 12 ∷ []) 4
+    ∷ row (0 ∷ 1 ∷ 2 ∷ 3 ∷ 4 ∷ 5 ∷ 6 ∷ 7 ∷ []) 6
+    ∷ row (1 ∷ 2 ∷ 3 ∷ 5 ∷ 8 ∷ 13 ∷ 21 ∷ 34 ∷ 55 ∷ []) 6
+    ∷ row (2 ∷ 3 ∷ 5 ∷ 7 ∷ 11 ∷ 13 ∷ 17 ∷ 19 ∷ 23 ∷ 29 ∷ []) 6
+    ∷ row (10 ∷ 11 ∷ 12 ∷ 13 ∷ 14 ∷ 15 ∷ 16 ∷ 17 ∷ 18 ∷ 19 ∷ 20 ∷ []) 8
+    ∷ []
