@@ -1,16 +1,18 @@
 //! The host calls, on numbers and byte slices (document 01, "Frame and
 //! image").
 //!
-//! Document 01 names two of them, [`take_frame`] and [`beat`]. By the other
-//! three a daemon enters a key, as document 01 enters one into a store, learns
-//! how many keys an image holds, and lays them out as the wall sheet (document
-//! 02, slip 4).
+//! Document 01 names two of them, [`take_frame`] and [`beat`]. By three others
+//! a daemon enters a key, as document 01 enters one into a store, learns how
+//! many keys an image holds, and lays them out as the wall sheet (document 02,
+//! slip 4). By the last, [`opening_cost`], a planner learns what a new kiosk
+//! costs (document 02, slip 5). It takes no image.
 //!
 //! An image with pending claims that fail 16 "is written back without" them
 //! (document 02, slip 2) by each call that writes one.
 
 use crate::frame::{FRAME_CLAIMS, claims_of_frame, put_frame};
 use crate::image::{IMAGE_MOST, node_of_image, put_image};
+use crate::opening::deliveries;
 use crate::questions::{self, Asked, ask};
 use crate::sheet::{put_sheet, sheet_length};
 
@@ -111,4 +113,10 @@ fn try_sheet(image: &[u8], out: &mut [u8]) -> Asked<usize> {
     let needs = [(out.len(), sheet_length(store.keys().len()))];
     ask(15, questions::q15_outputs_long_enough(&needs))?;
     Ok(put_sheet(store.keys(), out))
+}
+
+/// How many deliveries open a new kiosk with so many keys, or minus the number.
+/// Asks 17.
+pub fn opening_cost(keys: usize) -> i64 {
+    answer(questions::of_opening_cost(keys).map(|()| deliveries(keys)))
 }

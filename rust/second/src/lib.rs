@@ -1,7 +1,8 @@
-//! Document 01 and slips 1, 2 and 4 of document 02 in plain Rust, written from
-//! these and the paper alone; slip 3 changed nothing that is seen. Three host
-//! calls are beyond document 01: [`host::enter`], [`host::count`] and, with the
-//! program [`wallsheet()`], [`host::sheet`] for the wall sheet of slip 4.
+//! Document 01 and slips 1, 2, 4 and 5 of document 02 in plain Rust, written
+//! from these and the paper alone; slip 3 changed nothing that is seen. Four
+//! host calls are beyond document 01: [`host::enter`], [`host::count`], for the
+//! wall sheet of slip 4 [`host::sheet`], with the program [`wallsheet()`], and
+//! for what a new kiosk costs, slip 5, [`host::opening_cost`].
 //!
 //! This is the second program of document 01 ("the rest, with random stores,
 //! run against a second program"): it shares no code, table or constant with
@@ -23,6 +24,7 @@ mod frame;
 pub mod host;
 mod image;
 mod node;
+mod opening;
 pub mod questions;
 mod rehearse;
 mod round;
@@ -34,6 +36,7 @@ pub use claim::Claim;
 pub use frame::{CLAIM_BYTES, FRAME_MOST, FrameRead, MARK, VERSION, read_frame, write_frame};
 pub use image::{IMAGE_MOST, ImageRead, Length, image_length, read_image, write_image};
 pub use node::{BEAT_PLACES, Beaten, PENDING, RawNode, Taken, beat, take};
+pub use opening::{OpeningCost, opening_cost};
 pub use rehearse::{REHEARSAL_RECORDS, rehearse};
 pub use round::{Delivery, Rounded, is_false_match, round, round_watched};
 pub use sheet::{SHEET_MOST, write_sheet};

@@ -1,8 +1,8 @@
-//! The sixteen questions (document 01, "Questions, each with its number when
-//! the answer is no", and document 02, slip 2), and for each public call the
-//! first one answered no.
+//! The seventeen questions (document 01, "Questions, each with its number when
+//! the answer is no", and document 02, slips 2 and 5), and for each public call
+//! the first one answered no.
 //!
-//! The functions `q1_…` to `q16_…` answer one question each, yes or no. Those
+//! The functions `q1_…` to `q17_…` answer one question each, yes or no. Those
 //! named `of_…` put a call's questions, "those that concern it, in this
 //! order", 16 "straight after 5", and give the number of the first no. A
 //! question is put only when those before it were answered yes, so that it may
@@ -27,7 +27,7 @@ pub(crate) fn ask(number: u8, yes: bool) -> Asked {
     if yes { Ok(()) } else { Err(number) }
 }
 
-// ---- the sixteen ----
+// ---- the seventeen ----
 
 /// 1, of a store: "the count is at most 1,024, the keys below the count rise
 /// strictly and every place from the count on is 0".
@@ -192,6 +192,12 @@ pub fn q15_outputs_long_enough(lent: &[(usize, usize)]) -> bool {
     lent.iter().all(|(length, need)| length >= need)
 }
 
+/// 17, answered no "for n above the limit", which is the store's (document 02,
+/// slip 5).
+pub fn q17_n_in_store_limit(n: usize) -> bool {
+    n <= RawStore::LIMIT
+}
+
 // ---- the first answered no ----
 
 /// 2 to 5, 16, of one claim.
@@ -283,6 +289,12 @@ pub fn of_write_sheet(store: &RawStore, out: usize) -> Asked {
     ask(1, q1_store_in_order(store))?;
     let need = sheet_length(store.count);
     ask(15, q15_outputs_long_enough(&[(out, need)]))
+}
+
+/// 17, "the only question of this call" (document 02, slip 5), and of its host
+/// call.
+pub fn of_opening_cost(n: usize) -> Asked {
+    ask(17, q17_n_in_store_limit(n))
 }
 
 /// 14, of an image with anything behind it.
