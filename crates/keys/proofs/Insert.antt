@@ -152,6 +152,21 @@ pub length-insertAll-le : (ks l : List ℕ) → length (insertAll ks l) ≤ leng
 length-insertAll-le [] l = omega arith
 length-insertAll-le (k ∷ ks) l = omega (arith, length-insert-le k l, length-insertAll-le ks (insert k l))
 
+-- keys of which none is held
+pub length-insertAll-missing : (ks l : List ℕ) → Rising ks → ((k : ℕ) → List·Memᴰ k ks → List·Memᴰ k l → ⊥) → length (insertAll ks l) ≡ length l + length ks
+length-insertAll-missing [] l r f = omega arith
+length-insertAll-missing (k ∷ ks) l r f =
+    let one : length (insert k l) ≡ suc (length l) = length-insert-missing k l (f k (List·Memᴰ·head refl)) in
+    let others : length (insertAll ks (insert k l)) ≡ length (insert k l) + length ks
+    = length-insertAll-missing ks (insert k l) (r .1)
+    (λ j m n.
+    ⊎-elim
+    {C = ⊥}
+    (λ (e : j ≡ k). omega (arith, above-mem k ks (r .0) j m))
+    (λ (i : List·Memᴰ j l). f j (List·Memᴰ·tail m) i)
+    (insert-mem k l j n)) in
+    omega arith
+
 -- where the length did not grow, nothing was added
 pub insertAll-same : (ks l : List ℕ) → Rising l → length (insertAll ks l) ≤ length l → insertAll ks l ≡ l
 insertAll-same ks l r h = sym (rising-same l (insertAll ks l) r (insertAll-rising ks l r) (mem-insertAll-old ks l) h)

@@ -8,7 +8,7 @@ use mathlib.Core.List.{List, [], _∷_, _++_, List·Memᴰ}
 use mathlib.Core.Logic.{⊎-elim}
 use mathlib.Core.Path.{_≡_, sym, ap, _∙_, subst}
 use native.Mathlib.Omega.{arith}
-use borrow.Author.Tests.{ltb-true, leb-true}
+use borrow.Author.Tests.{ltb-true, leb-true, le-leb}
 use lib.ListN.{length, length-take}
 use Rattle.keys.specs.declared.store.Store.{Store}
 use Rattle.keys.specs.Store.{limit, keysOf, storeOf, inOrder, insertAll}
@@ -112,6 +112,15 @@ roundQuestions-yes s t n h =
       fits = leb-true (length (union (keysOf s) (keysOf t))) limit (c .0);
       room = leb-true (2 * length (union (keysOf s) (keysOf t))) n (d .0);
     }
+
+pub yes-roundQuestions : (s t : Store) (n : ℕ) → RoundYes s t n → firstNo (roundQuestions s t n) ≡ 0
+yes-roundQuestions s t n y =
+    rw (
+      y .left,
+      y .right,
+      le-leb (length (union (keysOf s) (keysOf t))) limit (y .fits),
+      le-leb (2 * length (union (keysOf s) (keysOf t))) n (y .room),
+    )
 
 pub met-done : (s t : Store) (n : ℕ) → firstNo (roundQuestions s t n) ≡ 0 →
     met s t n
