@@ -16,11 +16,14 @@ use Rattle.claims.specs.Call.{judged, judgedFormerly, entered, made, replied}
 use Rattle.rule.specs.Node.{blanks, nodeOf, emptyNode, savedInOrder, nodeInOrder}
 use Rattle.rule.specs.Round.{leftEnd, Entry, run, runAll, half, roundOf}
 use Rattle.rule.specs.Call.{taken, beaten, beatenLent, met, metLent}
+use Rattle.rule.specs.Cases.{alikeLeft, alikeRight}
 use Rattle.rule.proofs.Half.{opening}
+use Rattle.opening.specs.Cost.{openingCost}
 use Rattle.meeting.specs.World.{start, outcome, afterAll, numbers}
 use Rattle.meeting.specs.Premise.{AllMeant}
 use Rattle.meeting.specs.Statement.{end, keysIn, enteredIn, different, apart, rounds, noneFalse, Demand3}
-use Rattle.meeting.specs.Examples.{crossing, passedOn, apartThree, threeTurns, fourAndNone}
+use Rattle.meeting.specs.Opening.{afterOpening, BothHold}
+use Rattle.meeting.specs.Examples.{crossing, passedOn, apartThree, threeTurns, tempting, itsEnds, fourAndNone}
 use Rattle.meeting.proofs.Theorem.{every-list-meets}
 use Rattle.meeting.proofs.Meeting.{BothEnd}
 
@@ -153,3 +156,24 @@ three-leave-none = refl
 pub two-leave-one : map (λ (e : Entry). e .claim) (run 2 fourAndNone (opening leftEnd fourAndNone) .waiting) ≡ claim 2 3 1 2 ∷ []
 unfolding opened
 two-leave-one = refl
+
+-- ---- one store has all keys of the other
+
+-- an empty one is filled, and told what it costs
+pub tempting-opened : met emptyStore (storeOf tempting) 10 ≡ afterOpening (storeOf tempting)
+unfolding opened openingCost
+tempting-opened = refl
+
+-- either store may be the fuller one ..
+pub ends-filled : BothHold tempting (met (storeOf itsEnds) (storeOf tempting) 10)
+unfolding opened
+ends-filled = record { left = refl; right = refl }
+
+pub ends-fill : BothHold tempting (met (storeOf tempting) (storeOf itsEnds) 10)
+unfolding opened
+ends-fill = record { left = refl; right = refl }
+
+-- .. and one of them must be: these two match falsely, and each stays as it was
+pub alike-stay : (met alikeLeft alikeRight 12 .left ≡ alikeLeft) × (met alikeLeft alikeRight 12 .right ≡ alikeRight)
+unfolding opened
+alike-stay = (refl, refl)

@@ -10,6 +10,10 @@
 --   Equal      a round of two equal stores
 --   Local      a delivery depends only on the keys in its range
 --   Sum        what waits has disjoint ranges, so deliveries add up
+--   Fuller     where one store has all keys of the other, a round makes them equal, whatever matches
+--   Counting   what waits costs, where one end has all keys: what follows from a help
+--   Claiming   .. and from a claim of that end
+--   Opening    what a new kiosk costs (document 02, slip 5)
 --   Examples   lists that meet every premise
 pub mod Progress
 pub mod Apart
@@ -22,4 +26,8 @@ pub mod Beyond
 pub mod Equal
 pub mod Local
 pub mod Sum
+pub mod Fuller
+pub mod Counting
+pub mod Claiming
+pub mod Opening
 pub mod Examples

@@ -58,6 +58,13 @@ apartThree = enters 0 0 ∷ enters 0 10 ∷ meets 0 1 (lentRecords 4) ∷ enters
 abbrev pub threeTurns : List Turn
 threeTurns = straight (lentRecords 10) ∷ turned (lentRecords 10) ∷ straight (lentRecords 12) ∷ []
 
+-- five keys whose claim has the sum of its ends alone, since 4 XOR 8 XOR 12 is 0; and those ends
+abbrev pub tempting : List ℕ
+tempting = 1 ∷ 4 ∷ 8 ∷ 12 ∷ 16 ∷ []
+
+abbrev pub itsEnds : List ℕ
+itsEnds = 1 ∷ 16 ∷ []
+
 -- two stores, in whose round one half takes three deliveries; their union has four keys
 abbrev pub fourAndNone : Pair
 fourAndNone = pair (1 ∷ 2 ∷ 3 ∷ 4 ∷ []) []

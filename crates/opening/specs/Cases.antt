@@ -1,10 +1,13 @@
--- Worked costs: stores of 0 to 11 keys with the deliveries that fill an empty one, each beside the round itself; and the numbers for planners. That E and the
--- round give what is wanted is one law each, in proofs/Cases, by computing. Assumes nothing.
-use Prim.Native.Nat.{ℕ}
+-- Worked costs: stores of 0 to 11 keys with the deliveries that fill an empty one, each beside the round itself; and what the call returns. That E, the round
+-- and the call give what is wanted is one law each, in proofs/Cases, by computing. Assumes nothing.
+use Prim.Native.Nat.{ℕ, _+_}
 use mathlib.Core.List.{List, [], _∷_}
 use lib.ListN.{length}
+use Rattle.keys.specs.Store.{limit}
 use Rattle.rule.specs.Round.{roundOf}
+use Rattle.opening.specs.declared.Costed.{Costed}
 use Rattle.opening.specs.Cost.{openingCost}
+use Rattle.opening.specs.Call.{costed}
 
 -- the keys of the right store, and the deliveries of the round
 pub record Row : Type 0 where
@@ -36,3 +39,15 @@ table =
     ∷ row (2 ∷ 3 ∷ 5 ∷ 7 ∷ 11 ∷ 13 ∷ 17 ∷ 19 ∷ 23 ∷ 29 ∷ []) 6
     ∷ row (10 ∷ 11 ∷ 12 ∷ 13 ∷ 14 ∷ 15 ∷ 16 ∷ 17 ∷ 18 ∷ 19 ∷ 20 ∷ []) 8
     ∷ []
+
+-- what the call returns
+pub record Called : Type 0 where
+  pub gives : Costed
+  pub wanted : Costed
+
+abbrev pub called : ℕ → ℕ → ℕ → Called
+called n x d = record { gives = costed n; wanted = record { number = x; deliveries = d } }
+
+-- the numbers for planners; "17, for n above the limit"
+abbrev pub calls : List Called
+calls = called 0 0 0 ∷ called 100 0 74 ∷ called 1000 0 716 ∷ called limit 0 726 ∷ called (limit + 1) 17 0 ∷ []
