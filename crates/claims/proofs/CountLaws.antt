@@ -1,6 +1,6 @@
 -- Which answer a claim gets, told by counts alone: the claim is that of the keys from lo to hi, or counts more than they are, or fewer. Where one of two
 -- stores has all keys of the other, these are all cases. Assumes nothing.
-use Prim.Native.Nat.{ℕ, _≤_, _<_}
+use Prim.Native.Nat.{ℕ, _<_}
 use mathlib.Core.Bool.{Bool, true, false}
 use mathlib.Core.List.{List, List·Memᴰ}
 use mathlib.Core.Path.{_≡_, refl, ap, _∙_}
@@ -9,7 +9,6 @@ use borrow.Author.Tests.{lt-ltb, le-ltb}
 use lib.ListN.{length}
 use Rattle.keys.proofs.Rising.{Rising}
 use Rattle.claims.specs.declared.claim.Claim.{Claim}
-use Rattle.claims.specs.declared.answer.Answer.{Answer}
 use Rattle.claims.specs.declared.answer.Answer.the-variants.{Match, Ask}
 use Rattle.claims.specs.Claim.{between}
 use Rattle.claims.specs.Reply.{same, answer}

@@ -11,7 +11,7 @@ use native.Mathlib.Omega.{arith}
 use borrow.Author.Tests.{lt-ltb, eq-eqb}
 use lib.Dec.{ltb, eqb}
 use lib.ListN.{length}
-use Rattle.keys.specs.Store.{limit, insert, insertAll}
+use Rattle.keys.specs.Store.{limit, insert}
 use Rattle.keys.proofs.Tests.{and-both}
 use Rattle.keys.proofs.Rising.{Rising, Sub, rising-length}
 use Rattle.keys.proofs.Insert.{insert-after, insert-rising, length-insertAll-le}

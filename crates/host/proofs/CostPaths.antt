@@ -6,7 +6,6 @@ use borrow.Author.Tests.{ne-eqb}
 use lib.IntN.{ℤ, pos}
 use mir.Syntax.{w64}
 use mir.Val.{toZ, ofZ}
-use Rattle.keys.specs.Store.{limit}
 use Rattle.claims.specs.Question.{firstNo}
 use Rattle.opening.specs.declared.Costed.{Costed}
 use Rattle.opening.specs.Cost.{openingCost}

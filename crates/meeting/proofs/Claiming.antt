@@ -10,7 +10,6 @@ use Rattle.keys.proofs.Tests.{lt-or-le}
 use Rattle.keys.proofs.Rising.{Rising, Sub, sub-refl, rising-same}
 use Rattle.claims.specs.declared.claim.Claim.{Claim}
 use Rattle.claims.specs.declared.answer.Answer.{Answer}
-use Rattle.claims.specs.declared.answer.Answer.the-variants.{Match, Ask}
 use Rattle.claims.specs.Claim.{between}
 use Rattle.claims.specs.Reply.{hear, reply, claimsOf}
 use Rattle.claims.proofs.Between.{inside, between-rising, sub-between}
@@ -20,7 +19,7 @@ use Rattle.claims.proofs.QuestionLaws.{Passes}
 use Rattle.claims.proofs.ClaimLaws.{spanClaim}
 use Rattle.claims.proofs.ReplyLaws.{hear-rising, hear-lo, hear-hi, hear-sub}
 use Rattle.claims.proofs.CountLaws.{answer-match, answer-ask}
-use Rattle.rule.specs.Round.{End, other, Pair, keysAt, Entry, entry, waits, delivered, answers, Run}
+use Rattle.rule.specs.Round.{End, other, Pair, keysAt, Entry, entry, waits, delivered, Run}
 use Rattle.rule.proofs.Pair.{keysAt-receiver, keysAt-sender, delivered-rises, delivered-within}
 use Rattle.rule.proofs.Entry.{Sound, sound-entry, sound-limit}
 use Rattle.rule.proofs.Deliver.{adding-within}

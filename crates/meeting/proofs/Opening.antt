@@ -5,9 +5,8 @@ use Prim.Native.Nat.{ℕ, zero, suc, _+_, _-_, _*_, _≤_, _<_}
 use mathlib.Core.Bool.{true}
 use mathlib.Core.List.{List, [], _∷_, _++_, List·Memᴰ, List·Memᴰ·not-nil, Memᴰ·append-left, Memᴰ·append-right}
 use mathlib.Core.Logic.{inr, ⊎-elim}
-use mathlib.Core.Path.{_≡_, refl, sym, ap, ap₂, _∙_, subst}
+use mathlib.Core.Path.{_≡_, refl, sym, ap, _∙_, subst}
 use native.Mathlib.Omega.{arith}
-use borrow.Author.Tests.{le-leb}
 use lib.ListN.{length, length-append}
 use Rattle.keys.specs.declared.store.Store.{Store}
 use Rattle.keys.specs.Store.{limit, keysOf, storeOf, emptyStore, inOrder, insertAll}
@@ -15,7 +14,6 @@ use Rattle.keys.proofs.Tests.{lt-or-le}
 use Rattle.keys.proofs.Rising.{Rising, Sub, sub-refl, rising-length}
 use Rattle.keys.proofs.Insert.{insertAll-rising, insertAll-sub, length-insertAll-missing}
 use Rattle.keys.proofs.StoreLaws.{inOrder-rising, inOrder-count, inOrder-storeOf, length-keysOf, storeOf-keysOf, emptyStore-storeOf}
-use Rattle.claims.specs.Question.{firstNo}
 use Rattle.claims.specs.Reply.{hear}
 use Rattle.claims.proofs.Between.{inside, mem-between, inside-mem, between-rising}
 use Rattle.claims.proofs.Span.{first, last, first-le, le-last, mem-first, mem-last}
@@ -25,12 +23,14 @@ use Rattle.claims.proofs.ReplyLaws.{hear-rising}
 use Rattle.claims.proofs.LackLaws.{Lacks, lacks-within, many-had, few-had}
 use Rattle.rule.specs.declared.answer.Met.{Met}
 use Rattle.rule.specs.Round.{End, leftEnd, rightEnd, other, Pair, pair, keysAt, entry, Run, half, roundOf}
-use Rattle.rule.specs.Call.{roundQuestions, met}
+use Rattle.rule.specs.Call.{met}
 use Rattle.rule.proofs.Pair.{rises-pair, within-unionOf, keysAt-receiver}
 use Rattle.rule.proofs.RoundLaws.{roundOf-halves}
 use Rattle.rule.proofs.CallLaws.{RoundYes, roundQuestions-yes, yes-roundQuestions, met-zero, met-done}
 use Rattle.opening.specs.Cost.{cut, openingCost}
+use Rattle.opening.specs.Call.{costed}
 use Rattle.opening.proofs.CostLaws.{openingCost-none, openingCost-few, openingCost-one, openingCost-two}
+use Rattle.opening.proofs.CallLaws.{costed-yes}
 use Rattle.meeting.specs.Opening.{afterOpening}
 use Rattle.meeting.proofs.Fuller.{round-fuller}
 use Rattle.meeting.proofs.Counting.{Ready, count, Helped, one, two, half-cost, half-none}
@@ -142,30 +142,39 @@ round-cost r rr fits =
 
 -- ---- the call
 
-module _ (t : Store) (long : length (t .keys) ≡ limit) (records : ℕ) where
-  -- "whichever keys they are": of every store that has its places, where the round is not refused
-  pub met-opening : met emptyStore t records .number ≡ 0 → met emptyStore t records ≡ afterOpening t
-  unfolding emptyStore
-  met-opening z =
-      let yes = met-zero emptyStore t records z in
-      let y : RoundYes emptyStore t records = roundQuestions-yes emptyStore t records yes in
-      let r : Rising (keysOf t) = inOrder-rising t (y .right) in
-      let same : storeOf (keysOf t) ≡ t = sym (storeOf-keysOf t long (y .right)) in
-      let stores = round-fuller [] (keysOf t) tt r (y .fits) (inr (λ k i. absurd (List·Memᴰ·not-nil i))) in
-      let left : storeOf (roundOf [] (keysOf t) .stores .left) ≡ t = ap (λ (x : Pair). storeOf (x .left)) stores ∙ same in
-      let right : storeOf (roundOf [] (keysOf t) .stores .right) ≡ t = ap (λ (x : Pair). storeOf (x .right)) stores ∙ same in
-      let cost : length (roundOf [] (keysOf t) .lines) ≡ openingCost (t .count)
-      = round-cost (keysOf t) r (y .fits) ∙ ap openingCost (length-keysOf t long (y .right)) in
-      met-done emptyStore t records yes ∙ (λ i. record { number = 0; left = left i; right = right i; deliveries = cost i })
+-- Of every store that has its places: where the round is not refused, it returns what slip 5 says. Nothing is said of matches.
+pub met-opening : (t : Store) (records : ℕ) → length (t .keys) ≡ limit → met emptyStore t records .number ≡ 0 → met emptyStore t records ≡ afterOpening t
+unfolding emptyStore
+met-opening t records long z =
+    let yes = met-zero emptyStore t records z in
+    let y : RoundYes emptyStore t records = roundQuestions-yes emptyStore t records yes in
+    let r : Rising (keysOf t) = inOrder-rising t (y .right) in
+    let same : storeOf (keysOf t) ≡ t = sym (storeOf-keysOf t long (y .right)) in
+    let stores = round-fuller [] (keysOf t) tt r (y .fits) (inr (λ k i. absurd (List·Memᴰ·not-nil i))) in
+    let left : storeOf (roundOf [] (keysOf t) .stores .left) ≡ t = ap (λ (x : Pair). storeOf (x .left)) stores ∙ same in
+    let right : storeOf (roundOf [] (keysOf t) .stores .right) ≡ t = ap (λ (x : Pair). storeOf (x .right)) stores ∙ same in
+    let cost : length (roundOf [] (keysOf t) .lines) ≡ openingCost (t .count)
+    = round-cost (keysOf t) r (y .fits) ∙ ap openingCost (length-keysOf t long (y .right)) in
+    met-done emptyStore t records yes ∙ (λ i. record { number = 0; left = left i; right = right i; deliveries = cost i })
 
-  -- it is not, where the store is in order and enough records are lent
-  pub opening-accepted : inOrder t ≡ true → 2 * t .count ≤ records → met emptyStore t records .number ≡ 0
-  unfolding emptyStore
-  opening-accepted ordered room =
-      ap (λ (x : Met). x .number)
-      (met-done emptyStore t records (yes-roundQuestions emptyStore t records (record {
-        left = subst (λ (x : Store). inOrder x ≡ true) (sym emptyStore-storeOf) (inOrder-storeOf [] tt (omega arith));
-        right = ordered;
-        fits = omega (arith, length-keysOf t long ordered, inOrder-count t ordered);
-        room = omega (arith, length-keysOf t long ordered);
-      })))
+-- It is not refused where the store is in order and records enough are lent.
+pub opening-accepted : (t : Store) (records : ℕ) → length (t .keys) ≡ limit → inOrder t ≡ true → 2 * t .count ≤ records →
+    met emptyStore t records .number ≡ 0
+unfolding emptyStore
+opening-accepted t records long ordered room =
+    ap (λ (x : Met). x .number)
+    (met-done emptyStore t records (yes-roundQuestions emptyStore t records (record {
+      left = subst (λ (x : Store). inOrder x ≡ true) (sym emptyStore-storeOf) (inOrder-storeOf [] tt (omega arith));
+      right = ordered;
+      fits = omega (arith, length-keysOf t long ordered, inOrder-count t ordered);
+      room = omega (arith, length-keysOf t long ordered);
+    })))
+
+-- So `opening_cost` tells beforehand what the round then returns.
+pub cost-foretold : (t : Store) (records : ℕ) → length (t .keys) ≡ limit → met emptyStore t records .number ≡ 0 →
+    costed (t .count) ≡ record { number = 0; deliveries = met emptyStore t records .deliveries }
+cost-foretold t records long z =
+    sym
+    (costed-yes (t .count) (met emptyStore t records .deliveries)
+    (inOrder-count t (roundQuestions-yes emptyStore t records (met-zero emptyStore t records z) .right))
+    (ap (λ (x : Met). x .deliveries) (met-opening t records long z)))

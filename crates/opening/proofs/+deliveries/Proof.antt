@@ -1,6 +1,5 @@
 -- `deliveries` meets its contract, and ends: each call of itself is for fewer keys. Assumes nothing.
 use Prim.Native.Nat.{ℕ, _<_}
-use borrow.Author.Needs.{needs}
 use borrow.Fn.Kinds.{In}
 use borrow.Fn.PlainCycle.{Measures, is, falls, and}
 use native.Mathlib.Omega.{arith}
