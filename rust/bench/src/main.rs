@@ -10,6 +10,7 @@ mod cases;
 mod deliveries;
 mod library;
 mod machine;
+mod opening;
 mod round;
 mod search;
 mod sheet;
@@ -70,6 +71,7 @@ fn print_report() {
     print_calls();
     print_growth();
     sheet::print_sheets();
+    opening::print_openings();
     search::print_searches();
     round::print_rounds();
 }

@@ -6,6 +6,7 @@
  * cnt, then lo, hi, sum). A frame is what kiosks send: hex 4C 43, version 1,
  * n from 1 to 4, n claims of 26 bytes (lo 8, hi 8, sum 8, cnt 2). Numbers are
  * unsigned, high byte first. A sheet is what staff pin up: the keys as text.
+ * One call is for planners and takes a number alone.
  *
  * Each buffer is a pointer and then a length. The pointers are not null, even
  * if the length is 0, and what is written overlaps nothing else. The calls
@@ -38,6 +39,7 @@
  *   14  the image's counts exceed 1,024 or 64, or its length is not theirs
  *   15  a lent output is too short
  *   16  a claim's cnt is 3 though sum XOR lo XOR hi is not strictly between lo and hi
+ *   17  the number of keys is more than a store can hold
  *
  * On success the bytes past what was written keep their contents.
  */
@@ -107,6 +109,15 @@ int64_t minutefrost_count(const uint8_t *image, size_t image_len);
  */
 int64_t minutefrost_sheet(const uint8_t *image, size_t image_len,
                           uint8_t *out, size_t out_len);
+
+/*
+ * Returns how many deliveries a round makes between an empty left store and a
+ * right store of so many keys, whichever they are: what a new kiosk costs, for
+ * those who plan openings by airtime. A delivery is one claim, and a round
+ * delivers each claim once; what a radio loses is not counted, nor what beats
+ * send again. Asks 17.
+ */
+int64_t minutefrost_opening_cost(size_t keys);
 
 #ifdef __cplusplus
 }

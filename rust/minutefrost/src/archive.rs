@@ -1,4 +1,4 @@
-//! The archive's five calls, and the only unsafe code of this crate.
+//! The archive's six calls, and the only unsafe code of this crate.
 //!
 //! A slice passes as a pointer and then a length. The calls are proved to read
 //! and write within the slices they are given, to keep nothing of them, and to
@@ -40,6 +40,8 @@ mod c {
             out: *mut u8,
             out_len: usize,
         ) -> i64;
+
+        pub fn minutefrost_opening_cost(keys: usize) -> i64;
     }
 }
 
@@ -102,4 +104,11 @@ pub fn sheet(image: &[u8], out: &mut [u8]) -> i64 {
     // SAFETY: each pointer comes with the length of its slice, and the slice
     // that is written doesn't overlap the one that is read.
     unsafe { c::minutefrost_sheet(image.as_ptr(), image.len(), out.as_mut_ptr(), out.len()) }
+}
+
+/// The deliveries that fill an empty store with so many keys, or minus the
+/// number of the refusal.
+pub fn opening_cost(keys: usize) -> i64 {
+    // SAFETY: a number passes, and nothing is lent.
+    unsafe { c::minutefrost_opening_cost(keys) }
 }

@@ -14,6 +14,9 @@
 //! - Someone asks what the kiosk holds: [`keys`] gives the keys in order.
 //! - Staff pin up what it holds: [`sheet`] gives the keys as text, by pages.
 //!
+//! Whoever plans the opening of a kiosk asks [`opening_cost`] what it costs to
+//! tell it so many keys. That needs no image.
+//!
 //! ```
 //! use minutefrost::{BEAT_FRAMES, EMPTY_IMAGE, IMAGE_MOST, SHEET_MOST};
 //! use minutefrost::{beat, enter, frames, keys, sheet, take_frame};
@@ -250,10 +253,35 @@ pub fn sheet(image: &[u8], out: &mut [u8]) -> Result<usize, Refusal> {
     accepted(archive::sheet(image, out))
 }
 
+/// How many deliveries a round makes between an empty left store and a right
+/// store of so many keys, whichever they are: what a new kiosk costs, for those
+/// who plan openings by airtime. It needs no image.
+///
+/// A delivery is one claim, and a round delivers each claim once. What a radio
+/// loses is not counted, nor what beats send again.
+///
+/// # Errors
+///
+/// Refused by 17 where they are more keys than a store can hold.
+///
+/// ```
+/// # use minutefrost::opening_cost;
+/// assert_eq!(opening_cost(0)?, 0);
+/// assert_eq!(opening_cost(3)?, 1);
+/// assert_eq!(opening_cost(100)?, 74);
+///
+/// let too_many = opening_cost(usize::MAX);
+/// assert_eq!(too_many.unwrap_err().number(), 17);
+/// # Ok::<(), minutefrost::Refusal>(())
+/// ```
+pub fn opening_cost(keys: usize) -> Result<usize, Refusal> {
+    accepted(archive::opening_cost(keys))
+}
+
 /// The length or count that a call's answer is, or its refusal.
 fn accepted(answer: i64) -> Result<usize, Refusal> {
     // Below 0 is a refusal; a length is at most that of the longest sheet, and
-    // a count 1,024.
+    // a count, of keys or of deliveries, 1,024.
     usize::try_from(answer).map_err(|_| Refusal::of_answer(answer))
 }
 

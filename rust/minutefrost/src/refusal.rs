@@ -27,7 +27,7 @@ impl Refusal {
     /// The refusal that a call's answer below 0 stands for.
     pub(crate) fn of_answer(answer: i64) -> Refusal {
         Refusal {
-            // The calls answer with no number above 15.
+            // The calls answer with no number above 17.
             number: u8::try_from(answer.unsigned_abs()).unwrap_or(u8::MAX),
         }
     }
@@ -37,7 +37,8 @@ impl Refusal {
     /// [`take_frame`](crate::take_frame) gives 14 and 1 (the image), 10 to 13
     /// (the frame), 6 (no room for a key) and 15 (a short buffer);
     /// [`enter`](crate::enter) gives 14, 1, 6 and 15, [`beat`](crate::beat) and
-    /// [`sheet`](crate::sheet) 14, 1 and 15, and [`keys`](crate::keys) 14 and 1.
+    /// [`sheet`](crate::sheet) 14, 1 and 15, and [`keys`](crate::keys) 14 and 1;
+    /// [`opening_cost`](crate::opening_cost) gives 17 (too many keys).
     pub const fn number(self) -> u8 {
         self.number
     }
@@ -61,6 +62,7 @@ impl Refusal {
             14 => "the image's counts exceed 1,024 or 64, or its length is not theirs",
             15 => "a lent output is too short",
             16 => "a claim's cnt is 3 though sum XOR lo XOR hi is not strictly between lo and hi",
+            17 => "the number of keys is more than a store can hold",
             _ => "a question that this version doesn't know",
         }
     }

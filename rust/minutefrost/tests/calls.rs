@@ -1,12 +1,13 @@
-//! The calls by hand: each refusal that there is, each with nothing written,
-//! and what a caller counts on.
+//! The calls on images by hand: each refusal that there is, each with nothing
+//! written, and what a caller counts on. What a new kiosk costs, which no image
+//! is asked about, comes in `openings`.
 
 #[path = "../../second/tests/common/mod.rs"]
 mod common;
 
 use common::{c, claim_of, even, frame_of, full_image, image_of, image_of_keys, three};
 use minutefrost::*;
-use second::Claim;
+use second::{Claim, RawStore};
 
 /// Both buffers, full of a byte that tells whether they were written to.
 fn buffers() -> (Vec<u8>, Vec<u8>) {
@@ -423,6 +424,8 @@ fn small_stacks_are_enough() {
         assert!(keys(&entered).is_ok_and(|keys| keys.eq(even(1_024))));
         let mut text = vec![0xA5; SHEET_MOST];
         assert_eq!(sheet(&entered, &mut text), Ok(SHEET_MOST));
+        let cost = second::host::opening_cost(RawStore::LIMIT);
+        assert_eq!(opening_cost(RawStore::LIMIT), Ok(cost as usize));
         [taken, beaten, sent, entered, text]
     }
     let threads: Vec<_> = (0..4)

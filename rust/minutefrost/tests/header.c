@@ -28,6 +28,18 @@ static int check_sheet(const uint8_t *image)
     return 0;
 }
 
+/* What a new kiosk costs; the number of the check that fails, or 0. */
+static int check_opening(void)
+{
+    if (minutefrost_opening_cost(0) != 0)
+        return 18;
+    if (minutefrost_opening_cost(3) != 1 || minutefrost_opening_cost(100) != 74)
+        return 19;
+    if (minutefrost_opening_cost(SIZE_MAX) != -17)
+        return 20;
+    return 0;
+}
+
 int main(void)
 {
     static const uint8_t empty[4] = {0};
@@ -43,6 +55,7 @@ int main(void)
     static uint8_t beaten[MINUTEFROST_IMAGE_MOST];
     static uint8_t entered[MINUTEFROST_IMAGE_MOST];
     static uint8_t frames[MINUTEFROST_BEAT_FRAMES];
+    int failed;
 
     if (minutefrost_take_frame(empty, 4, frame, 30, taken, sizeof taken) != 38)
         return 1;
@@ -66,5 +79,6 @@ int main(void)
         return 10;
     if (minutefrost_count(entered, 11) != -14)
         return 11;
-    return check_sheet(entered);
+    failed = check_sheet(entered);
+    return failed != 0 ? failed : check_opening();
 }

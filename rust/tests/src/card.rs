@@ -8,6 +8,7 @@ use crate::draw::claims_in;
 use crate::drill::{Call, Card, MOST_BYTES};
 use crate::left_out;
 use crate::middle::{self, ADDED};
+use crate::opening;
 use crate::sheet;
 
 const NUMBER: usize = 0;
@@ -24,6 +25,9 @@ pub const PAST_BOTH: usize = RIGHT + 1_025;
 
 /// The records that a round can fill.
 pub const RECORDS: usize = 2_048;
+
+/// A claim was matched in a round though its sender held other keys.
+pub const FALSE_MATCH: &str = "a false match";
 
 /// A request, the reply expected, and what it shows.
 pub struct Case {
@@ -340,7 +344,7 @@ pub fn round_case(left: RawStore, right: RawStore, lent: usize, noise: Noise) ->
     let run = case.number == 0;
     case.on("no delivery", run && deliveries == 0)
         .on("over 100 deliveries", run && deliveries > 100)
-        .on("a false match", run && false_matches > 0)
+        .on(FALSE_MATCH, run && false_matches > 0)
         .on("met", run && met)
         .on("not met yet", run && !met)
         .on_all(threes)
@@ -474,6 +478,20 @@ pub fn write_sheet_case(store: &RawStore, lent: usize, noise: Noise) -> Case {
     case.ways
         .extend(sheet::ways(store.held(), lent, case.number));
     case
+}
+
+/// What a new kiosk costs that is told n keys. The call needs no more than the
+/// first words; there are some behind them, and bytes, which stay.
+pub fn opening_cost_case(n: u64, noise: Noise) -> Case {
+    let mut given = Card::noise(LEFT + 7, 5, noise);
+    given.words[FIRST] = n;
+    let case = case(Call::OpeningCost, given, |card| {
+        let cost = opening_cost(n as usize);
+        card.answer(cost.number, cost.deliveries);
+        cost.number
+    });
+    let ways = opening::ways(n, case.number);
+    Case { ways, ..case }
 }
 
 pub fn image_length_case(bytes: Vec<u8>, lent: usize, noise: Noise) -> Case {

@@ -27,6 +27,7 @@ pub enum Call {
     Empty,
     RoundRecord,
     WriteSheet,
+    OpeningCost,
 }
 
 /// The most words and the most bytes of a request.

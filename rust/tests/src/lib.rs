@@ -2,8 +2,9 @@
 //! the words and bytes of its requests ([`card`]), cases drawn from a seed
 //! ([`draw`]), claims of three and the ways they go ([`middle`]), images that
 //! have some which no store could make ([`left_out`]), wall sheets and the keys
-//! on them ([`sheet`]), what other programs print ([`program`]), and runs of
-//! many cases with what was seen in them ([`cases`]).
+//! on them ([`sheet`]), what a new kiosk costs and the keys for it
+//! ([`opening`]), what other programs print ([`program`]), and runs of many
+//! cases with what was seen in them ([`cases`]).
 
 #![forbid(unsafe_code)]
 
@@ -13,5 +14,6 @@ pub mod draw;
 pub mod drill;
 pub mod left_out;
 pub mod middle;
+pub mod opening;
 pub mod program;
 pub mod sheet;

@@ -280,7 +280,7 @@ fn rounds() {
     let ways = [
         "no delivery",
         "over 100 deliveries",
-        "a false match",
+        FALSE_MATCH,
         "met",
         "not met yet",
         "exactly enough records",
@@ -553,7 +553,7 @@ fn refuses_requests_that_it_cannot_read() {
         cut(&judge, 24),
         cut(&judge, judge.len() - 1),
         with(0, 20, 0),
-        with(17, 2_070, 0),
+        with(18, 2_070, 0),
         with(u64::MAX, 2_070, 0),
         // Too few words.
         with(1, 1_044, 0),
@@ -565,6 +565,7 @@ fn refuses_requests_that_it_cannot_read() {
         with(14, 1_044, 0),
         with(15, 2_069, 0),
         request_of(0, 16, 1_044, 0),
+        with(17, 19, 0),
         // More lent than is there.
         with(6, 1_302, 0),
         with(7, 2_070, 0),

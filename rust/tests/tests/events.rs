@@ -207,7 +207,7 @@ impl World {
         if reply.number() == 8 {
             assert!(self.entered.len() > 1_024, "refused with space to spare");
         }
-        let false_match = case.ways.contains(&"a false match");
+        let false_match = case.ways.contains(&FALSE_MATCH);
         (reply, false_match)
     }
 

@@ -74,7 +74,7 @@ fn rounds_of_pairs(pairs: u64, common: Common, ways: &[&str]) {
 }
 
 /// What comes of keys so close that many are the XOR of others.
-const MISLED: [&str; 2] = ["a false match", "not met yet"];
+const MISLED: [&str; 2] = [FALSE_MATCH, "not met yet"];
 
 #[test]
 fn rounds_of_all_pairs() {

@@ -1,4 +1,5 @@
-//! The host calls of the archive and of the second program, side by side.
+//! The host calls on images, of the archive and of the second program, side by
+//! side.
 
 #![allow(dead_code)] // Each test file is a program that uses a part of this.
 
@@ -31,7 +32,8 @@ fn buffer(seed: u64, lent: usize) -> Vec<u8> {
     (0..lent + GUARD).map(|_| noise.next() as u8).collect()
 }
 
-/// The five calls of a program, their answers as the archive gives them.
+/// The five calls of a program that are given an image, their answers as the
+/// archive gives them.
 pub struct Program {
     take_frame: fn(&[u8], &[u8], &mut [u8]) -> i64,
     beat: fn(&[u8], &mut [u8], &mut [u8]) -> i64,
