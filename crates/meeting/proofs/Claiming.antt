@@ -24,7 +24,7 @@ use Rattle.rule.proofs.Pair.{keysAt-receiver, keysAt-sender, delivered-rises, d
 use Rattle.rule.proofs.Entry.{Sound, sound-entry, sound-limit}
 use Rattle.rule.proofs.Deliver.{adding-within}
 use Rattle.rule.proofs.Half.{Halfway, runAll-nil, runAll-cons}
-use Rattle.meeting.proofs.Counting.{Ready, ready-halfway, cost, count, Helped, helping}
+use Rattle.meeting.proofs.Counting.{FullEnd, fullEnd-halfway, cost, count, Helped, helping}
 
 -- what its receiver has of the claimed range once it heard the claim
 abbrev pub hasThen : End → Pair → List ℕ → List ℕ
@@ -41,7 +41,7 @@ pub data Counted (s : End) (u : List ℕ) (p : Pair) (w : List ℕ) : Type 0 whe
   ask : (n : ℕ) → length (hasThen s p w) < length w → count s u p w ≡ suc (suc n) → length w ≡ length (inside (first w) (last w) u) + 2
       → Helped u (inside (first w) (last w) u) (count s u (afterClaim s u p w)) n → Counted s u p w
 
-module _ (s : End) (u : List ℕ) (p : Pair) (y : Ready s u p) (w : List ℕ) (t : Stretch u w) where
+module _ (s : End) (u : List ℕ) (p : Pair) (y : FullEnd s u p) (w : List ℕ) (t : Stretch u w) where
   abbrev c : Claim
   c = spanClaim w
 
@@ -58,7 +58,7 @@ module _ (s : End) (u : List ℕ) (p : Pair) (y : Ready s u p) (w : List ℕ) (t
   sound = sound-entry p s u w (y .whole) (subst (λ (l : List ℕ). Sub u l) (sym (y .full)) (sub-refl u)) (t .some) (t .whole)
 
   way : Halfway p (e ∷ [])
-  way = ready-halfway s u p e y sound
+  way = fullEnd-halfway s u p e y sound
 
   passes : Passes c
   passes = sound-limit p e u sound (y .within) (y .whole) (y .fits)
@@ -75,8 +75,8 @@ module _ (s : End) (u : List ℕ) (p : Pair) (y : Ready s u p) (w : List ℕ) (t
   hi : List·Memᴰ (c .hi) k
   hi = hear-hi c (keysAt (other s) p)
 
-  pub claim-ready : Ready s u (afterClaim s u p w)
-  claim-ready = record {
+  pub claim-fullEnd : FullEnd s u (afterClaim s u p w)
+  claim-fullEnd = record {
     whole = y .whole;
     fits = y .fits;
     rises = delivered-rises e p (y .rises);
@@ -106,7 +106,7 @@ module _ (s : End) (u : List ℕ) (p : Pair) (y : Ready s u p) (w : List ℕ) (t
           let l : last v ≡ last w = last-between (first w) (last w) k k-rises (passes .ordered) hi in
           let n : length (between (first v) (last v) u) ≡ length w = ap length (ap₂ (λ (a b : ℕ). between a b u) f l ∙ t .whole) in
           let j : inside (first v) (last v) u ≡ inside (first w) (last w) u = ap₂ (λ (a b : ℕ). inside a b u) f l in
-          let o = helping s u (delivered e p) claim-ready k v (sym (keysAt-receiver e p)) (stretch-between k (first w) (last w) k-rises (passes .ordered) lo hi)
+          let o = helping s u (delivered e p) claim-fullEnd k v (sym (keysAt-receiver e p)) (stretch-between k (first w) (last w) k-rises (passes .ordered) lo hi)
           (omega arith) in
           ask (o .0) h
           (one-more (answer-ask c k k-rises passes lo hi h) ∙ ap suc (o .1))

@@ -35,21 +35,21 @@ use Rattle.meeting.proofs.Sum.{Pairwise, pairwise-step, runAll-sum}
 use Rattle.meeting.proofs.Fuller.{fuller-union}
 
 -- ---- a pair with a full end: s has all keys of u, and the other end no more
-pub record Ready (s : End) (u : List ℕ) (p : Pair) : Type 0 where
+pub record FullEnd (s : End) (u : List ℕ) (p : Pair) : Type 0 where
   pub whole : Rising u
   pub fits : length u ≤ limit
   pub rises : Rises p
   pub full : keysAt s p ≡ u
   pub within : Within p u
 
-ready-union : (s : End) (u : List ℕ) (p : Pair) → Ready s u p → unionOf p ≡ u
-ready-union s u p y =
+fullEnd-union : (s : End) (u : List ℕ) (p : Pair) → FullEnd s u p → unionOf p ≡ u
+fullEnd-union s u p y =
     sym (fuller-union s p (y .rises) (λ x m. subst (λ (l : List ℕ). List·Memᴰ x l) (sym (y .full)) (y .within (other s) x m))) ∙ y .full
 
 -- one sound claim that waits alone
-pub ready-halfway : (s : End) (u : List ℕ) (p : Pair) (e : Entry) → Ready s u p → Sound p e → Halfway p (e ∷ [])
-ready-halfway s u p e y a =
-    let i : unionOf p ≡ u = ready-union s u p y in
+pub fullEnd-halfway : (s : End) (u : List ℕ) (p : Pair) (e : Entry) → FullEnd s u p → Sound p e → Halfway p (e ∷ [])
+fullEnd-halfway s u p e y a =
+    let i : unionOf p ≡ u = fullEnd-union s u p y in
     let b : weight (unionOf p) p e ≤ length (between (e .claim .lo) (e .claim .hi) (unionOf p)) = weight-le (unionOf p) p e in
     let c : length (between (e .claim .lo) (e .claim .hi) (unionOf p)) ≤ length (unionOf p) = length-between (e .claim .lo) (e .claim .hi) (unionOf p) in
     record {
@@ -79,7 +79,7 @@ pub data Helped (u m : List ℕ) (f : List ℕ → ℕ) : ℕ → Type 0 where
   one : length m ≤ 3 → Stretch u m → Helped u m f (f m)
   two : (y z : List ℕ) → m ≡ y ++ z → 4 ≤ length m → length y ≡ length m / 2 + 1 → Stretch u y → Stretch u z → Helped u m f (f y + f z)
 
-helped : (s : End) (u : List ℕ) (p : Pair) (m : List ℕ) → Ready s u p → Stretch u m → Halfway p (waits s u (claimsOf (helpBy m))) →
+helped : (s : End) (u : List ℕ) (p : Pair) (m : List ℕ) → FullEnd s u p → Stretch u m → Halfway p (waits s u (claimsOf (helpBy m))) →
     Pairwise (waits s u (claimsOf (helpBy m))) → Helped u m (count s u p) (cost p (waits s u (claimsOf (helpBy m))))
 helped s u p m y t h w = go (ltb (length m - 1) 3) refl h w
   where
@@ -106,7 +106,7 @@ helped s u p m y t h w = go (ltb (length m - 1) 3) refl h w
 
 -- ---- a claim of the other end, of the stretch w of its keys k, comes to the full end, which has more: it helps
 
-module _ (s : End) (u : List ℕ) (p : Pair) (y : Ready s u p) (k w : List ℕ) (mine : k ≡ keysAt (other s) p) (t : Stretch k w)
+module _ (s : End) (u : List ℕ) (p : Pair) (y : FullEnd s u p) (k w : List ℕ) (mine : k ≡ keysAt (other s) p) (t : Stretch k w)
     (fewer : length w < length (between (first w) (last w) u)) where
   abbrev c : Claim
   c = spanClaim w
@@ -125,7 +125,7 @@ module _ (s : End) (u : List ℕ) (p : Pair) (y : Ready s u p) (k w : List ℕ) 
       sound-entry p (other s) k w (subst Rising (sym mine) (y .rises (other s))) (subst (λ (l : List ℕ). Sub k l) mine (sub-refl k)) (t .some) (t .whole)
 
   way : Halfway p (a ∷ [])
-  way = ready-halfway s u p a y sound
+  way = fullEnd-halfway s u p a y sound
 
   passes : Passes c
   passes = sound-limit p a u sound (y .within) (y .whole) (y .fits)

@@ -33,12 +33,12 @@ use Rattle.opening.proofs.CostLaws.{openingCost-none, openingCost-few, openingC
 use Rattle.opening.proofs.CallLaws.{costed-yes}
 use Rattle.meeting.specs.Opening.{afterOpening}
 use Rattle.meeting.proofs.Fuller.{round-fuller}
-use Rattle.meeting.proofs.Counting.{Ready, count, Helped, one, two, half-cost, half-none}
-use Rattle.meeting.proofs.Claiming.{hasThen, afterClaim, Counted, match, ask, claim-ready, counting}
+use Rattle.meeting.proofs.Counting.{FullEnd, count, Helped, one, two, half-cost, half-none}
+use Rattle.meeting.proofs.Claiming.{hasThen, afterClaim, Counted, match, ask, claim-fullEnd, counting}
 
 -- ---- there is space for keys that are lacking: with those that are held, they are some of u
 
-lacks-room : (s : End) (u : List ℕ) (p : Pair) (w : List ℕ) → Ready s u p → Stretch u w → Lacks (keysAt (other s) p) w →
+lacks-room : (s : End) (u : List ℕ) (p : Pair) (w : List ℕ) → FullEnd s u p → Stretch u w → Lacks (keysAt (other s) p) w →
     length (keysAt (other s) p) + length w ≤ limit
 lacks-room s u p w y t lacking =
     let l : List ℕ = keysAt (other s) p in
@@ -55,7 +55,7 @@ lacks-room s u p w y t lacking =
 abbrev Costs : ℕ → End → List ℕ → Pair → Type 0
 Costs n s u p = (w : List ℕ) → Stretch u w → length w ≤ n → Lacks (keysAt (other s) p) w → count s u p w ≡ openingCost (length w)
 
-module _ (n : ℕ) (s : End) (u : List ℕ) (p : Pair) (y : Ready s u p) (w : List ℕ) (t : Stretch u w) (small : length w ≤ suc n)
+module _ (n : ℕ) (s : End) (u : List ℕ) (p : Pair) (y : FullEnd s u p) (w : List ℕ) (t : Stretch u w) (small : length w ≤ suc n)
     (lacking : Lacks (keysAt (other s) p) w) (later : Costs n s u (afterClaim s u p w)) where
   abbrev l : List ℕ
   l = keysAt (other s) p
@@ -113,10 +113,10 @@ module _ (n : ℕ) (s : End) (u : List ℕ) (p : Pair) (y : Ready s u p) (w : Li
       (λ (few : length w ≤ 3). absurd (omega (arith, all-had few)))
       (lt-or-le 3 (length w))
 
-count-lacking : (n : ℕ) (s : End) (u : List ℕ) (p : Pair) → Ready s u p → Costs n s u p
+count-lacking : (n : ℕ) (s : End) (u : List ℕ) (p : Pair) → FullEnd s u p → Costs n s u p
 count-lacking zero s u p y w t small lacking = absurd (omega (arith, t .some))
 count-lacking (suc n) s u p y w t small lacking =
-    step n s u p y w t small lacking (count-lacking n s u (afterClaim s u p w) (claim-ready s u p y w t)) (counting s u p y w t)
+    step n s u p y w t small lacking (count-lacking n s u (afterClaim s u p w) (claim-fullEnd s u p y w t)) (counting s u p y w t)
 
 -- ---- the round
 
@@ -129,8 +129,8 @@ round-cost r rr fits =
     p : Pair
     p = pair [] r
 
-    ready : Ready rightEnd r p
-    ready = record { whole = rr; fits = fits; rises = rises-pair [] r tt rr; full = refl; within = within-unionOf p }
+    full : FullEnd rightEnd r p
+    full = record { whole = rr; fits = fits; rises = rises-pair [] r tt rr; full = refl; within = within-unionOf p }
 
     second : (l : List ℕ) → l ≡ r → length (half rightEnd p .lines) ≡ openingCost (length r)
     second [] e =
@@ -138,7 +138,7 @@ round-cost r rr fits =
     second (k ∷ ks) e =
         let some : 0 < length r = subst (λ (x : List ℕ). 0 < length x) e (omega arith) in
         half-cost rightEnd p some
-        ∙ count-lacking (length r) rightEnd r p ready r (stretch-all r rr some) (omega arith) (λ x i. absurd (List·Memᴰ·not-nil i))
+        ∙ count-lacking (length r) rightEnd r p full r (stretch-all r rr some) (omega arith) (λ x i. absurd (List·Memᴰ·not-nil i))
 
 -- ---- the call
 

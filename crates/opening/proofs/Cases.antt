@@ -6,13 +6,13 @@ use Rattle.claims.specs.Reply.{third, answer}
 use Rattle.rule.specs.Round.{run, runAll, half, roundOf}
 use Rattle.opening.specs.Cost.{openingCost}
 use Rattle.opening.specs.Call.{costed}
-use Rattle.opening.specs.Cases.{Row, told, made, table, Called, calls}
+use Rattle.opening.specs.Cases.{Row, costTold, costMade, table, Called, calls}
 
-pub costs-hold : map told table ≡ map (λ (r : Row). r .wanted) table
+pub costs-hold : map costTold table ≡ map (λ (r : Row). r .wanted) table
 unfolding openingCost
 costs-hold = refl
 
-pub rounds-hold : map made table ≡ map (λ (r : Row). r .wanted) table
+pub rounds-hold : map costMade table ≡ map (λ (r : Row). r .wanted) table
 unfolding third answer run runAll half roundOf
 rounds-hold = refl
 

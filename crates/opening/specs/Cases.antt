@@ -18,11 +18,11 @@ abbrev pub row : List ℕ → ℕ → Row
 row l n = record { keys = l; wanted = n }
 
 -- what E tells of so many keys, and how many deliveries the round of an empty left store makes
-abbrev pub told : Row → ℕ
-told r = openingCost (length (r .keys))
+abbrev pub costTold : Row → ℕ
+costTold r = openingCost (length (r .keys))
 
-abbrev pub made : Row → ℕ
-made r = length (roundOf [] (r .keys) .lines)
+abbrev pub costMade : Row → ℕ
+costMade r = length (roundOf [] (r .keys) .lines)
 
 abbrev pub table : List Row
 table =

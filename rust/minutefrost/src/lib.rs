@@ -56,7 +56,9 @@
 //! each hears every claim of the other: after as many rounds as keys differ, none
 //! of them refused, both hold all keys of both, if no match is false. A match is
 //! false when the claim heard equals the kiosk's own although its sender held
-//! other keys there.
+//! other keys there. Where one of the two has all keys of the other, one round is
+//! enough, whatever matches; and one with no key, on the left, is filled by just
+//! as many deliveries as [`opening_cost`] tells.
 //!
 //! Of *beats* over a radio it isn't proved. It was seen: in the tests and in the
 //! example `two_kiosks`, where keys are drawn at random from all 64-bit numbers,
