@@ -57,10 +57,10 @@ ends-two rightEnd rightEnd = inl refl
 -- ---- a half in which one end has all keys
 
 -- at any time in it: the end s has all keys of u, and each of its claims that wait tells what it has
-pub record Flow (s : End) (u : List ℕ) (p : Pair) (q : List Entry) : Type 0 where
-  pub fine : Fine u p q
-  pub full : keysAt s p ≡ u
-  pub fresh : (e : Entry) → List·Memᴰ e q → e .sender ≡ s → e .claimed ≡ between (e .claim .lo) (e .claim .hi) u
+record Flow (s : End) (u : List ℕ) (p : Pair) (q : List Entry) : Type 0 where
+  fine : Fine u p q
+  full : keysAt s p ≡ u
+  fresh : (e : Entry) → List·Memᴰ e q → e .sender ≡ s → e .claimed ≡ between (e .claim .lo) (e .claim .hi) u
 
 -- what comes to the full end adds nothing
 flow-heard : (s : End) (u : List ℕ) (p : Pair) (e : Entry) (q : List Entry) → Flow s u p (e ∷ q) → receiver e ≡ s → hear (e .claim) (keysBefore e p) ≡ u
@@ -324,7 +324,7 @@ right-fuller leftEnd p r h f x m =
 right-fuller rightEnd p r h f x m =
     subst (λ (l : List ℕ). List·Memᴰ x l) (sym (half-full rightEnd p r h f leftEnd)) (half-fine leftEnd p r h .within leftEnd x m)
 
-pub round-filled : (s : End) (l r : List ℕ) → Rising l → Rising r → length (union l r) ≤ limit → Fuller s (pair l r) →
+round-filled : (s : End) (l r : List ℕ) → Rising l → Rising r → length (union l r) ≤ limit → Fuller s (pair l r) →
     roundOf l r .stores ≡ pair (union l r) (union l r)
 round-filled s l r rl rr h f =
     subst (λ (x : Run). x .stores ≡ pair (union l r) (union l r)) (sym (roundOf-halves l r)) (λ i. record { left = both leftEnd i; right = both rightEnd i })

@@ -12,13 +12,13 @@ use Rattle.opening.specs.Cost.{cut, costBy, told, costsBelow, openingCos
 
 -- ---- what the table tells
 
-pub length-costsBelow : (n : ℕ) → length (costsBelow n) ≡ n
+length-costsBelow : (n : ℕ) → length (costsBelow n) ≡ n
 length-costsBelow zero = refl
 length-costsBelow (suc n) =
     omega (arith, length-append (costsBelow n) (costBy (told (costsBelow n)) (length (costsBelow n)) ∷ []), length-costsBelow n)
 
 -- at each place the cost of so many keys
-pub told-costsBelow : (n i : ℕ) → i < n → told (costsBelow n) i ≡ openingCost i
+told-costsBelow : (n i : ℕ) → i < n → told (costsBelow n) i ≡ openingCost i
 unfolding openingCost
 told-costsBelow zero i h = absurd (omega arith)
 told-costsBelow (suc n) i h = ⊎-elim {C = told (costsBelow (suc n)) i ≡ openingCost i} (before (told-costsBelow n i)) last (lt-or-le i n)

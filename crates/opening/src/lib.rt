@@ -9,8 +9,8 @@ pub struct Costed {
     pub deliveries: usize,
 }
 
-// How many deliveries fill an empty store with n keys. It is at most n, so that no sum overflows, and calls itself for at most half as many keys and one,
-// so that no call is deep.
+// How many deliveries fill an empty store with n keys: at most n, so that no sum overflows. From six keys on it calls itself for at most half as many, so
+// that no call is deep.
 fn deliveries(n: usize) -> usize
     ensures { λ r. ⌜ r ≡ openingCost n ⌝ }
 {

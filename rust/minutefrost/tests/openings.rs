@@ -1,5 +1,5 @@
 //! What a new kiosk costs: by hand, beside the second program for every number
-//! of keys that a store can hold and for more, and as the README tells it.
+//! of keys that a store can hold and for more, and as both READMEs tell it.
 
 #[path = "../../second/tests/common/mod.rs"]
 mod common;
@@ -100,20 +100,22 @@ fn with_comma(number: usize) -> String {
 }
 
 #[test]
-fn the_readme_tells_costs() {
+fn both_readmes_tell_costs() {
     let bytes = frame_of(&[c(7, 7, 7, 1)]).len();
     let line = |keys: usize| {
         let deliveries = cost(keys);
         let [told, bytes] = [keys, bytes * deliveries].map(with_comma);
         format!("{told:>5} keys: {deliveries:>3} deliveries, {bytes:>6} bytes\n")
     };
-    let lines: String = [100, 1_000, LIMIT].map(line).concat();
-    let readme = include_str!("../README.md");
-    assert!(
-        readme.contains(&format!("\n```text\n{lines}```\n")),
-        "{lines}"
-    );
-    let words = readme.split_whitespace().collect::<Vec<_>>().join(" ");
-    let claim = format!("one claim, which takes {bytes} bytes in a frame of its own");
-    assert!(words.contains(&claim), "{claim}");
+    let lines = [100, 1_000, LIMIT].map(line);
+    let fenced = format!("\n```text\n{}```\n", lines.concat());
+    let indented = format!("\n    {}\n", lines.join("    "));
+    let claim = format!("takes {bytes} bytes");
+    let own = include_str!("../README.md");
+    let top = include_str!("../../../README.md");
+    for (readme, block) in [(own, fenced), (top, indented)] {
+        assert!(readme.contains(&block), "{block}");
+        let words = readme.split_whitespace().collect::<Vec<_>>().join(" ");
+        assert!(words.contains(&claim), "{claim}");
+    }
 }
