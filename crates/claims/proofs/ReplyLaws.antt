@@ -17,7 +17,7 @@ use lib.ListN.{length, take, drop, getD}
 use lib.Seq.{take-at, drop-at}
 use Rattle.keys.specs.Store.{limit, position, insertAll}
 use Rattle.keys.proofs.Tests.{and-left, and-right, and-both, Order, less, equal, greater, order}
-use Rattle.keys.proofs.Rising.{Rising, Sub, sub-trans, sub-append-left, mem-length, rising-getD, rising-length}
+use Rattle.keys.proofs.Rising.{Rising, Sub, sub-trans, sub-append-left, rising-getD, rising-length}
 use Rattle.keys.proofs.Insert.{length-insert-le, mem-insertAll-old, mem-insertAll-new, insertAll-mem, insertAll-sub}
 use Rattle.keys.proofs.Insert.{insertAll-rising, insertAll-held, insertAll-same, length-insertAll-ge}
 use Rattle.keys.proofs.Position.{getD-position, position-mono}
@@ -28,9 +28,10 @@ use Rattle.claims.specs.Claim.{span, xorAll, claimOf, between, middleKey
 use Rattle.claims.specs.Reply.{ends, withEnds, wantsMiddle, hasSpace, third, adding, hear}
 use Rattle.claims.specs.Reply.{own, same, zOf, help, decide, answer, reply, numberOf, claimsOf, matches, sameKeys, falseMatch}
 use Rattle.claims.proofs.Xor.{xorAll-one, xorAll-two}
-use Rattle.claims.proofs.Between.{inside, mem-between, between-one, between-inside, length-between-inside, between-rising, between-sub}
-use Rattle.claims.proofs.Span.{first, last, mem-first, mem-last, first-between, last-between}
+use Rattle.claims.proofs.Between.{inside, between-one, between-inside, length-between-inside}
+use Rattle.claims.proofs.Span.{first, last, mem-first, mem-last}
 use Rattle.claims.proofs.Span.{first-span, last-span, length-span, span-join, between-span, span-inside}
+use Rattle.claims.proofs.Stretch.{Stretch, stretch-rising, stretch-sub, stretch-between}
 use Rattle.claims.proofs.QuestionLaws.{Passes}
 use Rattle.claims.proofs.ClaimLaws.{spanClaim, claimOf-span, claimOf-between, rangeClaim, spanClaim-range, middleKey-span}
 use Rattle.claims.proofs.ClaimLaws.{claim-ext, same-claim, claim-same}
@@ -353,19 +354,15 @@ pub record Spanned (l : List ℕ) (d : Claim) : Type 0 where
 -- the keys that a claim spans rise and are held, so there are no more than the store has
 pub spanned-keys : (l : List ℕ) (d : Claim) → Rising l → (t : Spanned l d) → Rising (t .keys) × Sub (t .keys) l × (length (t .keys) ≤ length l)
 spanned-keys l d r t =
-    let e : between (first (t .keys)) (last (t .keys)) l ≡ t .keys = sym (t .whole) in
-    let rk : Rising (t .keys) = subst Rising e (between-rising (first (t .keys)) (last (t .keys)) l r) in
-    let sk : Sub (t .keys) l = subst (λ (k : List ℕ). Sub k l) e (between-sub (first (t .keys)) (last (t .keys)) l) in
+    let s : Stretch l (t .keys) = record { some = t .some; whole = sym (t .whole) } in
+    let rk : Rising (t .keys) = stretch-rising l (t .keys) r s in
+    let sk : Sub (t .keys) l = stretch-sub l (t .keys) s in
     (rk, sk, rising-length (t .keys) l rk r sk)
 
 pub between-spanned : (lo hi : ℕ) (l : List ℕ) → Rising l → lo ≤ hi → List·Memᴰ lo l → List·Memᴰ hi l → Spanned l (spanClaim (between lo hi l))
 between-spanned lo hi l r h m n =
-    record {
-      keys = between lo hi l;
-      claim = refl;
-      some = mem-length (between lo hi l) lo (mem-between lo hi l lo m (omega arith) h);
-      whole = ap₂ (λ (x y : ℕ). between x y l) (sym (first-between lo hi l r h m)) (sym (last-between lo hi l r h n));
-    }
+    let s : Stretch l (between lo hi l) = stretch-between l lo hi r h m n in
+    record { keys = between lo hi l; claim = refl; some = s .some; whole = sym (s .whole) }
 
 pub part-spanned : (lo hi : ℕ) (l m : List ℕ) (d : Claim) → d ≡ spanClaim m → Part lo hi l m → Spanned l d
 part-spanned lo hi l m d e p = record { keys = m; claim = e; some = p .some; whole = p .whole }

@@ -1,5 +1,4 @@
--- Questions, each with its number when the answer is no (document 01, the section of that name; document 02): 1 to 7, 16 and 17, and the first one answered
--- no.
+-- Questions, each with its number when the answer is no (document 01, the section of that name; document 02): 1 to 7, 16, 17, and the first answered no.
 -- A call's questions are a list in the order in which they are put. Assumes nothing.
 use Prim.Native.Nat.{ℕ, _+_, _-_}
 use mathlib.Core.Bool.{Bool, true, cond, _&&_}

@@ -97,3 +97,9 @@ inOrder-storeOf l r h =
 pub emptyStore-storeOf : emptyStore ≡ storeOf []
 unfolding emptyStore storeOf
 emptyStore-storeOf = refl
+
+pub keysOf-emptyStore : keysOf emptyStore ≡ []
+keysOf-emptyStore = ap keysOf emptyStore-storeOf ∙ keysOf-storeOf []
+
+pub inOrder-emptyStore : inOrder emptyStore ≡ true
+inOrder-emptyStore = ap inOrder emptyStore-storeOf ∙ inOrder-storeOf [] tt (omega arith)

@@ -4,7 +4,7 @@
 -- (Claiming). Assumes nothing.
 use Prim.Native.Nat.{ℕ, suc, _+_, _-_, _/_, _≤_, _<_}
 use mathlib.Core.Bool.{Bool, true, false, cond}
-use mathlib.Core.List.{List, [], _∷_, _++_, List·Memᴰ, List·Memᴰ·not-nil, List·Memᴰ·eq-of-singleton, append-nil}
+use mathlib.Core.List.{List, [], _∷_, _++_, List·Memᴰ, List·Memᴰ·not-nil, append-nil}
 use mathlib.Core.Path.{_≡_, refl, sym, ap, _∙_, subst}
 use native.Mathlib.Omega.{arith}
 use borrow.Author.Tests.{ltb-true, ltb-false}
@@ -19,18 +19,18 @@ use Rattle.claims.specs.declared.answer.Answer.{Answer}
 use Rattle.claims.specs.declared.answer.Answer.the-variants.{One, Two}
 use Rattle.claims.specs.Claim.{between, wholeClaim}
 use Rattle.claims.specs.Reply.{adding, hear, answer, reply, claimsOf}
-use Rattle.claims.proofs.Between.{inside, between-one, length-between, length-between-inside}
+use Rattle.claims.proofs.Between.{inside, between-one, length-between-inside}
 use Rattle.claims.proofs.Span.{first, last, mem-first, mem-last}
 use Rattle.claims.proofs.Stretch.{Stretch, stretch-sub, stretch-part, stretch-inside}
 use Rattle.claims.proofs.QuestionLaws.{Passes}
-use Rattle.claims.proofs.ClaimLaws.{spanClaim, wholeClaim-span}
+use Rattle.claims.proofs.ClaimLaws.{spanClaim}
 use Rattle.claims.proofs.ReplyLaws.{hear-held, helpBy}
 use Rattle.claims.proofs.CountLaws.{answer-help}
 use Rattle.rule.specs.Round.{End, other, Pair, keysAt, holding, Entry, entry, waits, receiver, keysBefore, delivered, answers, Run, runAll, half}
-use Rattle.rule.proofs.Pair.{Rises, Within, unionOf, unionOf-rising, within-unionOf, other-other, holding-same}
-use Rattle.rule.proofs.Entry.{Sound, sound-entry, sound-limit, weight, weight-le}
+use Rattle.rule.proofs.Pair.{Rises, Within, unionOf, other-other, holding-same}
+use Rattle.rule.proofs.Entry.{Sound, sound-entry, sound-limit}
 use Rattle.rule.proofs.Deliver.{adding-within}
-use Rattle.rule.proofs.Half.{Halfway, halfway-step, runAll-nil, runAll-cons, half-opening}
+use Rattle.rule.proofs.Half.{Halfway, halfway-step, halfway-alone, runAll-nil, runAll-cons, opening-some, half-opening}
 use Rattle.meeting.proofs.Sum.{Pairwise, pairwise-step, runAll-sum}
 use Rattle.meeting.proofs.Fuller.{fuller-union}
 
@@ -48,20 +48,7 @@ fullEnd-union s u p y =
 
 -- one sound claim that waits alone
 pub fullEnd-halfway : (s : End) (u : List ℕ) (p : Pair) (e : Entry) → FullEnd s u p → Sound p e → Halfway p (e ∷ [])
-fullEnd-halfway s u p e y a =
-    let i : unionOf p ≡ u = fullEnd-union s u p y in
-    let b : weight (unionOf p) p e ≤ length (between (e .claim .lo) (e .claim .hi) (unionOf p)) = weight-le (unionOf p) p e in
-    let c : length (between (e .claim .lo) (e .claim .hi) (unionOf p)) ≤ length (unionOf p) = length-between (e .claim .lo) (e .claim .hi) (unionOf p) in
-    record {
-      fine = record {
-        whole = unionOf-rising p (y .rises);
-        fits = subst (λ (l : List ℕ). length l ≤ limit) (sym i) (y .fits);
-        rises = y .rises;
-        within = within-unionOf p;
-        sound = λ x m. subst (Sound p) (sym (List·Memᴰ·eq-of-singleton m)) a;
-      };
-      light = omega arith;
-    }
+fullEnd-halfway s u p e y = halfway-alone p e (y .rises) (subst (λ (l : List ℕ). length l ≤ limit) (sym (fullEnd-union s u p y)) (y .fits))
 
 -- ---- costs
 
@@ -187,7 +174,7 @@ module _ (s : End) (u : List ℕ) (p : Pair) (y : FullEnd s u p) (k w : List ℕ
 -- ---- a half costs what the claim costs that opens it ..
 
 pub half-cost : (t : End) (p : Pair) → 0 < length (keysAt t p) → length (half t p .lines) ≡ cost p (entry t (keysAt t p) (spanClaim (keysAt t p)) ∷ [])
-half-cost t p some = ap (λ (x : Run). length (x .lines)) (half-opening t p) ∙ ap (λ (cs : List Claim). cost p (waits t (keysAt t p) cs)) (wholeClaim-span (keysAt t p) some)
+half-cost t p some = ap (λ (x : Run). length (x .lines)) (half-opening t p) ∙ ap (cost p) (opening-some t p some)
 
 -- .. and nothing where its end has no key
 pub half-none : (t : End) (p : Pair) → keysAt t p ≡ [] → half t p ≡ record { stores = p; lines = []; waiting = [] }

@@ -20,7 +20,7 @@ use Rattle.claims.specs.Reply.{adding, hear, reply, claimsOf}
 use Rattle.claims.proofs.Between.{inside, mem-between, between-rising, mem-inside, between-sub, sub-between}
 use Rattle.claims.proofs.Span.{first, last, first-le, le-last, first-between, last-between}
 use Rattle.claims.proofs.QuestionLaws.{Passes}
-use Rattle.claims.proofs.ClaimLaws.{spanClaim, wholeClaim-span}
+use Rattle.claims.proofs.ClaimLaws.{spanClaim}
 use Rattle.claims.proofs.ReplyLaws.{hear-rising, hear-lo, hear-hi, hear-held, hear-sub}
 use Rattle.claims.proofs.ReplyLaws.{Answered, matched, asked, helped-one, helped-two, Part, reply-answered}
 use Rattle.rule.specs.Round.{union, End, leftEnd, rightEnd, other, Pair, pair, keysAt, Entry, entry, waits}
@@ -30,7 +30,7 @@ use Rattle.rule.proofs.Union.{union-is, union-left, union-right}
 use Rattle.rule.proofs.Pair.{Rises, unionOf, rises-pair, other-other, holding-each, keysAt-receiver, delivered-grows}
 use Rattle.rule.proofs.Entry.{Sound, sound-ends, sound-cnt, sound-within, sound-sub-between}
 use Rattle.rule.proofs.Deliver.{adding-within}
-use Rattle.rule.proofs.Half.{Fine, fine-passes, fine-step, halfway-opening, opening, half-run, half-fine, half-ends, half-union}
+use Rattle.rule.proofs.Half.{Fine, fine-passes, fine-step, halfway-opening, opening, opening-some, half-run, half-fine, half-ends, half-union}
 use Rattle.rule.proofs.RoundLaws.{roundOf-halves}
 use Rattle.rule.proofs.CallLaws.{RoundYes, roundQuestions-yes, met-zero, met-done}
 use Rattle.meeting.specs.Opening.{OneHasAll, BothHold}
@@ -286,13 +286,10 @@ module _ (s : End) (p : Pair) (rises : Rises p) (fits : length (unionOf p) ≤ l
       l : List ℕ
       l = keysAt t p
 
-      i : opening t p ≡ entry t l (spanClaim l) ∷ []
-      i = ap (waits t l) (wholeClaim-span l some)
-
       reached : Reaches s x (run (length u) p (opening t p) .stores) (run (length u) p (opening t p) .waiting)
       reached =
           run-reaches (length u) s u p (opening t p) x (flow-opening t) here
-          (inr (entry t l (spanClaim l), subst (λ (y : List Entry). List·Memᴰ (entry t l (spanClaim l)) y) (sym i) (List·Memᴰ·head refl), a, b))
+          (inr (entry t l (spanClaim l), subst (λ (y : List Entry). List·Memᴰ (entry t l (spanClaim l)) y) (sym (opening-some t p some)) (List·Memᴰ·head refl), a, b))
 
       done : Reaches s x (half t p .stores) (half t p .waiting) → List·Memᴰ x (keysAt (other s) (half t p .stores))
       done (inl m) = m

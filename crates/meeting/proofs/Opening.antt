@@ -13,7 +13,7 @@ use Rattle.keys.specs.Store.{limit, keysOf, storeOf, emptyStore, inOrder, inser
 use Rattle.keys.proofs.Tests.{lt-or-le}
 use Rattle.keys.proofs.Rising.{Rising, Sub, sub-refl, rising-length}
 use Rattle.keys.proofs.Insert.{insertAll-rising, insertAll-sub, length-insertAll-missing}
-use Rattle.keys.proofs.StoreLaws.{inOrder-rising, inOrder-count, inOrder-storeOf, length-keysOf, storeOf-keysOf, emptyStore-storeOf}
+use Rattle.keys.proofs.StoreLaws.{inOrder-rising, inOrder-count, length-keysOf, storeOf-keysOf, keysOf-emptyStore, inOrder-emptyStore}
 use Rattle.claims.specs.Reply.{hear}
 use Rattle.claims.proofs.Between.{inside, mem-between, inside-mem, between-rising}
 use Rattle.claims.proofs.Span.{first, last, first-le, le-last, mem-first, mem-last}
@@ -23,10 +23,10 @@ use Rattle.claims.proofs.ReplyLaws.{hear-rising}
 use Rattle.claims.proofs.LackLaws.{Lacks, lacks-within, many-had, few-had}
 use Rattle.rule.specs.declared.answer.Met.{Met}
 use Rattle.rule.specs.Round.{End, leftEnd, rightEnd, other, Pair, pair, keysAt, entry, Run, half, roundOf}
-use Rattle.rule.specs.Call.{met}
+use Rattle.rule.specs.Call.{roundBy, met}
 use Rattle.rule.proofs.Pair.{rises-pair, within-unionOf, keysAt-receiver}
 use Rattle.rule.proofs.RoundLaws.{roundOf-halves}
-use Rattle.rule.proofs.CallLaws.{RoundYes, roundQuestions-yes, yes-roundQuestions, met-zero, met-done}
+use Rattle.rule.proofs.CallLaws.{roundQuestions-yes, yes-roundQuestions, met-zero, met-done}
 use Rattle.opening.specs.Cost.{cut, openingCost}
 use Rattle.opening.specs.Call.{costed}
 use Rattle.opening.proofs.CostLaws.{openingCost-none, openingCost-few, openingCost-one, openingCost-two}
@@ -144,30 +144,31 @@ round-cost r rr fits =
 
 -- Of every store that has its places: where the round is not refused, it returns what slip 5 says. Nothing is said of matches.
 pub met-opening : (t : Store) (records : ℕ) → length (t .keys) ≡ limit → met emptyStore t records .number ≡ 0 → met emptyStore t records ≡ afterOpening t
-unfolding emptyStore
 met-opening t records long z =
     let yes = met-zero emptyStore t records z in
-    let y : RoundYes emptyStore t records = roundQuestions-yes emptyStore t records yes in
-    let r : Rising (keysOf t) = inOrder-rising t (y .right) in
-    let same : storeOf (keysOf t) ≡ t = sym (storeOf-keysOf t long (y .right)) in
-    let stores = round-fuller [] (keysOf t) tt r (y .fits) (inr (λ k i. absurd (List·Memᴰ·not-nil i))) in
-    let left : storeOf (roundOf [] (keysOf t) .stores .left) ≡ t = ap (λ (x : Pair). storeOf (x .left)) stores ∙ same in
-    let right : storeOf (roundOf [] (keysOf t) .stores .right) ≡ t = ap (λ (x : Pair). storeOf (x .right)) stores ∙ same in
-    let cost : length (roundOf [] (keysOf t) .lines) ≡ openingCost (t .count)
-    = round-cost (keysOf t) r (y .fits) ∙ ap openingCost (length-keysOf t long (y .right)) in
+    let ordered : inOrder t ≡ true = roundQuestions-yes emptyStore t records yes .right in
+    let r : Rising (keysOf t) = inOrder-rising t ordered in
+    let fits : length (keysOf t) ≤ limit = omega (arith, length-keysOf t long ordered, inOrder-count t ordered) in
+    let run : roundBy emptyStore t ≡ roundOf [] (keysOf t) = ap (λ (l : List ℕ). roundOf l (keysOf t)) keysOf-emptyStore in
+    let stores : roundBy emptyStore t .stores ≡ pair (keysOf t) (keysOf t)
+    = ap (λ (x : Run). x .stores) run ∙ round-fuller [] (keysOf t) tt r fits (inr (λ k i. absurd (List·Memᴰ·not-nil i))) in
+    let same : storeOf (keysOf t) ≡ t = sym (storeOf-keysOf t long ordered) in
+    let left : storeOf (roundBy emptyStore t .stores .left) ≡ t = ap (λ (x : Pair). storeOf (x .left)) stores ∙ same in
+    let right : storeOf (roundBy emptyStore t .stores .right) ≡ t = ap (λ (x : Pair). storeOf (x .right)) stores ∙ same in
+    let cost : length (roundBy emptyStore t .lines) ≡ openingCost (t .count)
+    = ap (λ (x : Run). length (x .lines)) run ∙ (round-cost (keysOf t) r fits ∙ ap openingCost (length-keysOf t long ordered)) in
     met-done emptyStore t records yes ∙ (λ i. record { number = 0; left = left i; right = right i; deliveries = cost i })
 
 -- It is not refused where the store is in order and records enough are lent.
 pub opening-accepted : (t : Store) (records : ℕ) → length (t .keys) ≡ limit → inOrder t ≡ true → 2 * t .count ≤ records →
     met emptyStore t records .number ≡ 0
-unfolding emptyStore
 opening-accepted t records long ordered room =
     ap (λ (x : Met). x .number)
     (met-done emptyStore t records (yes-roundQuestions emptyStore t records (record {
-      left = subst (λ (x : Store). inOrder x ≡ true) (sym emptyStore-storeOf) (inOrder-storeOf [] tt (omega arith));
+      left = inOrder-emptyStore;
       right = ordered;
-      fits = omega (arith, length-keysOf t long ordered, inOrder-count t ordered);
-      room = omega (arith, length-keysOf t long ordered);
+      fits = rw keysOf-emptyStore (omega (arith, length-keysOf t long ordered, inOrder-count t ordered));
+      room = rw keysOf-emptyStore (omega (arith, length-keysOf t long ordered));
     })))
 
 -- So `opening_cost` tells beforehand what the round then returns.

@@ -1,5 +1,5 @@
--- What a new kiosk costs (document 02, slip 5): "Give for each n from 0 to the store limit the number of deliveries in a round between an empty left store and
--- a right store of n keys." The four equations of the request are laws of proofs/CostLaws; that a round makes so many deliveries, whichever keys they are, is
+-- What a new kiosk costs (document 02, slip 5): "We plan openings by airtime. Give for each n from 0 to the store limit the number of deliveries in a round
+-- between an empty left store and a right store of n keys." The four equations of the request are laws of proofs/CostLaws; that a round makes so many deliveries, whichever keys they are, is
 -- a theorem of `meeting`, `met-opening`. Assumes nothing.
 use Prim.Native.Nat.{ℕ, zero, suc, _+_, _-_, _/_}
 use mathlib.Core.Bool.{cond}

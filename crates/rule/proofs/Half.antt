@@ -2,7 +2,7 @@
 -- half, and that a delivery leads to the next; running: it ends, its deliveries and what waits fit the weight, more steps change nothing; `runAll`
 -- without its bound; a half. Each delivery takes at least 1 off the weights of what waits. Not here: the round, of two halves (RoundLaws).
 -- Assumes nothing.
-use Prim.Native.Nat.{ℕ, zero, suc, _+_, _≤_}
+use Prim.Native.Nat.{ℕ, zero, suc, _+_, _≤_, _<_}
 use mathlib.Core.List.{List, [], _∷_, _++_, List·Memᴰ·head, List·Memᴰ·tail, List·Memᴰ·not-nil, List·Memᴰ·eq-of-singleton}
 use mathlib.Core.Path.{_≡_, refl, sym, ap, _∙_, subst}
 use native.Mathlib.Omega.{arith}
@@ -11,7 +11,7 @@ use Rattle.keys.specs.Store.{limit}
 use Rattle.keys.proofs.Rising.{Rising, Sub, sub-refl}
 use Rattle.claims.specs.Claim.{wholeClaim, between}
 use Rattle.claims.proofs.Between.{length-between}
-use Rattle.claims.proofs.Span.{first, last, between-first-last}
+use Rattle.claims.proofs.Span.{between-first-last}
 use Rattle.claims.proofs.QuestionLaws.{Passes}
 use Rattle.claims.proofs.ClaimLaws.{spanClaim, wholeClaim-span}
 use Rattle.rule.specs.Round.{End, Pair, keysAt, Entry, entry, waits, delivered, answers, line, noting, run, runAll, half}
@@ -150,6 +150,22 @@ halfway-step p e q h =
       light = subst (λ (u : List ℕ). weights u (delivered e p) (q ++ answers e p) ≤ length u) (sym k) w;
     }
 
+-- one sound claim that waits alone
+pub halfway-alone : (p : Pair) (e : Entry) → Rises p → length (unionOf p) ≤ limit → Sound p e → Halfway p (e ∷ [])
+halfway-alone p e r h a =
+    let b : weight (unionOf p) p e ≤ length (between (e .claim .lo) (e .claim .hi) (unionOf p)) = weight-le (unionOf p) p e in
+    let c : length (between (e .claim .lo) (e .claim .hi) (unionOf p)) ≤ length (unionOf p) = length-between (e .claim .lo) (e .claim .hi) (unionOf p) in
+    record {
+      fine = record {
+        whole = unionOf-rising p r;
+        fits = h;
+        rises = r;
+        within = within-unionOf p;
+        sound = λ x m. subst (Sound p) (sym (List·Memᴰ·eq-of-singleton m)) a;
+      };
+      light = omega arith;
+    }
+
 -- a half with nothing waiting ends
 pub runAll-nil : (p : Pair) → runAll p [] ≡ record { stores = p; lines = []; waiting = [] }
 unfolding runAll
@@ -195,18 +211,11 @@ opening-whole s p (k ∷ ks) r e h =
     let x : Entry = entry s l (spanClaim l) in
     let i : waits s l (wholeClaim l) ≡ x ∷ [] = ap (waits s l) (wholeClaim-span l (omega arith)) in
     let a : Sound p x = sound-entry p s l l rl (subst (λ (m : List ℕ). Sub l m) e (sub-refl l)) (omega arith) (between-first-last l rl) in
-    let b : weight (unionOf p) p x ≤ length (between (first l) (last l) (unionOf p)) = weight-le (unionOf p) p x in
-    let c : length (between (first l) (last l) (unionOf p)) ≤ length (unionOf p) = length-between (first l) (last l) (unionOf p) in
-    subst (Halfway p) (sym i) (record {
-      fine = record {
-        whole = unionOf-rising p r;
-        fits = h;
-        rises = r;
-        within = within-unionOf p;
-        sound = λ y m. subst (Sound p) (sym (List·Memᴰ·eq-of-singleton m)) a;
-      };
-      light = omega arith;
-    })
+    subst (Halfway p) (sym i) (halfway-alone p x r h a)
+
+-- of an end with keys: their claim
+pub opening-some : (s : End) (p : Pair) → 0 < length (keysAt s p) → opening s p ≡ entry s (keysAt s p) (spanClaim (keysAt s p)) ∷ []
+opening-some s p some = ap (waits s (keysAt s p)) (wholeClaim-span (keysAt s p) some)
 
 pub halfway-opening : (s : End) (p : Pair) → Rises p → length (unionOf p) ≤ limit → Halfway p (opening s p)
 halfway-opening s p r h = opening-whole s p (keysAt s p) r refl h
