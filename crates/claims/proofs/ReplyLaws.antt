@@ -438,7 +438,7 @@ falseMatch-differs claimed c l h = (
 
 -- ---- an answer by the keys from lo to hi alone
 
--- That a reply is local rests on it, and counting will need it: no position and no key outside the range is in it.
+-- That a reply is local rests on it, and so does counting: no position and no key outside the range is in it.
 
 -- help, of the keys m strictly between lo and hi
 abbrev pub helpBy : List ℕ → Answer

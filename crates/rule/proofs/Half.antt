@@ -139,7 +139,7 @@ halfway-union p e q h =
     let f : Fine (unionOf p) (delivered e p) (q ++ answers e p) = fine-step (unionOf p) p e q (h .fine) in
     unionOf-grown p (delivered e p) (h .fine .rises) (f .rises) (delivered-grows e p) (f .within)
 
--- a delivery leads to the next such state: with `runAll-cons`, an induction over a half's deliveries, as counting them will want it
+-- a delivery leads to the next such state: with `runAll-cons`, an induction over a half's deliveries, by which they are counted
 pub halfway-step : (p : Pair) (e : Entry) (q : List Entry) → Halfway p (e ∷ q) → Halfway (delivered e p) (q ++ answers e p)
 halfway-step p e q h =
     let f : Fine (unionOf p) (delivered e p) (q ++ answers e p) = fine-step (unionOf p) p e q (h .fine) in
