@@ -2,13 +2,13 @@
 -- key of three (`third-cases-hold`), of claims of three that no store could make (`faulty-cases-hold`) and of replies on a lent run (`lent-cases-hold`), and
 -- two facts beside these: case k for every lo < hi and sum (`judged-count`), and case a seen from its sender (`seven-matches`): a claim of one key matches,
 -- and not falsely. Assumes nothing.
-use Prim.Native.Nat.{ℕ, _<_}
+use Prim.Native.Nat.{ℕ, _+_, _<_}
 use mathlib.Core.List.{[], _∷_, map}
 use mathlib.Core.Bool.{false}
 use mathlib.Core.Path.{_≡_, refl}
 use native.Mathlib.Omega.{arith}
 use borrow.Author.Tests.{le-leb}
-use Rattle.keys.specs.Store.{zeros, storeOf, emptyStore, inOrder}
+use Rattle.keys.specs.Store.{limit, zeros, storeOf, emptyStore, inOrder}
 use Rattle.keys.specs.Lent.{placeIn, insertedAt, addIn, addBothIn}
 use Rattle.claims.specs.declared.answer.Answer.the-variants.{Match}
 use Rattle.claims.specs.Claim.{between}
@@ -36,8 +36,8 @@ pub lent-cases-hold : map (λ (r : Row). r .gives) lentTable ≡ map (λ (r : Ro
 unfolding zeros storeOf placeIn insertedAt addIn addBothIn hearIn replyIn
 lent-cases-hold = refl
 
--- "k. cnt 0 or 1,025 with lo < hi: 3."
-pub judged-count : (lo hi sum : ℕ) → lo < hi → (judged (claim lo hi sum 0) ≡ 3) × (judged (claim lo hi sum 1025) ≡ 3)
+-- k. cnt 0 or the limit plus 1 "with lo < hi: 3."
+pub judged-count : (lo hi sum : ℕ) → lo < hi → (judged (claim lo hi sum 0) ≡ 3) × (judged (claim lo hi sum (limit + 1)) ≡ 3)
 unfolding judged
 judged-count lo hi sum h = rw (le-leb lo hi (omega arith)) (refl, refl)
 

@@ -1,7 +1,7 @@
 -- Slips from the desk drawer (document 01, the section of that name): the twelve lettered cases, as one table over the call definitions; then rows for the
 -- middle key of three, for claims of three that no store could make, and for replies on a lent run. That each row gives what is wanted is one law for each
 -- table, in proofs/Cases. Assumes nothing.
-use Prim.Native.Nat.{ℕ, zero, suc, _-_}
+use Prim.Native.Nat.{ℕ, zero, suc, _+_, _*_, _-_}
 use mathlib.Core.Bool.{Bool, true}
 use mathlib.Core.List.{List, [], _∷_}
 use Rattle.keys.specs.declared.store.Store.{Store}
@@ -72,9 +72,9 @@ table =
     ∷ refuses (claim 5 5 0 1) 5
     -- j. (5, 6, 3, 3): 4.
     ∷ refuses (claim 5 6 3 3) 4
-    -- k. cnt 0 or 1,025 with lo < hi: 3. (For every lo < hi and sum: `judged-count` of proofs/Cases.)
-    ∷ refuses (claim 5 2000 0 0) 3
-    ∷ refuses (claim 5 2000 0 1025) 3
+    -- k. cnt 0 or the limit plus 1 with lo < hi: 3. (For every lo < hi and sum: `judged-count` of proofs/Cases.)
+    ∷ refuses (claim 5 (2 * limit) 0 0) 3
+    ∷ refuses (claim 5 (2 * limit) 0 (limit + 1)) 3
     -- l. (9, 5, 12, 2): 2.
     ∷ refuses (claim 9 5 12 2) 2
     ∷ []

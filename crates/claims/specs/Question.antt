@@ -36,7 +36,7 @@ question1 s = question 1 (inOrder s)
 abbrev pub question2 : Claim → Question
 question2 c = question 2 (leb (c .lo) (c .hi))
 
--- 3. Is cnt from 1 to 1,024?
+-- 3. Is cnt from 1 to the limit?
 abbrev pub question3 : Claim → Question
 question3 c = question 3 (leb 1 (c .cnt) && leb (c .cnt) limit)
 
@@ -48,7 +48,7 @@ question4 c = question 4 (cond (eqb (c .lo) (c .hi)) (eqb (c .cnt) 1) (leb 2 (c 
 abbrev pub question5 : Claim → Question
 question5 c = question 5 (cond (eqb (c .cnt) 1) (eqb (c .sum) (c .lo)) (cond (eqb (c .cnt) 2) (eqb (c .sum) (bitXor (c .lo) (c .hi))) true))
 
--- 6. Do the missing ones among the keys to add fit below 1,025? (Into a store that holds the keys l.)
+-- 6. Do the missing ones among the keys to add fit below the limit plus 1? (Into a store that holds the keys l.)
 abbrev pub question6 : List ℕ → List ℕ → Question
 question6 ks l = question 6 (ltb (length (insertAll ks l)) (limit + 1))
 

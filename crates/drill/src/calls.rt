@@ -11,6 +11,7 @@ use rule::Met;
 use rule::Node;
 ghost use Prim.Native.Nat.{_≤_};
 ghost use lib.ListN.{length};
+ghost use Rattle.drill.specs.Request.{pastNode, pastBoth};
 
 // What came of a call: whether it could be made, and the number and the count of its answer.
 struct Said {
@@ -203,7 +204,7 @@ fn take(words: &mut [u64; MOST]) -> Said {
 
 // A part can be lent of a slice, and not of an array behind a reference: so this and `met_on` take the words as a slice.
 fn beat_on(node: Node, words: &mut [u64], end: usize) -> Beaten
-    requires { ⌜ (1302 ≤ end) × (end ≤ length (now words)) ⌝ }
+    requires { ⌜ (pastNode ≤ end) × (end ≤ length (now words)) ⌝ }
 {
     beats::beat(node, &mut words[card::PAST_NODE..end])
 }
@@ -225,7 +226,7 @@ fn beat(words: &mut [u64; MOST], n: usize) -> Said {
 }
 
 fn met_on(left: Store, right: Store, words: &mut [u64], end: usize) -> Met
-    requires { ⌜ (2070 ≤ end) × (end ≤ length (now words)) ⌝ }
+    requires { ⌜ (pastBoth ≤ end) × (end ≤ length (now words)) ⌝ }
 {
     transcript::round_words(left, right, &mut words[card::PAST_BOTH..end])
 }

@@ -8,6 +8,7 @@ use rule::Node;
 use words::claim_at;
 use words::put_claim;
 ghost use Prim.Native.Nat.{_≤_};
+ghost use Rattle.drill.specs.Request.{mostWords};
 
 // The number and count of the answer, both arguments.
 pub const NUMBER: usize = 0;
@@ -52,7 +53,7 @@ pub fn put_four(words: &mut [u64; MOST], four: [Claim; 4]) {
 
 // The place after the last word that a call is lent from a place on; 0 where the n words of the request end before it.
 pub fn end_of_lent(words: &[u64; MOST], n: usize, from: usize) -> usize
-    ensures { λ r. ⌜ r ≤ 16384 ⌝ }
+    ensures { λ r. ⌜ r ≤ mostWords ⌝ }
 {
     let lent = get(words, SECOND) as usize;
     if MOST < n {

@@ -17,9 +17,9 @@
 //     4 to 19      four claims, each lo, hi, sum, cnt (of cnt the low 16 bits count). The first is the argument of reply, judge and take; the
 //                  four are those of write_frame. Answered: the claim of make in the first; of reply in the second and third, zeros where there
 //                  is none; of read_frame all four; of round_record the record's claim in the first, and its sender in word 8
-//     20 to 1044   the store, or the node's store, or a round's left store: its count, then 1,024 places
-//     1045 ..      the node's pending count, then 64 claims, to 1301; from 1302 on the words from which a beat is lent its own
-//     1045 ..      a round's right store, to 2069; from 2070 on the words from which a round is lent its own
+//     20 ..        the store, or the node's store, or a round's left store: its count, then as many places as the limit
+//     behind it    the node's pending count, then 64 claims; then the words from which a beat is lent its own
+//     behind it    a round's right store; then the words from which a round is lent its own
 //
 // The calls: 1 enter, 2 make, 3 reply, 4 judge, 5 take, 6 beat, 7 round_words, 8 read_frame, 9 write_frame, 10 read_image, 11 write_image,
 // 12 image_length, 13 ordered, 14 Store::empty, 15 round_record, 16 write_sheet, 17 opening_cost. Calls 8 to 12 and 16 are lent the

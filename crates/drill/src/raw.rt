@@ -1,20 +1,22 @@
 // Words in bytes, high byte first. Each function is total: a byte or word that is not there is read as 0 and not written.
+use claims::Store;
 ghost use Prim.Native.Nat.{_≤_};
 ghost use lib.ListN.{length};
 ghost use mathlib.Core.Path.{_≡_};
+ghost use Rattle.drill.specs.Request.{mostWords, replySpace};
 
-// The most words of a request.
-pub const MOST: usize = 16384;
+// The most words of a request: two full stores and what their round is lent are twelve for each key, and a few.
+pub const MOST: usize = 16 * Store::LIMIT;
 
-// The most bytes of a request: a sheet is longer than anything else that is lent.
-pub const BYTES: usize = 65536;
+// The most bytes of a request: the longest that is lent is a full sheet, of less than 22 for each key.
+pub const BYTES: usize = 32 * Store::LIMIT;
 
 // The bytes of so many words, and of the mark before a reply's.
 const SPACE: usize = 8 * MOST + 1;
 
 // Room for those bytes, marks until words are put there. The check counts so many bytes slowly, so it does that here alone.
 pub fn space() -> [u8; SPACE]
-    ensures { λ r. ⌜ 131073 ≡ length r ⌝ }
+    ensures { λ r. ⌜ replySpace ≡ length r ⌝ }
 {
     [b'='; SPACE]
 }
@@ -65,7 +67,7 @@ pub fn put(words: &mut [u64; MOST], at: usize, x: u64) {
 
 // The first n words, read from bytes.
 pub fn decode(bytes: &[u8], words: &mut [u64; MOST], n: usize)
-    requires { ⌜ n ≤ 16384 ⌝ }
+    requires { ⌜ n ≤ mostWords ⌝ }
 {
     let mut i = 0;
     while i < n {
@@ -76,7 +78,7 @@ pub fn decode(bytes: &[u8], words: &mut [u64; MOST], n: usize)
 
 // The first n words, written to the bytes after the first.
 pub fn encode(words: &[u64; MOST], n: usize, bytes: &mut [u8])
-    requires { ⌜ n ≤ 16384 ⌝ }
+    requires { ⌜ n ≤ mostWords ⌝ }
 {
     let end = 8 * n;
     let mut i = 0;

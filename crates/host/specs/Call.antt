@@ -52,8 +52,8 @@ imageSheetOut image out = settle (firstNo (sheetQuestions image (length out))) (
 unfoldable pub openingTold : ℕ → ℤ
 openingTold keys = settle (firstNo (costQuestions keys)) (pos (openingCost keys)) minus
 
--- ---- an image that is written: after the questions of a call comes 15 ("the frame host call needs 9,860"), and then a node's image goes to the front of a
--- buffer and its length is returned, or minus the number and the buffer is as it was
+-- ---- an image that is written: after the questions of a call comes 15 ("the frame host call needs" the bytes of the longest one), and then a node's
+-- image goes to the front of a buffer and its length is returned, or minus the number and the buffer is as it was
 
 abbrev pub savingQuestions : List Question → ℕ → List Question
 savingQuestions questions room = questions ++ (question15 room imageLimit ∷ [])
@@ -100,7 +100,7 @@ keyEnteredOut image key out = savedOut (enteringQuestions image key) (nodeEntere
 -- ---- a beat: "One takes an image, runs a beat, writes the new image to one buffer and the claims to a second, four to a frame and the rest in a last one,
 -- and returns the length of the frames."
 
--- "its host call 129 claims' worth (3,486 bytes) and 9,860 for the image, whatever is pending"
+-- "its host call 129 claims' worth (3,486 bytes) and" the longest image's "for the image, whatever is pending"
 abbrev pub beatImageQuestions : List ℕ → ℕ → ℕ → List Question
 beatImageQuestions image room framesRoom =
     readImageQuestions image ++ (question15 room imageLimit ∷ question15 framesRoom framesLimit ∷ [])

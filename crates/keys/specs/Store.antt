@@ -24,7 +24,7 @@ keysOf s = take (s .count) (s .keys)
 unfoldable pub storeOf : List ℕ → Store
 storeOf l = record { keys = l ++ zeros (limit - length l); count = length l }
 
--- "The empty store is 1,024 zeros with count 0."
+-- "The empty store is" zeros to the limit "with count 0."
 unfoldable pub emptyStore : Store
 emptyStore = record { keys = zeros limit; count = 0 }
 
@@ -43,7 +43,7 @@ abbrev pub allZero : List ℕ → Bool
 allZero [] = true
 allZero (x ∷ xs) = eqb x 0 && allZero xs
 
--- "It is in order when the count is at most 1,024, the keys below the count rise strictly and every place from the count on is 0."
+-- "It is in order when the count is at most" the limit, "the keys below the count rise strictly and every place from the count on is 0."
 unfoldable pub inOrder : Store → Bool
 inOrder s = leb (s .count) limit && (rising (keysOf s) && allZero (drop (s .count) (s .keys)))
 

@@ -1,6 +1,6 @@
--- What follows besides. In order: any beginning of a list that is meant is one, with no more keys entered; at any time in a list with at most 1,024 different
--- keys entered in all, no round gets 8 (`never-8`), no delivery of a claim made before is refused (`made-accepted`), and entering gets 6 only when 1,024
--- different keys are entered already and this is none of them (`entering-6`): nothing is turned away for want of space before the limit is really reached.
+-- What follows besides. In order: any beginning of a list that is meant is one, with no more keys entered; at any time in a list with no more different keys
+-- entered in all than the limit, no round gets 8 (`never-8`), no delivery of a claim made before is refused (`made-accepted`), and entering gets 6 only when so
+-- many different keys are entered already and this is none of them (`entering-6`): nothing is turned away for want of space before the limit is really reached.
 -- Then, without that premise: claims once made pass questions 2 to 5 and 16 for ever; both stores stay within their union and lose no key.
 -- Assumes nothing.
 use Prim.Native.Nat.{ℕ, suc, _+_, _≤_}

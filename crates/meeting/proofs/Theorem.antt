@@ -1,6 +1,6 @@
 -- Demand 3, for every number of kiosks and every list of events that is meant. The statement is `Demand3` of specs/Statement, the premise `AllMeant` of
--- specs/Premise. `every-list-meets` is the statement that is asked for, with at most 1,024 different keys entered in all; that premise turned out not to be
--- needed for it, so it is derived from the stronger `every-list`. What needs it is in Beyond. Assumes nothing.
+-- specs/Premise. `every-list-meets` is the statement that is asked for, with no more different keys entered in all than the limit; that premise turned out
+-- not to be needed for it, so it is derived from the stronger `every-list`. What needs it is in Beyond. Assumes nothing.
 use Prim.Native.Nat.{ℕ, _≤_}
 use mathlib.Core.List.{List, []}
 use Rattle.keys.specs.Store.{limit}

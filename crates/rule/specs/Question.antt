@@ -18,7 +18,7 @@ nodeQuestion1 n = question 1 (nodeInOrder n)
 abbrev pub savedQuestion1 : Node → Question
 savedQuestion1 n = question 1 (savedInOrder n)
 
--- 8. Has the union of both stores at most 1,024 keys? (Of stores with the keys l and r.)
+-- 8. Has the union of both stores at most as many keys as the limit? (Of stores with the keys l and r.)
 abbrev pub question8 : List ℕ → List ℕ → Question
 question8 l r = question 8 (leb (length (union l r)) limit)
 

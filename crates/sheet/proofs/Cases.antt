@@ -2,7 +2,7 @@
 -- as the request has them. Assumes nothing.
 use mathlib.Core.List.{map, flatten}
 use mathlib.Core.Path.{_≡_, refl}
-use Rattle.keys.specs.Store.{zeros, storeOf, inOrder}
+use Rattle.keys.specs.Store.{limit, zeros, storeOf, inOrder}
 use Rattle.text.specs.Decimal.{decimal, decimalIn}
 use Rattle.text.specs.Groups.{inGroups}
 use Rattle.sheet.specs.Sheet.{spaces, rightAligned, field, row, padded, headLine, rows, sheetLines, linesText, sheetLength}
@@ -18,6 +18,6 @@ pub calls-hold : map (λ (c : Called). c .gives) calls ≡ map (λ (c : Called).
 unfolding zeros storeOf inOrder writeSheet linesText flatten decimal decimalIn inGroups spaces rightAligned field row padded headLine rows sheetLines
 calls-hold = refl
 
--- a line is 62 characters and a line feed; a full store of 1,024 keys takes 9 pages
-pub sheet-sizes : (sheetLength 0 ≡ 63) × (sheetLength 3 ≡ 126) × (sheetLength 120 ≡ 2583) × (sheetLength 121 ≡ 2709) × (sheetLength 1024 ≡ 22113)
+-- a line is 62 characters and a line feed; the last is a full store's
+pub sheet-sizes : (sheetLength 0 ≡ 63) × (sheetLength 3 ≡ 126) × (sheetLength 120 ≡ 2583) × (sheetLength 121 ≡ 2709) × (sheetLength limit ≡ 22113)
 sheet-sizes = (refl, refl, refl, refl, refl)

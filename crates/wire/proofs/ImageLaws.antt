@@ -32,7 +32,7 @@ use Rattle.wire.specs.Sizes.{AsTold}
 use Rattle.wire.proofs.NumberLaws.{length-bytes}
 use Rattle.wire.proofs.RunLaws.{length-writeRun, key-faithful, claim-faithful}
 
--- the size that document 01 names
+-- "At most 9,860 bytes."
 pub image-size : imageLimit ≡ 9860
 image-size = refl
 

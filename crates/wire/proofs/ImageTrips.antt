@@ -109,7 +109,7 @@ imageBytes-parse bs below whole =
 
 -- ---- the theorems
 
--- "At most 9,860 bytes."
+-- no image is longer than the longest (its size: `image-size`)
 pub image-at-most : (n : Node) → Shaped n → nodeInOrder n ≡ true → length (nodeBytes n) ≤ imageLimit
 image-at-most n shaped e = let (few, several) = ordered-counts n e in rw (length-nodeBytes n shaped few several) (omega arith)
 

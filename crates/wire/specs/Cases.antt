@@ -1,8 +1,9 @@
 -- Worked examples over the call definitions, as one table: a frame and an image byte by byte, and each way to be refused; then, as a second
 -- one, claims of three that no store could make. That each row gives what is wanted is one law for each table, in proofs/Cases. Assumes nothing.
-use Prim.Native.Nat.{ℕ}
+use Prim.Native.Nat.{ℕ, _+_, _*_}
 use mathlib.Core.List.{List, [], _∷_, _++_}
 use lib.ListN.{take, replicate}
+use Rattle.keys.specs.Store.{limit}
 use Rattle.claims.specs.declared.claim.Claim.{Claim}
 use Rattle.claims.specs.Cases.{claim}
 use Rattle.rule.specs.declared.node.Node.{Node}
@@ -11,9 +12,9 @@ use Rattle.wire.specs.declared.answer.Framed.{Framed}
 use Rattle.wire.specs.declared.answer.Imaged.{Imaged}
 use Rattle.wire.specs.declared.answer.Length.{Length}
 use Rattle.wire.specs.Number.{bytes}
-use Rattle.wire.specs.Claim.{countWidth}
+use Rattle.wire.specs.Claim.{keyWidth, countWidth}
 use Rattle.wire.specs.Frame.{frameBytes, fourOf, noFrame, readFrame, writeFrame, frameLent}
-use Rattle.wire.specs.Image.{imageBytes, noImage, readImage, imageLength, writeImage, imageLent}
+use Rattle.wire.specs.Image.{imageLimit, imageBytes, noImage, readImage, imageLength, writeImage, imageLent}
 
 -- what a row compares
 pub data Compared : Type 0 where
@@ -125,7 +126,7 @@ table =
     ∷ imageGives (0 ∷ 0 ∷ 0 ∷ 0 ∷ []) emptyNode
     -- nothing, a count too high, a second count that is missing, a length that the counts belie
     ∷ imageGets [] 14
-    ∷ imageGets (bytes countWidth 1025 ++ replicate 8202 0) 14
+    ∷ imageGets (bytes countWidth (limit + 1) ++ replicate (keyWidth * (limit + 1) + countWidth) 0) 14
     ∷ imageGets (0 ∷ 1 ∷ eight 7) 14
     ∷ imageGets (nodeImage ++ (0 ∷ [])) 14
     ∷ imageGets (take 53 nodeImage) 14
@@ -140,7 +141,7 @@ table =
     ∷ imageLengthIs node 53 15 0
     ∷ imageLengthIs node 54 0 54
     ∷ imageWrites node 53 (replicate 53 7)
-    ∷ imageLengthIs (nodeOf (6 ∷ 5 ∷ []) []) 9860 1 0
+    ∷ imageLengthIs (nodeOf (6 ∷ 5 ∷ []) []) imageLimit 1 0
     ∷ []
 
 -- ---- claims of three that no store could make (document 02, slip 2)
@@ -174,5 +175,5 @@ faultyTable =
     ∷ imageGets (imageBytes (1 ∷ 10 ∷ []) faulty) 1
     ∷ imageGets (imageBytes (10 ∷ 0 ∷ []) faulty) 1
     -- a node that is given with one gets 1
-    ∷ imageLengthIs (nodeOf (0 ∷ 10 ∷ []) faulty) 9860 1 0
+    ∷ imageLengthIs (nodeOf (0 ∷ 10 ∷ []) faulty) imageLimit 1 0
     ∷ []

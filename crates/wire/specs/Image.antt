@@ -1,5 +1,5 @@
 -- Images (document 01, "Frame and image"): "Image of a node: key count (2 bytes), keys (8 each), pending count (2 bytes), pending claims (26 each), each
--- in its order. At most 9,860 bytes." Then question 14, and what the calls return for any bytes and any node. Assumes nothing.
+-- in its order." Then the longest image, question 14, and what the calls return for any bytes and any node. Assumes nothing.
 use Prim.Native.Nat.{ℕ, _+_, _*_, _^_, _<_}
 use mathlib.Core.Bool.{Bool, true, _&&_}
 use mathlib.Core.List.{List, [], _∷_, _++_}
@@ -42,7 +42,7 @@ sections = keySection ∷ claimSection ∷ []
 abbrev pub sectionLength : Section → ℕ → ℕ
 sectionLength s n = countWidth + s .size * n
 
--- the longest image: 9,860
+-- the longest image
 abbrev pub longest : List Section → ℕ
 longest [] = 0
 longest (s ∷ ss) = sectionLength s (s .most) + longest ss
@@ -96,7 +96,7 @@ unfoldable pub toldLength : List Section → List ℕ → ℕ
 toldLength [] bs = 0
 toldLength (s ∷ ss) bs = sectionLength s (countOf bs) + toldLength ss (behind s bs)
 
--- 14. Are the image's counts at most 1,024 and 64, and its length exactly theirs?
+-- 14. Are the image's counts at most the limit and 64, and its length exactly theirs?
 abbrev pub question14 : List ℕ → Question
 question14 bs = question 14 (countsFit sections bs && eqb (length bs) (toldLength sections bs))
 

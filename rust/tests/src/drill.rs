@@ -7,6 +7,8 @@ use std::path::PathBuf;
 use std::process::{Child, ChildStdin, ChildStdout, Command, Stdio};
 use std::thread;
 
+use second::RawStore;
+
 /// The number of each call in a request.
 #[derive(Clone, Copy, Debug, PartialEq, Eq, PartialOrd, Ord)]
 #[repr(u64)]
@@ -31,8 +33,8 @@ pub enum Call {
 }
 
 /// The most words and the most bytes of a request.
-pub const MOST_WORDS: usize = 16_384;
-pub const MOST_BYTES: usize = 65_536;
+pub const MOST_WORDS: usize = 16 * RawStore::LIMIT;
+pub const MOST_BYTES: usize = 32 * RawStore::LIMIT;
 
 /// The words and bytes of a request, or of the reply to it.
 #[derive(Clone, Debug, Default, PartialEq, Eq)]

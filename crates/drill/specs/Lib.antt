@@ -1,0 +1,3 @@
+-- The definitions that the contracts of `drill` cite.
+--   Request  how long a request's words are, and where its parts end
+pub mod Request
