@@ -31,7 +31,8 @@ impl Claim {
     /// algorithm does and its text doesn't.
     pub(crate) fn of_span(span: &[u64]) -> Claim {
         let sum = span.iter().fold(0, |sum, key| sum ^ key);
-        // A span lies in a store, so its length is at most 1,024.
+        // A span lies in a store, so its length is at most the limit, which
+        // 16 bits hold.
         Claim::new(span[0], span[span.len() - 1], sum, span.len() as u16)
     }
 

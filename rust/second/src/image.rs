@@ -6,8 +6,9 @@ use crate::node::{Node, PENDING, RawNode};
 use crate::questions::{self, Asked, ask};
 use crate::store::{RawStore, Store};
 
-/// "At most 9,860 bytes."
-pub const IMAGE_MOST: usize = 9_860;
+/// The length of the image of a full store and a full table, the longest there
+/// is.
+pub const IMAGE_MOST: usize = length_of_counts(RawStore::LIMIT, PENDING);
 
 /// The bytes of one key.
 const KEY_BYTES: usize = 8;

@@ -29,8 +29,8 @@ pub(crate) fn ask(number: u8, yes: bool) -> Asked {
 
 // ---- the seventeen ----
 
-/// 1, of a store: "the count is at most 1,024, the keys below the count rise
-/// strictly and every place from the count on is 0".
+/// 1, of a store: the count is at most the limit, "the keys below the count
+/// rise strictly and every place from the count on is 0".
 pub fn q1_store_in_order(store: &RawStore) -> bool {
     store.count <= RawStore::LIMIT && {
         let (keys, unused) = store.keys.split_at(store.count);
@@ -66,7 +66,7 @@ fn table_in_order(keys: &[u64], pending: &[Claim], asked: impl Fn(&Claim) -> Ask
 }
 
 /// 1, of the contents of an image, which has no unused places. Its counts
-/// are at most 1,024 and 64 by question 14. Pending claims that fail 16 are
+/// are at most the limit and 64 by question 14. Pending claims that fail 16 are
 /// there still: 1 is asked "as before" (document 02, slip 2).
 pub(crate) fn contents_in_order(keys: &[u64], pending: &[Claim]) -> bool {
     keys_in_order(keys) && table_in_order(keys, pending, of_saved_claim)
@@ -77,9 +77,9 @@ pub fn q2_lo_at_most_hi(claim: &Claim) -> bool {
     claim.lo <= claim.hi
 }
 
-/// 3: "Is cnt from 1 to 1,024?"
+/// 3: "Is cnt from 1 to" the limit?
 pub fn q3_cnt_in_limit(claim: &Claim) -> bool {
-    (1..=1_024).contains(&claim.cnt)
+    (1..=RawStore::LIMIT).contains(&usize::from(claim.cnt))
 }
 
 /// 4: "Is cnt 1 when lo = hi, and otherwise from 2 to hi − lo + 1?"
@@ -111,9 +111,9 @@ pub fn q16_middle_between(claim: &Claim) -> bool {
     claim.cnt != 3 || (claim.lo < middle && middle < claim.hi)
 }
 
-/// 6: "Do the missing ones among the keys to add fit below 1,025?" A key to
-/// add twice is missing once. Of a claim these are lo and hi: "6 doesn't count
-/// the middle one" (document 02, slip 1).
+/// 6: "Do the missing ones among the keys to add fit" within the limit? A key
+/// to add twice is missing once. Of a claim these are lo and hi: "6 doesn't
+/// count the middle one" (document 02, slip 1).
 pub fn q6_missing_fit(held: &[u64], to_add: &[u64]) -> bool {
     let missing = to_add
         .iter()
@@ -141,7 +141,7 @@ pub fn union_count(left: &[u64], right: &[u64]) -> usize {
     count + (left.len() - i) + (right.len() - j)
 }
 
-/// 8: "Has the union of both stores at most 1,024 keys?"
+/// 8: "Has the union of both stores at most" as many keys as the limit?
 pub fn q8_union_fits(union: usize) -> bool {
     union <= RawStore::LIMIT
 }
@@ -181,8 +181,8 @@ pub fn q13_claims_pass(mut claims: impl Iterator<Item = Claim>) -> bool {
     claims.all(|claim| of_claim(&claim).is_ok())
 }
 
-/// 14: "Are the image's counts at most 1,024 and 64, and its length exactly
-/// theirs?" Bytes too few to tell both counts have no length of theirs.
+/// 14: "Are the image's counts at most" the limit "and 64, and its length
+/// exactly theirs?" Bytes too few to tell both counts have no length of theirs.
 pub fn q14_length_told(image: &[u8]) -> bool {
     front_length(image) == Ok(image.len())
 }

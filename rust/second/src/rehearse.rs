@@ -6,7 +6,7 @@ use crate::image::{front_length, node_of_image};
 use crate::questions::{self, Asked, ask};
 use crate::round::{Delivery, run};
 
-/// "lends 2,048 records"
+/// "lends 2,048 records": a number of its own, whatever the store's limit is.
 pub const REHEARSAL_RECORDS: usize = 2_048;
 
 /// All that `rehearse` prints for this standard input, each line ended.

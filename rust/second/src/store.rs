@@ -5,21 +5,27 @@ use std::fmt;
 use crate::claim::Claim;
 use crate::questions;
 
-/// A store as it is given to a call: 1,024 places and a count of any content.
+/// A store as it is given to a call: as many places as the limit says, and a
+/// count, of any content.
 #[derive(Clone, PartialEq, Eq)]
 pub struct RawStore {
     /// The places. Boxed, so that a store passes from call to call without
-    /// its 8,192 bytes being copied.
-    pub keys: Box<[u64; 1024]>,
+    /// their bytes being copied.
+    pub keys: Box<[u64; RawStore::LIMIT]>,
     /// How many places are in use, if the store is in order.
     pub count: usize,
 }
 
-impl RawStore {
-    /// "A store holds a count from 0 to 1,024 and 1,024 places."
-    pub const LIMIT: usize = 1024;
+// A claim's cnt and an image's key count tell the limit in 16 bits.
+const _: () = assert!(RawStore::LIMIT <= u16::MAX as usize);
 
-    /// "The empty store is 1,024 zeros with count 0."
+impl RawStore {
+    /// The limit: the most keys of a store, which has as many places. It
+    /// belongs "to the store type", and all else that is said of it follows
+    /// from this one number.
+    pub const LIMIT: usize = 1_024;
+
+    /// "The empty store is" as many "zeros with count 0".
     pub fn empty() -> RawStore {
         RawStore {
             keys: Box::new([0; RawStore::LIMIT]),
@@ -44,8 +50,8 @@ impl RawStore {
     }
 }
 
-/// The places up to the last that is in use or isn't zero, since a thousand
-/// zeros tell a reader nothing.
+/// The places up to the last that is in use or isn't zero, since the zeros
+/// behind it tell a reader nothing.
 impl fmt::Debug for RawStore {
     fn fmt(&self, out: &mut fmt::Formatter<'_>) -> fmt::Result {
         let told = self.keys.iter().rposition(|&key| key != 0);
@@ -72,7 +78,7 @@ impl Store {
         Store { keys }
     }
 
-    /// Keys that rise strictly, at most 1,024 of them.
+    /// Keys that rise strictly, no more of them than the limit.
     pub(crate) fn from_keys(keys: Vec<u64>) -> Store {
         debug_assert!(questions::keys_in_order(&keys));
         Store { keys }

@@ -10,8 +10,6 @@ use second::*;
 
 const MAX: u64 = u64::MAX;
 
-const LIMIT: usize = RawStore::LIMIT;
-
 /// The deliveries that the call gives for so many keys. The host call gives
 /// the same.
 fn cost(n: usize) -> usize {
@@ -206,11 +204,14 @@ fn runs_of_four(n: usize, without: usize, rng: &mut Rng) -> Vec<u64> {
     keys.skip(without).take(n).collect()
 }
 
+/// Low bits that tell more keys apart than a store holds, by far.
+const LOW_BITS: u32 = (4 * LIMIT).next_power_of_two().ilog2();
+
 /// So many keys in each of several ways.
 fn key_sets(n: usize, rng: &mut Rng) -> Vec<Vec<u64>> {
     let count = n as u64;
-    let (high, step) = (rng.next() << 12, rng.next() % 1_000_000 + 1);
-    let few: Vec<u64> = (0..12).map(|_| rng.next()).collect();
+    let (high, step) = (rng.next() << LOW_BITS, rng.next() % 1_000_000 + 1);
+    let few: Vec<u64> = (0..LOW_BITS).map(|_| rng.next()).collect();
     let mut sets = vec![
         (0..count).map(|at| at * step).collect(),
         (0..count).rev().map(|at| MAX - at).collect(),
@@ -218,8 +219,8 @@ fn key_sets(n: usize, rng: &mut Rng) -> Vec<Vec<u64>> {
         drawn(n, &[0, MAX], || rng.next()),
         drawn(n, &[MAX], || rng.next()),
         // All but the low bits shared, by all keys or by all but the ends.
-        drawn(n, &[], || high + rng.next() % 4_096),
-        drawn(n, &[0, MAX], || high + rng.next() % 4_096),
+        drawn(n, &[], || high + rng.next() % (1 << LOW_BITS)),
+        drawn(n, &[0, MAX], || high + rng.next() % (1 << LOW_BITS)),
         // The XORs of a few keys, which have each other's XOR among them.
         drawn(n, &[0], || {
             let chosen = few.iter().filter(|_| rng.one_in(2));
@@ -240,7 +241,7 @@ fn key_sets(n: usize, rng: &mut Rng) -> Vec<Vec<u64>> {
 #[test]
 fn rounds_whichever_keys_they_are() {
     for_seeds(12, |rng| {
-        for n in (0..=64).chain([100, 255, 256, 257, 513, LIMIT]) {
+        for n in (0..=64).chain([100, 255, 256, 257, LIMIT / 2 + 1, LIMIT]) {
             for keys in key_sets(n, rng) {
                 opens(&keys);
             }

@@ -215,17 +215,23 @@ fn a_sheet_of_three_pages() {
 
 #[test]
 fn the_longest_sheet() {
-    // 342 lines with keys and nine head lines.
-    assert_eq!(SHEET_MOST, 63 * (342 + 9));
-    assert_eq!(SHEET_MOST, 22_113);
-    let sheet = sheet_of(&full(3).keys[..], 22_113);
+    // The lines with keys and the head lines.
+    let (key_lines, pages) = (LIMIT.div_ceil(3), LIMIT.div_ceil(120));
+    assert_eq!(SHEET_MOST, 63 * (key_lines + pages));
+    let keys = full(3).keys;
+    let sheet = sheet_of(&keys[..], SHEET_MOST);
     let lines: Vec<&str> = sheet.lines().collect();
-    let last_head = "page    9 of    9                                             ";
-    let last = "                3069                                          ";
-    assert_eq!((lines[328], lines[350]), (last_head, last));
+    let last_head = format!("page {pages:>4} of {pages:>4}");
+    assert_eq!(lines[41 * (pages - 1)], format!("{last_head:<62}"));
+    let last: Vec<String> = keys[3 * (key_lines - 1)..]
+        .iter()
+        .map(|key| format!("{key:>20}"))
+        .collect();
+    let last = format!("{:<62}", last.join(" "));
+    assert_eq!(lines.last(), Some(&last.as_str()));
     // No sheet is shorter than one of fewer keys.
     let mut before = 0;
-    for count in 0..=RawStore::LIMIT {
+    for count in 0..=LIMIT {
         let store = RawStore::of(&full(1).keys[..count]);
         let length = write_sheet(&store, &mut vec![0; SHEET_MOST]).length;
         assert!(before <= length && length.is_multiple_of(63));
@@ -270,11 +276,11 @@ fn a_sheet_needs_its_own_length() {
 /// Stores out of order: in a place not in use, in the count, in the keys.
 fn out_of_order() -> Vec<RawStore> {
     let mut unused = RawStore::of(&[1, 2]);
-    unused.keys[1_023] = 1;
+    unused.keys[LIMIT - 1] = 1;
     let mut fewer = RawStore::of(&[1, 2]);
     fewer.count = 1;
     let mut more = full(1);
-    more.count = 1_025;
+    more.count = LIMIT + 1;
     let mut most = full(1);
     most.count = usize::MAX;
     let mut zeros = RawStore::empty();
@@ -306,8 +312,8 @@ fn writing_a_sheet_asks_1_15() {
     check(&RawStore::empty(), 63, 0, 63);
     check(&RawStore::of(&[0]), 125, 15, 0);
     check(&RawStore::of(&[0]), 126, 0, 126);
-    check(&full(1), 22_112, 15, 0);
-    check(&full(1), 22_113, 0, 22_113);
+    check(&full(1), SHEET_MOST - 1, 15, 0);
+    check(&full(1), SHEET_MOST, 0, SHEET_MOST);
 }
 
 /// "images come first: 14, 1, then … 15".
@@ -322,7 +328,7 @@ fn the_host_call_asks_14_1_15() {
         assert_eq!(asked.err().map_or(0, i64::from), (-answer).max(0));
     };
     let good = image_of(&[1, 2], &[c(1, 2, 3, 2)]);
-    let many: Vec<u64> = (0..1_025).collect();
+    let many: Vec<u64> = (0..=LIMIT as u64).collect();
     for lent in [0, SHEET_MOST] {
         check(&[], lent, -14);
         check(&good[..good.len() - 1], lent, -14);
@@ -337,8 +343,9 @@ fn the_host_call_asks_14_1_15() {
     check(&[0, 0, 0, 0], 63, 63);
     check(&good, 125, -15);
     check(&good, 126, 126);
-    check(&image_of_keys(&many[..1_024]), 22_112, -15);
-    check(&image_of_keys(&many[..1_024]), 22_113, 22_113);
+    let full = image_of_keys(&many[..LIMIT]);
+    check(&full, SHEET_MOST - 1, -15);
+    check(&full, SHEET_MOST, SHEET_MOST as i64);
 }
 
 /// The sheet is of the keys: the pending claims, those that are left out with
@@ -368,7 +375,7 @@ fn the_program_refuses() {
     }
     refused(&[&good[..], b"\n"].concat(), "refused 14\n");
     refused(&[&good[..], &good].concat(), "refused 14\n");
-    let many: Vec<u64> = (0..1_025).collect();
+    let many: Vec<u64> = (0..=LIMIT as u64).collect();
     refused(&image_of_keys(&many), "refused 14\n");
     refused(&image_of_keys(&[2, 1]), "refused 1\n");
     refused(&image_of(&[1, 2], &[c(1, 2, 0, 2)]), "refused 1\n");
@@ -398,7 +405,7 @@ fn sheet_by_strings(keys: &[u64]) -> String {
 fn sheets_of_any_store() {
     for_seeds(200, |rng| {
         let density = rng.density();
-        let keys = rng.keys(1_024, density);
+        let keys = rng.keys(LIMIT, density);
         let expected = sheet_by_strings(&keys);
         assert_eq!(sheet_of(&keys, expected.len()), expected);
     });

@@ -126,11 +126,11 @@ fn j_a_span_has_room_for_its_count() {
 }
 
 #[test]
-fn k_a_count_is_from_1_to_1024() {
+fn k_a_count_is_from_1_to_the_limit() {
     for (lo, hi) in [(0, u64::MAX), (3, 4), (7, 5_000)] {
         for sum in [0, 3, lo ^ hi] {
             assert_eq!(refused(c(lo, hi, sum, 0)), 3);
-            assert_eq!(refused(c(lo, hi, sum, 1_025)), 3);
+            assert_eq!(refused(c(lo, hi, sum, MOST_CNT + 1)), 3);
             assert_eq!(refused(c(lo, hi, sum, u16::MAX)), 3);
         }
     }
@@ -149,8 +149,8 @@ fn mistakes_that_come_easily() {
     assert_eq!((entered.number, entered.store.count), (0, 1));
     let entered = enter(RawStore::of(&[3]), 0);
     assert_eq!(entered.store.held(), [0, 3]);
-    // "refusing two equal full stores because 2,048 exceeds 1,024"
-    let mut records = vec![Delivery::default(); 2_048];
+    // "refusing two equal full stores" because what both hold exceeds the limit
+    let mut records = vec![Delivery::default(); 2 * LIMIT];
     let rounded = round(full(1), full(1), &mut records);
     assert_eq!((rounded.number, rounded.deliveries), (0, 2));
     assert_eq!((rounded.left, rounded.right), (full(1), full(1)));
@@ -231,18 +231,18 @@ fn the_middle_key_needs_space() {
     for ends in [&[][..], &[1], &[16], &[1, 16]] {
         let missing = 2 - ends.len();
         // "6 doesn't count the middle one": no place is left for it.
-        let before = filled(ends, 1_024 - missing);
+        let before = filled(ends, LIMIT - missing);
         let (keys, reply) = hears(&before, THREE);
-        assert_eq!(keys, filled(&[1, 16], 1_024));
+        assert_eq!(keys, filled(&[1, 16], LIMIT));
         assert_eq!(reply, Reply::Ask(c(1, 16, 17, 2)));
         // One place is left for it.
-        let before = filled(ends, 1_023 - missing);
+        let before = filled(ends, LIMIT - 1 - missing);
         let (keys, reply) = hears(&before, THREE);
-        assert_eq!(keys, filled(&[1, 2, 16], 1_024));
+        assert_eq!(keys, filled(&[1, 2, 16], LIMIT));
         assert_eq!(reply, Reply::Match);
     }
     // The ends themselves don't fit, and 6 says so as before.
-    let store = RawStore::of(&filled(&[], 1_023));
+    let store = RawStore::of(&filled(&[], LIMIT - 1));
     assert_eq!(reply(store.clone(), THREE).number, 6);
     assert_eq!(take(RawNode::of(store, &[]), THREE).number, 6);
 }
@@ -307,7 +307,7 @@ fn taking_a_pending_claim_again_adds_its_middle_key() {
 
     let image = image_of(&[1, 16], &[THREE]);
     let expected = image_of(&[1, 2, 16], &[THREE]);
-    let mut out = vec![0x55; 9_860];
+    let mut out = vec![0x55; IMAGE_MOST];
     let length = host::take_frame(&image, &frame_of(&[THREE]), &mut out);
     assert_eq!(length, expected.len() as i64);
     assert_eq!(out[..expected.len()], expected);
@@ -328,14 +328,14 @@ fn taking_a_claim_that_is_dropped_adds_its_middle_key() {
 #[test]
 fn a_beat_adds_no_middle_key() {
     let own = c(1, 16, 17, 2);
-    let mut run = vec![7; 516];
+    let mut run = vec![7; BEAT_WORDS];
     let beaten = beat(pending_without_middle_key(), &mut run);
     assert_eq!((beaten.number, beaten.written), (0, 2));
     assert_eq!(beaten.node, pending_without_middle_key());
     assert_eq!(run[..8], [1, 16, 17, 2].repeat(2));
 
     let image = image_of(&[1, 16], &[THREE]);
-    let (mut out, mut frames) = (vec![0x55; 9_860], vec![0x66; 3_486]);
+    let (mut out, mut frames) = (vec![0x55; IMAGE_MOST], vec![0x66; host::BEAT_FRAMES]);
     assert_eq!(host::beat(&image, &mut out, &mut frames), 56);
     assert_eq!(frames[..56], frame_of(&[own, own]));
     assert_eq!(out[..image.len()], image);
@@ -345,9 +345,9 @@ fn a_beat_adds_no_middle_key() {
 /// held: the first one's takes the last place.
 #[test]
 fn a_middle_key_takes_a_place_from_the_next_claim() {
-    let image = image_of_keys(&filled(&[], 1_021));
+    let image = image_of_keys(&filled(&[], LIMIT - 3));
     let next = c(50, 50, 50, 1);
-    let mut out = vec![0x55; 9_860];
+    let mut out = vec![0x55; IMAGE_MOST];
     let mut answer = |claims: &[Claim]| {
         let frame = frame_of(claims);
         let answer = host::take_frame(&image, &frame, &mut out);
@@ -356,10 +356,10 @@ fn a_middle_key_takes_a_place_from_the_next_claim() {
         (answer, out.clone())
     };
     // One no refuses the whole frame, and nothing is written.
-    assert_eq!(answer(&[THREE, next]), (-6, vec![0x55; 9_860]));
-    assert_eq!(answer(&[THREE, THREE, next]), (-6, vec![0x55; 9_860]));
+    assert_eq!(answer(&[THREE, next]), (-6, vec![0x55; IMAGE_MOST]));
+    assert_eq!(answer(&[THREE, THREE, next]), (-6, vec![0x55; IMAGE_MOST]));
     // In the other order no place is left for the middle key.
-    let expected = image_of(&filled(&[1, 16, 50], 1_024), &[next, THREE]);
+    let expected = image_of(&filled(&[1, 16, 50], LIMIT), &[next, THREE]);
     let (length, out) = answer(&[next, THREE]);
     assert_eq!(length, expected.len() as i64);
     assert_eq!(out[..expected.len()], expected);
@@ -380,9 +380,9 @@ fn sixteen_is_asked_after_5_and_before_6() {
     assert_eq!(refused(c(5, 6, 3, 3)), 4);
     assert_eq!(refused(c(1, 16, 5, 2)), 5);
     // 6 comes after it: there is no place for 1 and 16.
-    assert_eq!(refused_by(&filled(&[], 1_024), FAULTY), 16);
-    assert_eq!(refused_by(&filled(&[], 1_023), FAULTY), 16);
-    let full = RawStore::of(&filled(&[], 1_024));
+    assert_eq!(refused_by(&filled(&[], LIMIT), FAULTY), 16);
+    assert_eq!(refused_by(&filled(&[], LIMIT - 1), FAULTY), 16);
+    let full = RawStore::of(&filled(&[], LIMIT));
     assert_eq!(reply(full, THREE).number, 6);
     // In a frame it is 13, read or written, whatever else is in the frame.
     for claims in [&[FAULTY][..], &[THREE, FAULTY], &[FAULTY, c(9, 5, 0, 0)]] {
@@ -391,10 +391,10 @@ fn sixteen_is_asked_after_5_and_before_6() {
         let written = write_frame(claims, &mut out);
         assert_eq!((written.number, written.length), (13, 0));
         assert_eq!(out, [0x55; 108]);
-        let mut out = vec![0x55; 9_860];
-        let image = image_of_keys(&filled(&[], 1_024));
+        let mut out = vec![0x55; IMAGE_MOST];
+        let image = image_of_keys(&filled(&[], LIMIT));
         assert_eq!(host::take_frame(&image, &frame_of(claims), &mut out), -13);
-        assert_eq!(out, vec![0x55; 9_860]);
+        assert_eq!(out, vec![0x55; IMAGE_MOST]);
     }
 }
 
@@ -407,14 +407,14 @@ fn a_node_with_a_faulty_claim_is_out_of_order() {
         assert!(!questions::q1_node_in_order(&node));
         let taken = take(node.clone(), c(7, 7, 7, 1));
         assert_eq!((taken.number, &taken.node), (1, &node));
-        let mut run = vec![7; 516];
+        let mut run = vec![7; BEAT_WORDS];
         let beaten = beat(node.clone(), &mut run);
         assert_eq!((beaten.number, beaten.written), (1, 0));
-        assert_eq!((beaten.node, run), (node.clone(), vec![7; 516]));
-        let mut out = vec![0x55; 9_860];
+        assert_eq!((beaten.node, run), (node.clone(), vec![7; BEAT_WORDS]));
+        let mut out = vec![0x55; IMAGE_MOST];
         let written = write_image(&node, &mut out);
         assert_eq!((written.number, written.length), (1, 0));
-        assert_eq!(out, vec![0x55; 9_860]);
+        assert_eq!(out, vec![0x55; IMAGE_MOST]);
     }
 }
 
@@ -464,7 +464,7 @@ fn a_saved_image_is_read_without_it() {
 
 /// The image that a host call leaves at the front of its buffer.
 fn image_left(call: impl FnOnce(&mut [u8]) -> i64) -> Vec<u8> {
-    let mut out = vec![0x55; 9_860];
+    let mut out = vec![0x55; IMAGE_MOST];
     assert!(call(&mut out) >= 0);
     let length = image_length(&out).length;
     assert!(out[length..].iter().all(|&byte| byte == 0x55));
@@ -482,13 +482,13 @@ fn a_saved_image_is_written_back_without_it() {
     for image in [&SAVED[..], &WRITTEN] {
         let own = c(1, 16, 17, 2);
         assert_eq!(enter(image, 5), image_of(&[1, 5, 16], &[own, THREE]));
-        let mut frames = vec![0x66; 3_486];
+        let mut frames = vec![0x66; host::BEAT_FRAMES];
         // Own is matched and leaves; that of three is asked about and stays.
         // Nobody is asked about the other one.
         let beaten = image_left(|out| host::beat(image, out, &mut frames));
         assert_eq!(beaten, image_of(&[1, 16], &[THREE]));
         assert_eq!(frames[..56], frame_of(&[own, own]));
-        assert_eq!(frames[56..], [0x66; 3_486 - 56]);
+        assert_eq!(frames[56..], [0x66; host::BEAT_FRAMES - 56]);
         let seven = c(7, 7, 7, 1);
         let frame = frame_of(&[seven]);
         let taken = image_left(|out| host::take_frame(image, &frame, out));

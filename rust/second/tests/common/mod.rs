@@ -7,6 +7,15 @@ use std::collections::BTreeSet;
 
 use second::*;
 
+/// The store's limit.
+pub const LIMIT: usize = RawStore::LIMIT;
+
+/// The cnt of the claim of a full store.
+pub const MOST_CNT: u16 = LIMIT as u16;
+
+/// The words of a beat's lent run, four to a place.
+pub const BEAT_WORDS: usize = 4 * BEAT_PLACES;
+
 /// Shorthand for a claim as the document writes it.
 pub const fn c(lo: u64, hi: u64, sum: u64, cnt: u16) -> Claim {
     Claim::new(lo, hi, sum, cnt)
@@ -31,9 +40,9 @@ pub fn claim_of(keys: &[u64]) -> Claim {
     )
 }
 
-/// The store of 1,024 keys 0, step, 2·step, ….
+/// The full store of keys 0, step, 2·step, ….
 pub fn full(step: u64) -> RawStore {
-    let keys: Vec<u64> = (0..1_024).map(|at| at * step).collect();
+    let keys: Vec<u64> = (0..LIMIT as u64).map(|at| at * step).collect();
     RawStore::of(&keys)
 }
 
@@ -116,12 +125,13 @@ impl Rng {
     }
 
     /// A key of one of several densities: of few neighbours, of many, of all,
-    /// with 0 and the largest key among them.
+    /// with 0 and the largest key among them. The many are some more than the
+    /// limit, so that full stores of them come, and many keys are held then.
     pub fn key(&mut self, density: usize) -> u64 {
         match density {
             0 => self.next() % 24,
-            1 => self.next() % 1_500,
-            2 => u64::MAX - self.next() % 2_000,
+            1 => self.next() % (3 * LIMIT as u64 / 2),
+            2 => u64::MAX - self.next() % (2 * LIMIT as u64),
             // One bit each: no key is the XOR of others.
             3 => 1 << self.below(64),
             _ => match self.below(40) {
@@ -156,10 +166,10 @@ impl Rng {
         keys.into_iter().collect()
     }
 
-    /// Keys of two stores whose union has at most 1,024.
+    /// Keys of two stores whose union has no more than the limit.
     pub fn pair(&mut self) -> (Vec<u64>, Vec<u64>) {
         let density = self.density();
-        let all = self.keys(1_024, density);
+        let all = self.keys(LIMIT, density);
         let odds = *self.pick(&[1, 1, 2, 3, 8, 24, 200]);
         let mut left = Vec::new();
         let mut right = Vec::new();
@@ -200,7 +210,9 @@ impl Rng {
             2 => claim.sum = self.key(density),
             3 => claim.hi = self.key(density),
             4 if self.one_in(3) => claim.lo = self.key(density),
-            5 if self.one_in(6) => claim.cnt = *self.pick(&[0, 1, 2, 1_024, 1_025, u16::MAX]),
+            5 if self.one_in(6) => {
+                claim.cnt = *self.pick(&[0, 1, 2, MOST_CNT, MOST_CNT + 1, u16::MAX]);
+            }
             _ => {}
         }
         claim
@@ -264,7 +276,7 @@ impl Rng {
     /// A node in order with some claims taken.
     pub fn node(&mut self) -> RawNode {
         let density = self.density();
-        let keys = self.keys(1_024, density);
+        let keys = self.keys(LIMIT, density);
         let mut node = RawNode::of(RawStore::of(&keys), &[]);
         let takes = *self.pick(&[0, 1, 5, 20, 70, 90]);
         for _ in 0..takes {
@@ -328,18 +340,27 @@ pub fn even(count: u64) -> Vec<u64> {
     (0..count).map(|at| 2 * at).collect()
 }
 
-/// 1,024 keys and 64 claims, each about so many keys as `cnt` says.
+/// A full store and 64 claims, each about so many keys as `cnt` says.
 pub fn full_image(cnt: u16) -> Vec<u8> {
-    let keys = even(1_024);
+    let keys = even(LIMIT as u64);
+    // Nearly all keys are in each span, and the last one ends within them.
+    let apart = LIMIT as u64 - 124;
     let pending: Vec<Claim> = (0..64)
         .map(|at| {
-            let (lo, hi) = (2 * at, 2 * (at + 900));
+            let (lo, hi) = (2 * at, 2 * (at + apart));
             c(lo, hi, lo ^ hi, cnt)
         })
         .collect();
     let image = image_of(&keys, &pending);
     assert_eq!(image.len(), IMAGE_MOST);
     image
+}
+
+/// So many keys; the pages of their sheet, at 120 keys each, and the lines on
+/// the last one, at three.
+const fn paged(keys: usize) -> (usize, usize, usize) {
+    let pages = keys.div_ceil(120);
+    (keys, pages, (keys - 120 * (pages - 1)).div_ceil(3))
 }
 
 /// Counts of keys; the pages of their sheets, and the lines on the last one.
@@ -355,6 +376,6 @@ pub const PAGES: [(usize, usize, usize); 13] = [
     (121, 2, 1),
     (240, 2, 40),
     (241, 3, 1),
-    (1_023, 9, 21),
-    (1_024, 9, 22),
+    paged(LIMIT - 1),
+    paged(LIMIT),
 ];

@@ -119,7 +119,7 @@ fn tables_out_of_order() -> Vec<RawNode> {
         // questions 2 to 5
         node(&[c(2, 1, 3, 2)]),
         node(&[c(1, 2, 3, 0)]),
-        node(&[c(1, 9, 0, 1_025)]),
+        node(&[c(1, 9, 0, MOST_CNT + 1)]),
         node(&[c(1, 2, 3, 3)]),
         node(&[c(1, 1, 0, 1)]),
         node(&[c(1, 2, 0, 2)]),
@@ -169,14 +169,14 @@ fn a_beat_needs_129_places_whatever_is_pending() {
         RawNode::of(RawStore::of(&[5]), &[]),
         RawNode::of(full(1), &helped_in_two()),
     ] {
-        for words in [0, 4, 512, 515] {
+        for words in [0, 4, BEAT_WORDS - 4, BEAT_WORDS - 1] {
             let mut run = vec![7; words];
             let beaten = beat(node.clone(), &mut run);
             assert_eq!((beaten.number, beaten.written), (15, 0));
             assert_eq!(beaten.node, node);
             assert_eq!(run, vec![7; words]);
         }
-        for words in [516, 517, 519, 520, 600] {
+        for words in [0, 1, 3, 4, 84].map(|more| BEAT_WORDS + more) {
             let mut run = vec![7; words];
             let beaten = beat(node.clone(), &mut run);
             assert_eq!(beaten.number, 0);
@@ -190,7 +190,7 @@ fn a_beat_needs_129_places_whatever_is_pending() {
 
 /// The claims a beat writes, and the node after it.
 pub fn beats(node: RawNode) -> (Vec<Claim>, RawNode) {
-    let mut run = vec![0; 516];
+    let mut run = vec![0; BEAT_WORDS];
     let beaten = beat(node, &mut run);
     assert_eq!(beaten.number, 0);
     let claims = run[..4 * beaten.written]
@@ -204,7 +204,7 @@ pub fn beats(node: RawNode) -> (Vec<Claim>, RawNode) {
 fn the_longest_beat_writes_129_claims() {
     let (claims, node) = beats(RawNode::of(full(1), &helped_in_two()));
     assert_eq!(claims.len(), 129);
-    assert_eq!(claims[0], c(0, 1_023, 0, 1_024));
+    assert_eq!(claims[0], claim_of(full(1).held()));
     assert_eq!(claims[1], claim_of(&[1, 2, 3]));
     assert_eq!(claims[2], claim_of(&[4]));
     assert_eq!(claims[3], claim_of(&[1, 2, 3]));

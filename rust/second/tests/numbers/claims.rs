@@ -11,10 +11,12 @@ fn claims_of_positions() {
     assert_eq!(make(&store, 1, 3).claim, c(2, 8, 14, 3));
     assert_eq!(make(&store, 4, 4).claim, c(MAX, MAX, MAX, 1));
     assert_eq!(make(&store, 0, 4).claim, c(1, MAX, MAX ^ 15, 5));
-    assert_eq!(make(&full(1), 0, 1_023).claim, c(0, 1_023, 0, 1_024));
+    let full = full(3);
+    let last = full.keys[LIMIT - 1];
+    assert_eq!(make(&full, 0, LIMIT - 1).claim, claim_of(full.held()));
     assert_eq!(
-        make(&full(1), 1_023, 1_023).claim,
-        c(1_023, 1_023, 1_023, 1)
+        make(&full, LIMIT - 1, LIMIT - 1).claim,
+        c(last, last, last, 1)
     );
 }
 
@@ -37,9 +39,12 @@ fn positions_not_held_get_7() {
         assert_eq!((made.number, made.claim), (7, Claim::ZERO));
     }
     assert_eq!(make(&RawStore::empty(), 0, 0).number, 7);
-    assert_eq!(make(&full(1), 0, 1_024).number, 7);
+    assert_eq!(make(&full(1), 0, LIMIT).number, 7);
     assert_eq!(make(&full(1), 65_536, 65_536).number, 7);
 }
+
+/// The last of as many keys from 0 on as the limit says.
+const LAST: u64 = LIMIT as u64 - 1;
 
 /// Claims and the numbers that they get, each question on both sides of its
 /// edge.
@@ -49,14 +54,14 @@ const ASKED: &[(Claim, u8)] = &[
     (c(MAX, 0, 0, 2), 2),
     // 3 before 4 and 5
     (c(5, 5, 0, 0), 3),
-    (c(5, 5, 0, 1_025), 3),
-    (c(0, MAX, 0, 1_025), 3),
+    (c(5, 5, 0, MOST_CNT + 1), 3),
+    (c(0, MAX, 0, MOST_CNT + 1), 3),
     // 4 before 5
     (c(5, 5, 0, 2), 4),
-    (c(5, 5, 5, 1_024), 4),
+    (c(5, 5, 5, MOST_CNT), 4),
     (c(5, 6, 0, 1), 4),
     (c(5, 6, 5, 1), 4),
-    (c(0, 1_022, 0, 1_024), 4),
+    (c(0, LAST - 1, 0, MOST_CNT), 4),
     (c(MAX - 1, MAX, 1, 3), 4),
     (c(5, 6, 3, 3), 4),
     (c(5, 5, 5, 3), 4),
@@ -75,10 +80,10 @@ const ASKED: &[(Claim, u8)] = &[
     (c(5, 6, 3, 2), 0),
     (c(5, 7, 4, 3), 0),
     (c(5, 8, 99, 4), 0),
-    (c(0, 1_023, 7, 1_024), 0),
+    (c(0, LAST, 7, MOST_CNT), 0),
     (c(0, MAX, MAX, 2), 0),
-    (c(0, MAX, 0, 1_024), 0),
-    (c(MAX - 1_023, MAX, 0, 1_024), 0),
+    (c(0, MAX, 0, MOST_CNT), 0),
+    (c(MAX - LAST, MAX, 0, MOST_CNT), 0),
 ];
 
 #[test]

@@ -9,7 +9,7 @@ use second::*;
 fn taking_a_frame_into_an_image() {
     let image = image_of(&[1, 9], &[c(1, 9, 8, 2)]);
     let frame = frame_of(&[c(4, 4, 4, 1), c(1, 9, 0, 5), c(4, 4, 4, 1)]);
-    let mut out = vec![0x55; 9_900];
+    let mut out = vec![0x55; IMAGE_MOST + 40];
     let length = host::take_frame(&image, &frame, &mut out);
     let expected = image_of(&[1, 4, 9], &[c(4, 4, 4, 1), c(1, 9, 8, 2), c(1, 9, 0, 5)]);
     assert_eq!(length, expected.len() as i64);
@@ -43,9 +43,9 @@ fn taking_a_frame_asks_14_1_10_to_13_6_15() {
     check(&good_image, &good_frame[..29], 0, -12);
     check(&full_image, &bad_claim, 0, -13);
     check(&full_image, &good_frame, 0, -6);
-    // "the frame host call needs 9,860"
-    check(&good_image, &good_frame, 9_859, -15);
-    check(&good_image, &good_frame, 9_860, 4 + 3 * 8 + 26);
+    // "the frame host call needs" as much as the longest image
+    check(&good_image, &good_frame, IMAGE_MOST - 1, -15);
+    check(&good_image, &good_frame, IMAGE_MOST, 4 + 3 * 8 + 26);
 }
 
 #[test]
@@ -54,17 +54,17 @@ fn in_a_frame_6_is_put_claim_by_claim() {
     let held = c(0, 2, 2, 2);
     let two_new = c(1, 3, 2, 2);
     let one_new = c(5, 5, 5, 1);
-    let mut out = vec![0x55; 9_860];
+    let mut out = vec![0x55; IMAGE_MOST];
     // The no comes at the first, second, third and fourth claim.
     for at in 0..4 {
         let mut claims = [held; 4];
         claims[at] = two_new;
-        let image = image_of_keys(&all[..1_023]);
+        let image = image_of_keys(&all[..LIMIT - 1]);
         assert_eq!(host::take_frame(&image, &frame_of(&claims), &mut out), -6);
         assert!(out.iter().all(|&byte| byte == 0x55));
     }
     // Each would fit alone: the second finds the first one's keys there.
-    let image = image_of_keys(&all[..1_022]);
+    let image = image_of_keys(&all[..LIMIT - 2]);
     let frame = frame_of(&[two_new, one_new]);
     assert_eq!(host::take_frame(&image, &frame, &mut out), -6);
     let frame = frame_of(&[one_new, two_new]);
@@ -73,39 +73,41 @@ fn in_a_frame_6_is_put_claim_by_claim() {
     // The same new keys again are missing no longer.
     let frame = frame_of(&[two_new; 4]);
     let length = host::take_frame(&image, &frame, &mut out);
-    assert_eq!(length, (4 + 8 * 1_024 + 26) as i64);
+    assert_eq!(length, (4 + 8 * LIMIT + 26) as i64);
     let read = read_image(&out[..length as usize]);
     assert_eq!(read.node.table(), [two_new]);
-    assert_eq!(read.node.store.count, 1_024);
+    assert_eq!(read.node.store.count, LIMIT);
 }
 
 #[test]
 fn beating_an_image() {
     let node = RawNode::of(full(1), &helped_in_two());
-    let mut image = vec![0; 9_860];
+    let mut image = vec![0; IMAGE_MOST];
     write_image(&node, &mut image);
-    let mut out = vec![0x55; 9_870];
-    let mut frames = vec![0x66; 3_490];
+    let mut out = vec![0x55; IMAGE_MOST + 10];
+    let mut frames = vec![0x66; host::BEAT_FRAMES + 4];
     // "129 claims' worth (3,486 bytes)": 32 frames of four and one of one.
     assert_eq!(host::BEAT_FRAMES, 32 * 108 + 30);
-    assert_eq!(host::beat(&image, &mut out, &mut frames), 3_486);
-    assert!(frames[3_486..].iter().all(|&byte| byte == 0x66));
+    let length = host::beat(&image, &mut out, &mut frames);
+    assert_eq!(length, host::BEAT_FRAMES as i64);
+    let (frames, kept) = frames.split_at(host::BEAT_FRAMES);
+    assert!(kept.iter().all(|&byte| byte == 0x66));
     let (claims, node) = beats(node);
     let mut expected = Vec::new();
     for four in claims.chunks(4) {
         expected.extend(frame_of(four));
     }
-    assert_eq!(frames[..3_486], expected);
+    assert_eq!(frames, expected);
     let length = image_length(&out).length;
-    assert_eq!(length, 4 + 8 * 1_024);
+    assert_eq!(length, 4 + 8 * LIMIT);
     assert_eq!(read_image(&out[..length]).node, node);
     assert!(out[length..].iter().all(|&byte| byte == 0x55));
 }
 
 #[test]
 fn beats_of_few_claims() {
-    let mut out = vec![0; 9_860];
-    let mut frames = vec![0x66; 3_486];
+    let mut out = vec![0; IMAGE_MOST];
+    let mut frames = vec![0x66; host::BEAT_FRAMES];
     // No claim, no frame; the image is the empty one.
     assert_eq!(host::beat(&[0, 0, 0, 0], &mut out, &mut frames), 0);
     assert_eq!(out[..4], [0, 0, 0, 0]);
@@ -140,10 +142,10 @@ fn beating_an_image_asks_14_1_15() {
     };
     check(&good[..19], 0, 0, -14);
     check(&bad, 0, 0, -1);
-    check(&good, 9_859, 3_486, -15);
-    check(&good, 9_860, 3_485, -15);
+    check(&good, IMAGE_MOST - 1, host::BEAT_FRAMES, -15);
+    check(&good, IMAGE_MOST, host::BEAT_FRAMES - 1, -15);
     check(&good, 0, 0, -15);
-    check(&good, 9_860, 3_486, 30);
+    check(&good, IMAGE_MOST, host::BEAT_FRAMES, 30);
 }
 
 #[test]
@@ -161,13 +163,13 @@ fn entering_a_key_into_an_image() {
         (9, &[1, 9]),
     ] {
         let expected = image_of(keys, &pending);
-        let mut out = vec![0x55; 9_900];
+        let mut out = vec![0x55; IMAGE_MOST + 40];
         let length = host::enter(&image, key, &mut out);
         assert_eq!(length, expected.len() as i64);
         assert_eq!(out[..expected.len()], expected);
         assert!(out[expected.len()..].iter().all(|&byte| byte == 0x55));
     }
-    let mut out = vec![0x55; 9_860];
+    let mut out = vec![0x55; IMAGE_MOST];
     assert_eq!(host::enter(&[0, 0, 0, 0], 0, &mut out), 12);
     assert_eq!(out[..12], image_of_keys(&[0]));
 }
@@ -178,7 +180,7 @@ fn entering_a_key_asks_14_1_6_15() {
     let bad = image_of_keys(&[2, 1]);
     let even = full(2).keys;
     let full = image_of_keys(&even[..]);
-    let nearly = image_of_keys(&even[..1_023]);
+    let nearly = image_of_keys(&even[..LIMIT - 1]);
     let check = |image: &[u8], key: u64, length: usize, answer: i64| {
         let mut out = vec![0x55; length];
         assert_eq!(host::enter(image, key, &mut out), answer);
@@ -192,17 +194,17 @@ fn entering_a_key_asks_14_1_6_15() {
     check(&[&good[..], &[0]].concat(), 3, 0, -14);
     check(&bad, 3, 0, -1);
     check(&full, 1, 0, -6);
-    check(&full, MAX, 9_860, -6);
+    check(&full, MAX, IMAGE_MOST, -6);
     // A key held needs no room, and one more is the last that fits.
     check(&full, 0, 0, -15);
-    check(&full, 2_046, 9_860, (4 + 8 * 1_024) as i64);
-    check(&nearly, 1, 9_859, -15);
-    check(&nearly, 1, 9_860, (4 + 8 * 1_024) as i64);
+    check(&full, even[LIMIT - 1], IMAGE_MOST, (4 + 8 * LIMIT) as i64);
+    check(&nearly, 1, IMAGE_MOST - 1, -15);
+    check(&nearly, 1, IMAGE_MOST, (4 + 8 * LIMIT) as i64);
     // As long as a frame needs it, even where nothing changes.
-    check(&good, 1, 9_859, -15);
-    check(&good, 1, 9_860, 20);
-    check(&good, 3, 9_859, -15);
-    check(&good, 3, 9_860, 28);
+    check(&good, 1, IMAGE_MOST - 1, -15);
+    check(&good, 1, IMAGE_MOST, 20);
+    check(&good, 3, IMAGE_MOST - 1, -15);
+    check(&good, 3, IMAGE_MOST, 28);
 }
 
 #[test]
@@ -216,7 +218,7 @@ fn counting_asks_14_1() {
         (&image_of(&[1, 2], &[c(1, 3, 2, 2)]), -1),
         (&[0, 0, 0, 0], 0),
         (&good, 2),
-        (&image_of_keys(&full(1).keys[..]), 1_024),
+        (&image_of_keys(&full(1).keys[..]), LIMIT as i64),
     ] {
         assert_eq!(host::count(image), answer);
         let number = questions::of_host_count(image);
@@ -226,7 +228,7 @@ fn counting_asks_14_1() {
 
 /// The image that a call leaves in a buffer, and nothing behind it.
 fn left(call: impl FnOnce(&mut [u8]) -> i64) -> (i64, Vec<u8>) {
-    let mut out = vec![0x55; 9_900];
+    let mut out = vec![0x55; IMAGE_MOST + 40];
     let answer = call(&mut out);
     let length = image_length(&out).length;
     assert!(out[length..].iter().all(|&byte| byte == 0x55));
@@ -245,7 +247,7 @@ fn a_table_that_is_left_out_makes_room() {
         (4 + 8 * 70, image_of_keys(&keys))
     );
     let whole = frame_of(&[claim_of(&keys)]);
-    let mut frames = vec![0x66; 3_486];
+    let mut frames = vec![0x66; host::BEAT_FRAMES];
     assert_eq!(
         left(|out| host::beat(&image, out, &mut frames)),
         (30, image_of_keys(&keys))
@@ -276,22 +278,25 @@ fn refused_calls_leave_what_would_be_left_out() {
     let faulty = frame_of(&[three(0, 0, 4)]);
     let missing = frame_of(&[c(1, 1, 1, 1)]);
     for (frame, lent, number) in [
-        (&other[..], 9_860, 10),
-        (cut, 9_860, 12),
-        (&faulty, 9_860, 13),
-        (&missing, 9_860, 6),
-        (&frame, 9_859, 15),
+        (&other[..], IMAGE_MOST, 10),
+        (cut, IMAGE_MOST, 12),
+        (&faulty, IMAGE_MOST, 13),
+        (&missing, IMAGE_MOST, 6),
+        (&frame, IMAGE_MOST - 1, 15),
     ] {
         let mut out = vec![0x55; lent];
         let answer = host::take_frame(&image, frame, &mut out);
         assert_eq!(untouched(answer, &out), -number);
     }
-    for (key, lent, number) in [(1, 9_860, 6), (0, 9_859, 15)] {
+    for (key, lent, number) in [(1, IMAGE_MOST, 6), (0, IMAGE_MOST - 1, 15)] {
         let mut out = vec![0x55; lent];
         let answer = host::enter(&image, key, &mut out);
         assert_eq!(untouched(answer, &out), -number);
     }
-    for (lent, lent_frames) in [(9_859, 3_486), (9_860, 3_485)] {
+    for (lent, lent_frames) in [
+        (IMAGE_MOST - 1, host::BEAT_FRAMES),
+        (IMAGE_MOST, host::BEAT_FRAMES - 1),
+    ] {
         let (mut out, mut frames) = (vec![0x55; lent], vec![0x55; lent_frames]);
         let answer = host::beat(&image, &mut out, &mut frames);
         assert_eq!(untouched(answer, &out), -15);

@@ -27,17 +27,22 @@ fn an_image_byte_by_byte() {
     assert_eq!(image_length(&out).length, 46);
 }
 
+/// "At most 9,860 bytes."
+#[test]
+fn the_length_of_the_longest_image() {
+    assert_eq!(IMAGE_MOST, 9_860);
+}
+
 #[test]
 fn the_least_and_the_longest_image() {
     assert_eq!(read_image(&[0, 0, 0, 0]).node, RawNode::empty());
     let node = RawNode::of(full(1), &helped_in_two());
-    let mut out = vec![0; 9_860];
+    let mut out = vec![0; IMAGE_MOST];
     let written = write_image(&node, &mut out);
-    assert_eq!((written.number, written.length), (0, 9_860));
-    assert_eq!(IMAGE_MOST, 9_860);
+    assert_eq!((written.number, written.length), (0, IMAGE_MOST));
     assert_eq!(read_image(&out), ImageRead { number: 0, node });
-    assert_eq!(image_length(&out).length, 9_860);
-    // 1,024 keys alone and 64 claims' bytes
+    assert_eq!(image_length(&out).length, IMAGE_MOST);
+    // A full store alone and 64 claims' bytes
     assert_eq!(out.len() - image_of_keys(&full(1).keys[..]).len(), 64 * 26);
 }
 
@@ -76,8 +81,8 @@ fn images_refused() {
         bytes[at] = count;
         refused(&bytes, 14);
     }
-    // Counts of 1,025 and 65, with the length that would be theirs.
-    let keys: Vec<u64> = (0..1_025).collect();
+    // Counts above the limit and of 65, with the length that would be theirs.
+    let keys: Vec<u64> = (0..=LIMIT as u64).collect();
     refused(&image_of_keys(&keys), 14);
     assert_eq!(image_length(&image_of_keys(&keys)).number, 14);
     let pending: Vec<Claim> = (2..67).map(|hi| c(0, hi, hi, 2)).collect();
@@ -120,7 +125,7 @@ fn reads_without(keys: &[u64], pending: &[Claim], kept: &[Claim]) {
     }
     // Its length is told by the counts as they stand.
     assert_eq!(image_length(&image).length, image.len());
-    let mut out = vec![0x55; 9_860];
+    let mut out = vec![0x55; IMAGE_MOST];
     assert_eq!(write_image(&node, &mut out).length, without.len());
     assert_eq!(out[..without.len()], without);
     assert!(out[without.len()..].iter().all(|&byte| byte == 0x55));
@@ -164,7 +169,7 @@ fn claims_of_three_that_no_store_could_make_are_left_out() {
 fn all_64_are_left_out() {
     let keys: Vec<u64> = (0..70).collect();
     reads_without(&keys, &made_by_none(), &[]);
-    let full: Vec<u64> = (0..1_024).collect();
+    let full: Vec<u64> = (0..LIMIT as u64).collect();
     reads_without(&full, &made_by_none(), &[]);
     assert_eq!(image_of(&full, &made_by_none()).len(), IMAGE_MOST);
     // All but the first and the last.

@@ -8,7 +8,7 @@ use second::*;
 fn rehearsals_refused() {
     let good = image_of_keys(&[1, 2]);
     let bad = image_of_keys(&[2, 1]);
-    let many: Vec<u64> = (0..1_025).collect();
+    let many: Vec<u64> = (0..=LIMIT as u64).collect();
     let join = |parts: &[&[u8]]| rehearse(&parts.concat());
     // No input, and input that stops anywhere in the first.
     for length in 0..good.len() {
@@ -29,12 +29,24 @@ fn rehearsals_refused() {
     let table = image_of(&[1, 2], &[c(1, 2, 0, 2)]);
     assert_eq!(join(&[&good, &table]), "refused 1\n");
     assert_eq!(join(&[&table, &good]), "refused 1\n");
-    // A union of 1,025.
-    let full = image_of_keys(&many[..1_024]);
-    assert_eq!(join(&[&full, &image_of_keys(&[1_024])]), "refused 8\n");
+    // A union of one key more than the limit.
+    let (last, full) = many.split_last().unwrap();
+    let (full, last) = (image_of_keys(full), image_of_keys(&[*last]));
+    assert_eq!(join(&[&full, &last]), "refused 8\n");
+}
+
+/// Two equal stores of as many keys as "2,048 records" are enough for.
+#[test]
+fn the_longest_rehearsal() {
+    let most = REHEARSAL_RECORDS / 2;
+    let keys: Vec<u64> = (0..most as u64).collect();
+    let Claim { lo, hi, sum, cnt } = claim_of(&keys);
+    let lines = ["L", "R"].map(|sender| format!("{sender} {lo} {hi} {sum} {cnt}\n"));
+    let counts = format!("left {most} right {most} claims 2\n");
+    let image = image_of_keys(&keys);
     assert_eq!(
-        join(&[&full, &full]),
-        "L 0 1023 0 1024\nR 0 1023 0 1024\nleft 1024 right 1024 claims 2\n"
+        rehearse(&[&image[..], &image].concat()),
+        lines.concat() + &counts
     );
 }
 

@@ -5,10 +5,12 @@ use second::*;
 
 #[test]
 fn a_full_store_is_split_in_the_middle() {
-    let replied = reply(full(1), c(0, 1_023, 1_023, 2));
-    // a = 1, b = 1,022, z = 511
-    let lower: Vec<u64> = (1..=512).collect();
-    let upper: Vec<u64> = (513..=1_022).collect();
+    let last = LIMIT as u64 - 1;
+    let replied = reply(full(1), c(0, last, last, 2));
+    // a = 1, b = last - 1
+    let z = (last - 1) / 2;
+    let lower: Vec<u64> = (1..=1 + z).collect();
+    let upper: Vec<u64> = (2 + z..=last - 1).collect();
     let (count, claims) = replied.claims();
     assert_eq!(count, 2);
     assert_eq!(claims, [claim_of(&lower), claim_of(&upper)]);
@@ -23,21 +25,21 @@ fn ends_that_do_not_fit_get_6() {
     let same_new = c(3, 3, 3, 1);
     let none_new = c(0, 4, 4, 2);
     for (keys, claim, number) in [
-        (1_022, two_new, 0),
-        (1_023, two_new, 6),
-        (1_024, two_new, 6),
-        (1_023, one_new, 0),
-        (1_024, one_new, 6),
-        (1_023, same_new, 0),
-        (1_024, same_new, 6),
-        (1_024, none_new, 0),
+        (LIMIT - 2, two_new, 0),
+        (LIMIT - 1, two_new, 6),
+        (LIMIT, two_new, 6),
+        (LIMIT - 1, one_new, 0),
+        (LIMIT, one_new, 6),
+        (LIMIT - 1, same_new, 0),
+        (LIMIT, same_new, 6),
+        (LIMIT, none_new, 0),
         // 5 and 16 before 6
-        (1_024, c(1, 3, 0, 2), 5),
-        (1_024, three(1, 1, 3), 16),
-        (1_024, three(1, 3, 3), 16),
-        (1_023, three(1, 4, 3), 16),
-        (1_024, three(0, 5, 4), 16),
-        (1_024, three(1, 2, 3), 6),
+        (LIMIT, c(1, 3, 0, 2), 5),
+        (LIMIT, three(1, 1, 3), 16),
+        (LIMIT, three(1, 3, 3), 16),
+        (LIMIT - 1, three(1, 4, 3), 16),
+        (LIMIT, three(0, 5, 4), 16),
+        (LIMIT, three(1, 2, 3), 6),
     ] {
         let replied = reply(up_to(keys), claim);
         assert_eq!(replied.number, number);

@@ -13,15 +13,15 @@ fn lent(records: usize) -> Vec<Delivery> {
 }
 
 #[test]
-fn a_union_of_1025_gets_8() {
+fn a_union_above_the_limit_gets_8() {
     let mut keys = full(2).keys.to_vec();
     *keys.last_mut().unwrap() = MAX;
     let (left, right) = (full(2), RawStore::of(&keys));
-    let mut records = lent(4_096);
+    let mut records = lent(4 * LIMIT);
     let rounded = round(left.clone(), right.clone(), &mut records);
     assert_eq!((rounded.number, rounded.deliveries), (8, 0));
     assert_eq!((rounded.left, rounded.right), (left.clone(), right));
-    assert_eq!(records, lent(4_096));
+    assert_eq!(records, lent(4 * LIMIT));
     // 8 before 9, and only the union counts.
     assert_eq!(round(left.clone(), RawStore::of(&[1]), &mut []).number, 8);
     assert_eq!(round(RawStore::of(&[1]), left.clone(), &mut []).number, 8);
@@ -30,16 +30,16 @@ fn a_union_of_1025_gets_8() {
 
 #[test]
 fn records_twice_the_union() {
-    let mut records = lent(2_047);
+    let mut records = lent(2 * LIMIT - 1);
     let rounded = round(full(1), full(1), &mut records);
     assert_eq!((rounded.number, rounded.deliveries), (9, 0));
     assert_eq!((rounded.left, rounded.right), (full(1), full(1)));
-    assert_eq!(records, lent(2_047));
+    assert_eq!(records, lent(2 * LIMIT - 1));
 
-    let mut records = lent(2_048);
+    let mut records = lent(2 * LIMIT);
     let rounded = round(full(1), full(1), &mut records);
     assert_eq!((rounded.number, rounded.deliveries), (0, 2));
-    assert_eq!(&records[2..], &lent(2_046));
+    assert_eq!(&records[2..], &lent(2 * LIMIT - 2));
 
     let (left, right) = (RawStore::of(&[1, 2]), RawStore::of(&[2, 3]));
     assert_eq!(round(left.clone(), right.clone(), &mut lent(5)).number, 9);

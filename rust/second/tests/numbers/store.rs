@@ -4,11 +4,17 @@ use super::MAX;
 use super::common::*;
 use second::*;
 
+/// "A store holds a count from 0 to 1,024 and 1,024 places."
 #[test]
-fn the_empty_store_is_1024_zeros_with_count_0() {
+fn the_limit() {
+    assert_eq!(LIMIT, 1_024);
+}
+
+/// "The empty store is" as many "zeros with count 0".
+#[test]
+fn the_empty_store_is_zeros_with_count_0() {
     let empty = RawStore::empty();
-    assert_eq!(RawStore::LIMIT, 1_024);
-    assert_eq!((empty.count, empty.keys.as_slice()), (0, &[0; 1_024][..]));
+    assert_eq!((empty.count, empty.keys.as_slice()), (0, &[0; LIMIT][..]));
     assert!(questions::q1_store_in_order(&empty));
 }
 
@@ -32,7 +38,7 @@ fn out_of_order() -> Vec<RawStore> {
         RawStore::of(&[3, 0]),
         RawStore::of(&[0, 0]),
     ];
-    for count in [1_025, 1_026, 65_536, usize::MAX] {
+    for count in [LIMIT + 1, LIMIT + 2, 65_536, usize::MAX] {
         bad.push(RawStore {
             count,
             ..full(1).clone()
@@ -48,17 +54,17 @@ fn out_of_order() -> Vec<RawStore> {
         ..good.clone()
     });
     // "every place from the count on is 0"
-    for place in [3, 500, 1_023] {
+    for place in [3, 500, LIMIT - 1] {
         let mut store = good.clone();
         store.keys[place] = 9;
         bad.push(store);
     }
     // The last two of a full one.
     let mut store = full(1);
-    store.keys[1_023] = 1_022;
+    store.keys[LIMIT - 1] = store.keys[LIMIT - 2];
     bad.push(store);
     let mut store = full(1);
-    store.count = 1_023;
+    store.count = LIMIT - 1;
     bad.push(store);
     bad
 }
@@ -93,15 +99,16 @@ fn stores_out_of_order_get_1_whatever_else_is_wrong() {
 
 #[test]
 fn entering_into_a_full_store() {
-    // A key held needs no room.
-    let entered = enter(full(2), 1_022);
+    // A key held needs no room; the one after it isn't held.
+    let held = full(2).keys[LIMIT / 2];
+    let entered = enter(full(2), held);
     assert_eq!((entered.number, entered.store), (0, full(2)));
-    for key in [1, 1_023, MAX] {
+    for key in [1, held + 1, MAX] {
         let entered = enter(full(2), key);
         assert_eq!((entered.number, entered.store), (6, full(2)));
     }
-    // The 1,024th key has room, wherever it goes.
-    for missing in [0, 1, 511, 1_023] {
+    // The last key up to the limit has room, wherever it goes.
+    for missing in [0, 1, LIMIT / 2 - 1, LIMIT - 1] {
         let mut keys = full(2).keys.to_vec();
         let key = keys.remove(missing);
         let entered = enter(RawStore::of(&keys), key);

@@ -36,7 +36,7 @@ fn frames_round_trip() {
 fn images_round_trip() {
     for_seeds(150, |rng| {
         let node = rng.node();
-        let mut out = vec![0x55; 9_860 + rng.below(5)];
+        let mut out = vec![0x55; IMAGE_MOST + rng.below(5)];
         let written = write_image(&node, &mut out);
         assert_eq!(written.number, 0);
         let image = &out[..written.length];
@@ -56,18 +56,18 @@ fn entering_and_counting_are_those_of_stores() {
         let image = image_of(node.store.held(), node.table());
         assert_eq!(host::count(&image), node.store.count as i64);
         let density = rng.density();
-        let room = *rng.pick(&[9_860, 9_860, 9_861, 9_859, 0]);
+        let room = *rng.pick(&[IMAGE_MOST, IMAGE_MOST, IMAGE_MOST + 1, IMAGE_MOST - 1, 0]);
         let mut out = vec![0x55; room];
         let key = rng.key(density);
         let answer = host::enter(&image, key, &mut out);
 
         let entered = enter(node.store.clone(), key);
         let no = match entered.number {
-            0 if room < 9_860 => 15,
+            0 if room < IMAGE_MOST => 15,
             number => number,
         };
         let gained = entered.store.count - node.store.count;
-        let full = node.store.count == RawStore::LIMIT;
+        let full = node.store.count == LIMIT;
         seen.borrow_mut().insert((no, gained, full));
         if no != 0 {
             assert_eq!(answer, -i64::from(no));
@@ -98,7 +98,14 @@ fn host_calls_are_the_calls_on_nodes() {
             .map(|_| rng.claim(&held, density))
             .filter(|claim| questions::of_claim(claim).is_ok())
             .collect();
-        let room = *rng.pick(&[9_860, 9_860, 9_860, 9_861, 9_859, 0]);
+        let room = *rng.pick(&[
+            IMAGE_MOST,
+            IMAGE_MOST,
+            IMAGE_MOST,
+            IMAGE_MOST + 1,
+            IMAGE_MOST - 1,
+            0,
+        ]);
         let mut out = vec![0x55; room];
         let answer = host::take_frame(&image, &frame_of(&claims), &mut out);
 
@@ -111,7 +118,7 @@ fn host_calls_are_the_calls_on_nodes() {
                 break;
             }
         }
-        if refused == 0 && room < 9_860 {
+        if refused == 0 && room < IMAGE_MOST {
             refused = 15;
         }
         if refused != 0 {
@@ -125,10 +132,10 @@ fn host_calls_are_the_calls_on_nodes() {
         assert!(out[expected.len()..].iter().all(|&byte| byte == 0x55));
 
         // And a beat of what came of it.
-        let mut new = vec![0x44; 9_860 + rng.below(3)];
-        let mut frames = vec![0x66; 3_486 + rng.below(3)];
+        let mut new = vec![0x44; IMAGE_MOST + rng.below(3)];
+        let mut frames = vec![0x66; host::BEAT_FRAMES + rng.below(3)];
         let length = host::beat(&expected, &mut new, &mut frames);
-        let mut run = vec![0; 516];
+        let mut run = vec![0; BEAT_WORDS];
         let beaten = beat(node, &mut run);
         let claims: Vec<Claim> = run[..4 * beaten.written]
             .chunks(4)

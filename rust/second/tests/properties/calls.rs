@@ -12,12 +12,12 @@ use second::*;
 fn entering_is_that_of_sets() {
     for_seeds(300, |rng| {
         let density = rng.density();
-        let mut model = set(&rng.keys(1_024, density));
+        let mut model = set(&rng.keys(LIMIT, density));
         let mut store = store_of(&model);
         for _ in 0..40 {
             let key = rng.key(density);
             let entered = enter(store.clone(), key);
-            if model.len() == 1_024 && !model.contains(&key) {
+            if model.len() == LIMIT && !model.contains(&key) {
                 assert_eq!((entered.number, &entered.store), (6, &store));
             } else {
                 model.insert(key);
@@ -33,10 +33,10 @@ fn entering_is_that_of_sets() {
 fn claims_made_pass_2_to_5_and_16_and_match_at_home() {
     for_seeds(300, |rng| {
         let density = rng.density();
-        let keys = rng.keys(1_024, density);
+        let keys = rng.keys(LIMIT, density);
         let store = RawStore::of(&keys);
         for _ in 0..10 {
-            let (first, last) = (rng.below(1_030), rng.below(1_030));
+            let (first, last) = (rng.below(LIMIT + 6), rng.below(LIMIT + 6));
             let made = make(&store, first, last);
             if first > last || last >= keys.len() {
                 assert_eq!((made.number, made.claim), (7, Claim::ZERO));
@@ -59,7 +59,7 @@ fn replies_are_those_of_sets() {
     let middle_keys = Cell::new(0);
     for_seeds(600, |rng| {
         let density = rng.density();
-        let keys = rng.keys(1_024, density);
+        let keys = rng.keys(LIMIT, density);
         let store = RawStore::of(&keys);
         for _ in 0..20 {
             let claim = rng.claim(&keys, density);
@@ -101,13 +101,13 @@ fn taking_and_beating_are_those_of_sets() {
     let middle_keys = Cell::new(0);
     for_seeds(150, |rng| {
         let density = rng.density();
-        let mut keys = set(&rng.keys(1_024, density));
+        let mut keys = set(&rng.keys(LIMIT, density));
         let mut table = BTreeSet::new();
         let mut node = RawNode::of(store_of(&keys), &[]);
         for _ in 0..120 {
             let held: Vec<u64> = keys.iter().copied().collect();
             if rng.one_in(60) {
-                let mut run = vec![7; 516 + rng.below(9)];
+                let mut run = vec![7; BEAT_WORDS + rng.below(9)];
                 let beaten = beat(node, &mut run);
                 let mut expected = Vec::new();
                 if !held.is_empty() {

@@ -75,7 +75,7 @@ fn host_call_answers(call: &'static str, answer: i64, no: u8, out: &[u8], seen: 
 }
 
 fn host_calls_answer(rng: &mut Rng, image: &[u8], frame: &[u8], seen: &mut Seen) {
-    let room = *rng.pick(&[9_860, 9_860, 9_859]);
+    let room = *rng.pick(&[IMAGE_MOST, IMAGE_MOST, IMAGE_MOST - 1]);
     let mut out = vec![0x55; room];
     let answer = host::take_frame(image, frame, &mut out);
     let no = number(questions::of_host_take_frame(image, frame, room));
@@ -85,7 +85,7 @@ fn host_calls_answer(rng: &mut Rng, image: &[u8], frame: &[u8], seen: &mut Seen)
     }
 
     let mut out = vec![0x55; room];
-    let frames_room = *rng.pick(&[3_486, 3_486, 3_485]);
+    let frames_room = *rng.pick(&[host::BEAT_FRAMES, host::BEAT_FRAMES, host::BEAT_FRAMES - 1]);
     let mut frames = vec![0x66; frames_room];
     let answer = host::beat(image, &mut out, &mut frames);
     let no = number(questions::of_host_beat(image, room, frames_room));
@@ -162,8 +162,8 @@ fn any_bytes_are_answered() {
             }
         }
         let good = image_of_keys(&[1, 2]);
-        let mut out = vec![0; 9_860];
-        let mut frames = vec![0; 3_486];
+        let mut out = vec![0; IMAGE_MOST];
+        let mut frames = vec![0; host::BEAT_FRAMES];
         read_frame(&bytes);
         read_image(&bytes);
         image_length(&bytes);
@@ -184,9 +184,9 @@ fn stores_and_nodes_of_any_content_are_answered() {
         let mut node = rng.node();
         for _ in 0..rng.below(3) {
             match rng.below(6) {
-                0 => node.store.count = rng.below(1_030),
+                0 => node.store.count = rng.below(LIMIT + 6),
                 1 => node.store.count = rng.next() as usize,
-                2 => node.store.keys[rng.below(1_024)] = rng.key(density),
+                2 => node.store.keys[rng.below(LIMIT)] = rng.key(density),
                 3 => node.pending_count = rng.below(70),
                 4 => node.pending_count = rng.next() as usize,
                 _ => node.pending[rng.below(64)] = rng.claim(&[], density),
@@ -209,24 +209,24 @@ fn stores_and_nodes_of_any_content_are_answered() {
         assert_eq!(taken.number, number(questions::of_take(&node, &claim)));
         assert!(taken.number == 0 || taken.node == node);
         assert!(taken.number != 0 || questions::q1_node_in_order(&taken.node));
-        let words = *rng.pick(&[515, 516]);
+        let words = *rng.pick(&[BEAT_WORDS - 1, BEAT_WORDS]);
         let mut run = vec![7; words];
         let beaten = beat(node.clone(), &mut run);
         assert_eq!(beaten.number, number(questions::of_beat(&node, words / 4)));
         assert!(beaten.number == 0 || (beaten.node == node && run == vec![7; words]));
         assert!(beaten.number != 0 || questions::q1_node_in_order(&beaten.node));
-        let mut out = vec![0x55; rng.below(9_861)];
+        let mut out = vec![0x55; rng.below(IMAGE_MOST + 1)];
         let written = write_image(&node, &mut out);
         assert_eq!(
             written.number,
             number(questions::of_write_image(&node, out.len()))
         );
         let other = RawStore::of(&rng.keys(100, density));
-        let mut records = vec![Delivery::default(); 2_048];
+        let mut records = vec![Delivery::default(); 2 * LIMIT];
         let rounded = round(store.clone(), other.clone(), &mut records);
         assert_eq!(
             rounded.number,
-            number(questions::of_round(&store, &other, 2_048))
+            number(questions::of_round(&store, &other, records.len()))
         );
         assert!(rounded.number == 0 || (rounded.left == store && rounded.right == other));
     });

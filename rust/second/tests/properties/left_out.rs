@@ -22,7 +22,7 @@ struct Saved {
 impl Saved {
     fn draw(rng: &mut Rng) -> Saved {
         let density = rng.density();
-        let keys = rng.keys(1_024, density);
+        let keys = rng.keys(LIMIT, density);
         let pending = rng.saved_table(&keys);
         let image = image_of(&keys, &pending);
         let without = without_left_out(&image);
@@ -69,7 +69,7 @@ fn saved_images_are_read_as_those_without() {
         assert_eq!(host::count(&saved.image), saved.keys.len() as i64);
         let told = image_length(&saved.image);
         assert_eq!((told.number, told.length), (0, saved.image.len()));
-        let mut out = vec![0x55; 9_860];
+        let mut out = vec![0x55; IMAGE_MOST];
         let length = write_image(&read.node, &mut out).length;
         assert_eq!(out[..length], saved.without);
         // The node as it stands in the bytes is one in order only where it is
@@ -97,7 +97,7 @@ fn entered(image: &[u8], key: u64, lent: usize) -> Left {
 }
 
 fn beaten(image: &[u8], lent: usize) -> Left {
-    let (mut out, mut frames) = (vec![0x55; lent], vec![0x66; 3_486]);
+    let (mut out, mut frames) = (vec![0x55; lent], vec![0x66; host::BEAT_FRAMES]);
     let answer = host::beat(image, &mut out, &mut frames);
     (answer, out, frames)
 }
@@ -112,7 +112,7 @@ fn host_calls_on_saved_images_are_those_on_images_without() {
             .collect();
         let frame = frame_of(&claims);
         let key = rng.key(density);
-        let lent = *rng.pick(&[9_860, 9_860, 9_859]);
+        let lent = *rng.pick(&[IMAGE_MOST, IMAGE_MOST, IMAGE_MOST - 1]);
         for (left, expected, asked) in [
             (
                 taken(image, &frame, lent),
@@ -127,7 +127,7 @@ fn host_calls_on_saved_images_are_those_on_images_without() {
             (
                 beaten(image, lent),
                 beaten(without, lent),
-                questions::of_host_beat(image, lent, 3_486),
+                questions::of_host_beat(image, lent, host::BEAT_FRAMES),
             ),
         ] {
             assert_eq!(left, expected);
@@ -146,7 +146,7 @@ fn what_is_written_back_is_written_again_as_the_same_bytes() {
         }
         let key = *rng.pick(&saved.keys);
         let again = |image: &[u8]| {
-            let (length, mut out, _) = entered(image, key, 9_860);
+            let (length, mut out, _) = entered(image, key, IMAGE_MOST);
             out.truncate(length as usize);
             out
         };
@@ -159,7 +159,7 @@ fn what_is_written_back_is_written_again_as_the_same_bytes() {
 
 #[test]
 fn rehearsals_of_saved_images_are_those_of_images_without() {
-    for_saved(450, |rng, saved| {
+    for_saved(600, |rng, saved| {
         let density = rng.density();
         let other = image_of_keys(&rng.keys(40, density));
         let joined = |one: &[u8], other: &[u8]| rehearse(&[one, other].concat());
@@ -191,9 +191,9 @@ fn saved_images_out_of_order_are_refused() {
         let read = read_image(&image);
         assert_eq!((read.number, read.node), (no, RawNode::empty()));
         assert_eq!(host::count(&image), -i64::from(no));
-        assert_eq!(beaten(&image, 9_860).0, -i64::from(no));
-        assert_eq!(entered(&image, 0, 9_860).0, -i64::from(no));
-        assert_eq!(taken(&image, &[], 9_860).0, -i64::from(no));
+        assert_eq!(beaten(&image, IMAGE_MOST).0, -i64::from(no));
+        assert_eq!(entered(&image, 0, IMAGE_MOST).0, -i64::from(no));
+        assert_eq!(taken(&image, &[], IMAGE_MOST).0, -i64::from(no));
         let other: &[u8] = &[0; 4];
         let refused = format!("refused {no}\n");
         assert_eq!(rehearse(&[&image, other].concat()), refused);

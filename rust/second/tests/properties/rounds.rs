@@ -95,15 +95,15 @@ fn rounds_rise_within_the_union_and_meet() {
 fn rounds_too_large_or_short_of_records() {
     for_seeds(200, |rng| {
         let density = rng.density();
-        let (left, right) = (rng.keys(1_024, density), rng.keys(1_024, density));
+        let (left, right) = (rng.keys(LIMIT, density), rng.keys(LIMIT, density));
         let union = set(&left).union(&set(&right)).count();
         let records = match rng.below(3) {
             0 => (2 * union).saturating_sub(1),
-            1 => rng.below(2_049),
+            1 => rng.below(2 * LIMIT + 1),
             _ => 2 * union,
         };
         let expected = match () {
-            () if union > 1_024 => 8,
+            () if union > LIMIT => 8,
             () if records < 2 * union => 9,
             () => 0,
         };
@@ -122,8 +122,12 @@ fn rounds_too_large_or_short_of_records() {
 /// The rehearsal told by sets, of two images that are in order.
 fn rehearsal_of_sets(left: &[u64], right: &[u64]) -> String {
     let mut stores = [set(left), set(right)];
-    if stores[0].union(&stores[1]).count() > 1_024 {
+    let union = stores[0].union(&stores[1]).count();
+    if union > LIMIT {
         return "refused 8\n".into();
+    }
+    if REHEARSAL_RECORDS < 2 * union {
+        return "refused 9\n".into();
     }
     let (told, _) = round_of_sets(&mut stores);
     let mut lines: Vec<String> = Vec::new();
@@ -142,7 +146,7 @@ fn rehearsals_are_rounds() {
     for_seeds(60, |rng| {
         let (left, right) = if rng.one_in(4) {
             let density = rng.density();
-            (rng.keys(1_024, density), rng.keys(1_024, density))
+            (rng.keys(LIMIT, density), rng.keys(LIMIT, density))
         } else {
             rng.pair()
         };

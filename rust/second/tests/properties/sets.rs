@@ -23,7 +23,7 @@ pub fn learn_of_set(keys: &mut BTreeSet<u64>, claim: Claim) -> bool {
         && own == [claim.lo, claim.hi]
         && claim.lo < middle
         && middle < claim.hi
-        && keys.len() < 1_024
+        && keys.len() < LIMIT
         && keys.insert(middle)
 }
 
