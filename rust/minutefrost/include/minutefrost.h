@@ -28,15 +28,15 @@
  *
  *    1  a store, a node or an image's contents are out of order
  *    2  a claim's lo is greater than its hi
- *    3  a claim's cnt is not from 1 to 1,024
+ *    3  a claim's cnt is not from 1 to MINUTEFROST_KEYS_MOST
  *    4  a claim's cnt is not 1 though lo = hi, or else not from 2 to hi − lo + 1
  *    5  a claim's sum is not lo though cnt is 1, or not lo XOR hi though cnt is 2
- *    6  the keys to add don't fit: the store would have more than 1,024
+ *    6  the keys to add don't fit: the store would have more than MINUTEFROST_KEYS_MOST
  *   10  the frame has fewer than 4 bytes or doesn't begin with hex 4C 43
  *   11  the frame's version is not 1
  *   12  the frame's n is not from 1 to 4, or its length is not 4 + 26n
  *   13  a claim in the frame doesn't pass questions 2 to 5 and 16
- *   14  the image's counts exceed 1,024 or 64, or its length is not theirs
+ *   14  the image's counts exceed MINUTEFROST_KEYS_MOST or 64, or its length is not theirs
  *   15  a lent output is too short
  *   16  a claim's cnt is 3 though sum XOR lo XOR hi is not strictly between lo and hi
  *   17  the number of keys is more than a store can hold
@@ -49,8 +49,11 @@
 #include <stddef.h>
 #include <stdint.h>
 
+/* The most keys that an image can hold. */
+#define MINUTEFROST_KEYS_MOST 1024
+
 /* The bytes of the longest image: what `out` needs, but for a sheet. */
-#define MINUTEFROST_IMAGE_MOST 9860
+#define MINUTEFROST_IMAGE_MOST (2 + 8 * MINUTEFROST_KEYS_MOST + 2 + 26 * 64)
 
 /* The bytes of the most that a beat sends: what `frames` needs. */
 #define MINUTEFROST_BEAT_FRAMES 3486
@@ -58,8 +61,9 @@
 /* The bytes of the longest frame. */
 #define MINUTEFROST_FRAME_MOST 108
 
-/* The bytes of the longest sheet. */
-#define MINUTEFROST_SHEET_MOST 22113
+/* The bytes of the longest sheet: lines of three keys, and pages of 40 such lines. */
+#define MINUTEFROST_SHEET_MOST \
+    (63 * ((MINUTEFROST_KEYS_MOST + 2) / 3 + (MINUTEFROST_KEYS_MOST + 119) / 120))
 
 #ifdef __cplusplus
 extern "C" {

@@ -70,6 +70,14 @@
 #![deny(unsafe_code)]
 #![warn(missing_docs)]
 
+/// The one place of the number that [`KEYS_MOST`] is. A literal, so that the
+/// words of refusals can have it too: `concat!` takes no constant.
+macro_rules! limit {
+    () => {
+        1_024
+    };
+}
+
 #[allow(unsafe_code)]
 mod archive;
 mod frames;
@@ -80,9 +88,15 @@ pub use frames::{Frames, frames};
 pub use keys::{Keys, keys};
 pub use refusal::Refusal;
 
-/// The bytes of the longest image, of 1,024 keys and 64 pending claims: what
-/// the buffer for an image needs, however short that image will be.
-pub const IMAGE_MOST: usize = 9_860;
+/// The most keys that an image can hold.
+pub const KEYS_MOST: usize = limit!();
+
+/// The most claims that can be pending in an image.
+const PENDING_MOST: usize = 64;
+
+/// The bytes of the longest image, of [`KEYS_MOST`] keys and 64 pending claims:
+/// what the buffer for an image needs, however short that image will be.
+pub const IMAGE_MOST: usize = image_length(KEYS_MOST, PENDING_MOST);
 
 /// The bytes of the most that a beat sends, 129 claims in 33 frames: what the
 /// buffer for its frames needs, whatever is pending.
@@ -91,9 +105,9 @@ pub const BEAT_FRAMES: usize = 3_486;
 /// The bytes of the longest frame, of four claims.
 pub const FRAME_MOST: usize = 108;
 
-/// The bytes of the longest sheet, of 1,024 keys; [`sheet`] itself asks only
-/// for the length of the sheet that it writes.
-pub const SHEET_MOST: usize = 22_113;
+/// The bytes of the longest sheet, of [`KEYS_MOST`] keys; [`sheet`] itself asks
+/// only for the length of the sheet that it writes.
+pub const SHEET_MOST: usize = sheet_length(KEYS_MOST);
 
 /// The image of a kiosk that holds no key, with nothing pending.
 ///
@@ -283,19 +297,36 @@ pub fn opening_cost(keys: usize) -> Result<usize, Refusal> {
 /// The length or count that a call's answer is, or its refusal.
 fn accepted(answer: i64) -> Result<usize, Refusal> {
     // Below 0 is a refusal; a length is at most that of the longest sheet, and
-    // a count, of keys or of deliveries, 1,024.
+    // a count, of keys or of deliveries, is at most KEYS_MOST.
     usize::try_from(answer).map_err(|_| Refusal::of_answer(answer))
 }
 
 /// "The image's length follows from its counts": two bytes and 8 a key, two
-/// bytes and 26 a pending claim. A count that isn't there counts as 0.
+/// bytes and 26 a pending claim.
+const fn image_length(keys: usize, pending: usize) -> usize {
+    2 + 8 * keys + 2 + 26 * pending
+}
+
+/// The length of the image at the front of some bytes. A count that isn't there
+/// counts as 0.
 fn length_by_counts(image: &[u8]) -> usize {
     let count_at = |at| {
         let bytes = image.get(at..).and_then(<[u8]>::first_chunk);
         bytes.map_or(0, |&count| usize::from(u16::from_be_bytes(count)))
     };
-    let pending_at = 2 + 8 * count_at(0);
-    pending_at + 2 + 26 * count_at(pending_at)
+    let keys = count_at(0);
+    // With nothing pending, the count of claims is an image's last two bytes.
+    let pending_at = image_length(keys, 0) - 2;
+    image_length(keys, count_at(pending_at))
+}
+
+/// The length of the sheet of so many keys: lines of 63 bytes, three keys a
+/// line, 40 lines a page, and above each page a head line; there is one page at
+/// least.
+const fn sheet_length(keys: usize) -> usize {
+    let lines = keys.div_ceil(3);
+    let pages = if keys == 0 { 1 } else { lines.div_ceil(40) };
+    63 * (lines + pages)
 }
 
 #[cfg(test)]
@@ -306,8 +337,8 @@ mod tests {
     fn lengths_follow_from_counts() {
         assert_eq!(length_by_counts(&EMPTY_IMAGE), EMPTY_IMAGE.len());
         let mut full = [0; IMAGE_MOST];
-        full[..2].copy_from_slice(&1_024_u16.to_be_bytes());
-        full[2 + 8 * 1_024 + 1] = 64;
+        full[..2].copy_from_slice(&(KEYS_MOST as u16).to_be_bytes());
+        full[2 + 8 * KEYS_MOST + 1] = 64;
         assert_eq!(length_by_counts(&full), IMAGE_MOST);
         // Bytes that no call leaves behind are counted without a panic.
         assert_eq!(length_by_counts(&[]), 4);
@@ -317,8 +348,19 @@ mod tests {
     #[test]
     fn answers_below_0_are_refusals() {
         assert_eq!(accepted(0), Ok(0));
-        assert_eq!(accepted(9_860), Ok(IMAGE_MOST));
-        assert_eq!(accepted(22_113), Ok(SHEET_MOST));
+        assert_eq!(accepted(IMAGE_MOST as i64), Ok(IMAGE_MOST));
+        assert_eq!(accepted(SHEET_MOST as i64), Ok(SHEET_MOST));
         assert_eq!(accepted(-14).unwrap_err().number(), 14);
+    }
+
+    /// Sizes follow from the limit by formulas, and would follow a mistake in them
+    /// too. So the two that daemons reserve stand here as digits: the one that
+    /// the customer's documents tell, and the one counted from their layout.
+    #[test]
+    fn sizes_are_those_of_the_documents() {
+        assert_eq!(IMAGE_MOST, 9_860);
+        assert_eq!(SHEET_MOST, 22_113);
+        // "An empty store is one page with its head line only."
+        assert_eq!(sheet_length(0), 63);
     }
 }

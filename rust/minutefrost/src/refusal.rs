@@ -48,18 +48,25 @@ impl Refusal {
         match self.number {
             1 => "a store, a node or an image's contents are out of order",
             2 => "a claim's lo is greater than its hi",
-            3 => "a claim's cnt is not from 1 to 1,024",
+            3 => concat!("a claim's cnt is not from 1 to ", limit!()),
             4 => "a claim's cnt is not 1 though lo = hi, or else not from 2 to hi − lo + 1",
             5 => "a claim's sum is not lo though cnt is 1, or not lo XOR hi though cnt is 2",
-            6 => "the keys to add don't fit: the store would have more than 1,024",
+            6 => concat!(
+                "the keys to add don't fit: the store would have more than ",
+                limit!()
+            ),
             7 => "the first position is after the last, or the last is not below the count",
-            8 => "the union of both stores has more than 1,024 keys",
+            8 => concat!("the union of both stores has more than ", limit!(), " keys"),
             9 => "the transcript has fewer than two records for each key of the union",
             10 => "the frame has fewer than 4 bytes or doesn't begin with hex 4C 43",
             11 => "the frame's version is not 1",
             12 => "the frame's n is not from 1 to 4, or its length is not 4 + 26n",
             13 => "a claim in the frame doesn't pass questions 2 to 5 and 16",
-            14 => "the image's counts exceed 1,024 or 64, or its length is not theirs",
+            14 => concat!(
+                "the image's counts exceed ",
+                limit!(),
+                " or 64, or its length is not theirs"
+            ),
             15 => "a lent output is too short",
             16 => "a claim's cnt is 3 though sum XOR lo XOR hi is not strictly between lo and hi",
             17 => "the number of keys is more than a store can hold",
@@ -110,7 +117,8 @@ mod tests {
         }
     }
 
-    /// The header has those numbers that the archive's calls ask about.
+    /// The header has those numbers that the archive's calls ask about, and the
+    /// name of the limit in its place.
     #[test]
     fn the_header_has_these_words() {
         let asked: Vec<u8> = rows(include_str!("../README.md"))
@@ -118,14 +126,15 @@ mod tests {
             .map(|(number, _)| number)
             .collect();
         let header = include_str!("../include/minutefrost.h").lines();
-        let told: Vec<(u8, &str)> = header
+        let told: Vec<(u8, String)> = header
             .filter_map(|line| {
                 let (number, words) = line.strip_prefix(" * ")?.trim_start().split_once("  ")?;
+                let words = words.replace("MINUTEFROST_KEYS_MOST", concat!(limit!()));
                 Some((number.parse().ok()?, words))
             })
             .collect();
-        let mut expected = all();
-        expected.retain(|(number, _)| asked.contains(number));
+        let expected = all().into_iter().map(|(no, words)| (no, words.to_owned()));
+        let expected: Vec<_> = expected.filter(|(no, _)| asked.contains(no)).collect();
         assert_eq!(told, expected);
     }
 

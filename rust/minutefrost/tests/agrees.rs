@@ -8,9 +8,11 @@ use std::cell::RefCell;
 use std::collections::{BTreeMap, BTreeSet};
 use std::fmt::Debug;
 
-use common::{Rng, for_seeds, frame_of, image_of, without_left_out};
+use common::{Rng, c, for_seeds, frame_of, image_of, without_left_out};
 use minutefrost::*;
-use second::{Claim, RawNode};
+use second::{BEAT_PLACES, Claim, RawNode, RawStore};
+
+const LIMIT: usize = RawStore::LIMIT;
 
 /// How often each number was seen, 0 being success, or each of other things.
 #[derive(Default)]
@@ -170,11 +172,11 @@ fn draw_image(rng: &mut Rng) -> (Vec<u64>, Vec<u8>) {
     if rng.one_in(3) {
         // Nearly or quite full, so that 6 is asked in earnest.
         let room = rng.below(4);
-        let mut keys: Vec<u64> = (0..1_024).map(|_| rng.next()).collect();
+        let mut keys: Vec<u64> = (0..LIMIT).map(|_| rng.next()).collect();
         keys.sort();
         keys.dedup();
-        keys.truncate(1_024 - room);
-        node = RawNode::of(second::RawStore::of(&keys), &[]);
+        keys.truncate(LIMIT - room);
+        node = RawNode::of(RawStore::of(&keys), &[]);
         for _ in 0..rng.below(6) {
             let claim = rng.claim(&keys, 0);
             if keys.binary_search(&claim.lo).is_ok() && keys.binary_search(&claim.hi).is_ok() {
@@ -288,13 +290,13 @@ fn draw_key(rng: &mut Rng, keys: &[u64]) -> u64 {
 
 /// Where a key goes among these.
 fn place_of(keys: &[u64], key: u64) -> &'static str {
-    let full = keys.len() == 1_024;
+    let full = keys.len() == LIMIT;
     match keys.binary_search(&key) {
         Ok(_) if full => "held by a full store",
         Ok(_) => "held",
         Err(_) if full => "nowhere",
         Err(0) if keys.is_empty() => "first of all",
-        Err(_) if keys.len() == 1_023 => "the last that fits",
+        Err(_) if keys.len() == LIMIT - 1 => "the last that fits",
         Err(0) => "lowest",
         Err(at) if at == keys.len() => "highest",
         Err(_) => "between",
@@ -352,7 +354,7 @@ fn keys_agree() {
             left_out.note(is_left_out(&image));
             counts.note(match count {
                 0 => "none",
-                1..1_024 => "some",
+                1..LIMIT => "some",
                 _ => "all that fit",
             });
         }
@@ -363,7 +365,7 @@ fn keys_agree() {
 }
 
 /// Counts of keys at the edges of a line, of a page and of a store.
-const EDGES: [usize; 12] = [0, 1, 2, 3, 4, 119, 120, 121, 240, 241, 1_023, 1_024];
+const EDGES: [usize; 12] = [0, 1, 2, 3, 4, 119, 120, 121, 240, 241, LIMIT - 1, LIMIT];
 
 /// An image with so many keys as one of the edges, of any number of digits,
 /// and with nothing pending, claims, or claims of which some are left out.
@@ -449,6 +451,18 @@ fn sheet_agrees() {
     pending.check(&written_and_refused(&tables), 50);
     let held = [[false, false], [false, true], [true, false], [true, true]];
     ends.check(&written_and_refused(&held), 50);
+}
+
+/// The claims of a beat go four to a frame, and the rest in a last one.
+#[test]
+fn sizes_agree() {
+    assert_eq!(KEYS_MOST, LIMIT);
+    assert_eq!(IMAGE_MOST, second::IMAGE_MOST);
+    assert_eq!(SHEET_MOST, second::SHEET_MOST);
+    assert_eq!(FRAME_MOST, second::FRAME_MOST);
+    let frames = [c(7, 7, 7, 1); BEAT_PLACES];
+    let frames = frames.chunks(4).map(|claims| frame_of(claims).len());
+    assert_eq!(BEAT_FRAMES, frames.sum());
 }
 
 /// Bytes of no sense at all, of any length.

@@ -7,7 +7,15 @@ mod common;
 
 use common::{c, claim_of, even, frame_of, full_image, image_of, image_of_keys, three};
 use minutefrost::*;
-use second::{Claim, RawStore};
+use second::Claim;
+
+const LIMIT: u64 = KEYS_MOST as u64;
+
+/// The last key of a full store of even ones.
+const LAST: u64 = 2 * (LIMIT - 1);
+
+/// A cnt that a full store's own claims have at most.
+const MOST_CNT: u16 = KEYS_MOST as u16;
 
 /// Both buffers, full of a byte that tells whether they were written to.
 fn buffers() -> (Vec<u8>, Vec<u8>) {
@@ -55,11 +63,11 @@ fn no_images() -> Vec<(Vec<u8>, u8)> {
         .map(|cut| (image[..cut].to_vec(), 14))
         .collect();
     all.push(([&image[..], &[0]].concat(), 14));
-    all.push((image_of_keys(&even(1_025)), 14));
-    let claims: Vec<Claim> = (2..67).map(|cnt| c(0, 2_046, 0, cnt)).collect();
-    all.push((image_of(&even(1_024), &claims), 14));
+    all.push((image_of_keys(&even(LIMIT + 1)), 14));
+    let claims: Vec<Claim> = (2..67).map(|cnt| c(0, LAST, 0, cnt)).collect();
+    all.push((image_of(&even(LIMIT), &claims), 14));
     let faulty: Vec<Claim> = (1..66).map(|at| three(0, 0, 2 * at)).collect();
-    all.push((image_of(&even(1_024), &faulty), 14));
+    all.push((image_of(&even(LIMIT), &faulty), 14));
     for keys in [[1, 1], [2, 1]] {
         all.push((image_of_keys(&keys), 1));
     }
@@ -136,7 +144,7 @@ fn a_frame_is_refused_by_each_question_that_concerns_it() {
 #[test]
 fn six_is_asked_claim_by_claim_and_before_fifteen() {
     // Room for three keys, and the no comes at each of the four claims.
-    let image = image_of_keys(&even(1_021));
+    let image = image_of_keys(&even(LIMIT - 3));
     let new = |at: u64| c(2 * at + 1, 2 * at + 1, 2 * at + 1, 1);
     let held = c(0, 2, 2, 2);
     for (claims, number) in [
@@ -149,7 +157,7 @@ fn six_is_asked_claim_by_claim_and_before_fifteen() {
         let short = vec![0xA5; IMAGE_MOST - 1];
         assert_eq!(frame_refused(&image, &frame_of(&claims), short), number);
     }
-    let full = image_of_keys(&even(1_024));
+    let full = image_of_keys(&even(LIMIT));
     assert_eq!(frame_refused(&full, &frame_of(&[new(0)]), buffers().0), 6);
     assert_eq!(
         frame_refused(&full, &frame_of(&[c(0, 1, 1, 2)]), buffers().0),
@@ -172,8 +180,8 @@ fn a_beat_is_refused_by_each_question_that_concerns_it() {
 
 #[test]
 fn a_key_is_refused_by_each_question_that_concerns_it() {
-    let full = image_of_keys(&even(1_024));
-    for key in [1, 2_047, u64::MAX] {
+    let full = image_of_keys(&even(LIMIT));
+    for key in [1, LAST + 1, u64::MAX] {
         assert_eq!(key_refused(&full, key, buffers().0), 6);
         assert_eq!(key_refused(&full, key, Vec::new()), 6);
     }
@@ -183,8 +191,8 @@ fn a_key_is_refused_by_each_question_that_concerns_it() {
     for (image, key) in [
         (&EMPTY_IMAGE[..], 0),
         (&image_of_keys(&[1, 16]), 16),
-        (&image_of_keys(&even(1_023)), 1),
-        (&full, 2_046),
+        (&image_of_keys(&even(LIMIT - 1)), 1),
+        (&full, LAST),
     ] {
         assert_eq!(key_refused(image, key, short.clone()), 15);
         assert_eq!(key_refused(image, key, Vec::new()), 15);
@@ -243,15 +251,16 @@ fn a_key_goes_to_its_place_and_pending_claims_stay() {
 
 #[test]
 fn the_last_key_that_fits_is_taken() {
-    let image = image_of_keys(&even(1_023));
-    for (key, at) in [(1, 1), (1_023, 512), (2_046, 1_023), (u64::MAX, 1_023)] {
-        let mut keys = even(1_023);
+    let image = image_of_keys(&even(LIMIT - 1));
+    let (middle, last) = (KEYS_MOST / 2, KEYS_MOST - 1);
+    for (key, at) in [(1, 1), (LIMIT - 1, middle), (LAST, last), (u64::MAX, last)] {
+        let mut keys = even(LIMIT - 1);
         keys.insert(at, key);
         assert_eq!(entered(&image, key), image_of_keys(&keys));
     }
     // Full, and with a full table: what is held already still is.
-    let image = full_image(1_000);
-    for key in even(1_024) {
+    let image = full_image(MOST_CNT);
+    for key in even(LIMIT) {
         assert_eq!(entered(&image, key), image);
     }
 }
@@ -268,7 +277,7 @@ fn keys_come_in_order_from_both_ends() {
     assert_eq!(walk.size_hint(), (2, Some(2)));
     assert_eq!((walk.by_ref().count(), walk.next()), (2, None));
     assert_eq!(keys(&EMPTY_IMAGE).unwrap().next(), None);
-    assert!(keys(&full_image(2)).unwrap().eq(even(1_024)));
+    assert!(keys(&full_image(2)).unwrap().eq(even(LIMIT)));
 }
 
 /// Why nobody may count on beats alone: both kiosks say the same of different
@@ -321,15 +330,17 @@ fn a_frame_adds_its_keys_and_is_kept() {
 /// for it, and leaves none for the next claim then.
 #[test]
 fn a_middle_key_comes_where_there_is_space() {
-    let three = c(5_001, 5_016, 5_001 ^ 5_002 ^ 5_016, 3);
+    // Above the keys of any store here.
+    let [lo, middle, hi] = [1, 2, 16].map(|key| 2 * LIMIT + key);
+    let three = three(lo, middle, hi);
     let (next, short) = (c(7, 7, 7, 1), vec![0xA5; IMAGE_MOST - 1]);
     for (count, claims, number) in [
-        (1_023, vec![three], 6),
-        (1_022, vec![three], 15),
-        (1_021, vec![three], 15),
-        (1_021, vec![three, next], 6),
-        (1_021, vec![next, three], 15),
-        (1_020, vec![three, next], 15),
+        (LIMIT - 1, vec![three], 6),
+        (LIMIT - 2, vec![three], 15),
+        (LIMIT - 3, vec![three], 15),
+        (LIMIT - 3, vec![three, next], 6),
+        (LIMIT - 3, vec![next, three], 15),
+        (LIMIT - 4, vec![three, next], 15),
     ] {
         let image = image_of_keys(&even(count));
         assert_eq!(
@@ -337,14 +348,12 @@ fn a_middle_key_comes_where_there_is_space() {
             number
         );
     }
-    for (count, middle) in [(1_022, &[][..]), (1_021, &[5_002])] {
+    for (count, added) in [(LIMIT - 2, &[lo, hi][..]), (LIMIT - 3, &[lo, middle, hi])] {
         let (mut out, _) = buffers();
         let image = image_of_keys(&even(count));
         let length = take_frame(&image, &frame_of(&[three]), &mut out).unwrap();
         let mut held = even(count);
-        held.push(5_001);
-        held.extend(middle);
-        held.push(5_016);
+        held.extend(added);
         assert!(keys(&out[..length]).unwrap().eq(held));
     }
 }
@@ -414,18 +423,18 @@ fn the_most_that_a_beat_sends_fits() {
 #[test]
 fn small_stacks_are_enough() {
     fn all_calls() -> [Vec<u8>; 5] {
-        let image = full_image(1_000);
-        let frame = frame_of(&[c(0, 2_046, 1, 700); 4]);
+        let image = full_image(MOST_CNT);
+        let frame = frame_of(&[c(0, LAST, 1, 700); 4]);
         let (mut taken, mut sent) = buffers();
         let (mut beaten, mut entered) = (taken.clone(), taken.clone());
         assert_eq!(take_frame(&image, &frame, &mut taken), Ok(IMAGE_MOST));
         assert!(beat(&taken, &mut beaten, &mut sent).is_ok());
         assert_eq!(enter(&taken, 0, &mut entered), Ok(IMAGE_MOST));
-        assert!(keys(&entered).is_ok_and(|keys| keys.eq(even(1_024))));
+        assert!(keys(&entered).is_ok_and(|keys| keys.eq(even(LIMIT))));
         let mut text = vec![0xA5; SHEET_MOST];
         assert_eq!(sheet(&entered, &mut text), Ok(SHEET_MOST));
-        let cost = second::host::opening_cost(RawStore::LIMIT);
-        assert_eq!(opening_cost(RawStore::LIMIT), Ok(cost as usize));
+        let cost = second::host::opening_cost(KEYS_MOST);
+        assert_eq!(opening_cost(KEYS_MOST), Ok(cost as usize));
         [taken, beaten, sent, entered, text]
     }
     let threads: Vec<_> = (0..4)

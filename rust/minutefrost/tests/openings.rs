@@ -1,10 +1,11 @@
-//! What a new kiosk costs: by hand, beside the second program for every number
-//! of keys that a store can hold and for more, and as both READMEs tell it.
+//! What a new kiosk costs: by hand, and beside the second program for every
+//! number of keys that a store can hold and for more. That both READMEs tell it
+//! so is a test of `readme`.
 
 #[path = "../../second/tests/common/mod.rs"]
 mod common;
 
-use common::{Rng, c, for_seeds, frame_of};
+use common::{Rng, for_seeds};
 use minutefrost::opening_cost;
 use second::{RawStore, host};
 
@@ -89,33 +90,4 @@ fn any_number_is_answered() {
             _ => refused(keys),
         }
     });
-}
-
-/// A number below a million, with a comma before its last three digits.
-fn with_comma(number: usize) -> String {
-    match number {
-        0..1_000 => number.to_string(),
-        _ => format!("{},{:03}", number / 1_000, number % 1_000),
-    }
-}
-
-#[test]
-fn both_readmes_tell_costs() {
-    let bytes = frame_of(&[c(7, 7, 7, 1)]).len();
-    let line = |keys: usize| {
-        let deliveries = cost(keys);
-        let [told, bytes] = [keys, bytes * deliveries].map(with_comma);
-        format!("{told:>5} keys: {deliveries:>3} deliveries, {bytes:>6} bytes\n")
-    };
-    let lines = [100, 1_000, LIMIT].map(line);
-    let fenced = format!("\n```text\n{}```\n", lines.concat());
-    let indented = format!("\n    {}\n", lines.join("    "));
-    let claim = format!("takes {bytes} bytes");
-    let own = include_str!("../README.md");
-    let top = include_str!("../../../README.md");
-    for (readme, block) in [(own, fenced), (top, indented)] {
-        assert!(readme.contains(&block), "{block}");
-        let words = readme.split_whitespace().collect::<Vec<_>>().join(" ");
-        assert!(words.contains(&claim), "{claim}");
-    }
 }

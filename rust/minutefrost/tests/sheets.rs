@@ -8,6 +8,8 @@ use common::{PAGES, c, even, full_image, image_of, image_of_keys, three};
 use minutefrost::*;
 use second::Claim;
 
+const LIMIT: u64 = KEYS_MOST as u64;
+
 /// The bytes of a sheet's line, the line feed with them.
 const LINE: usize = 63;
 
@@ -87,8 +89,8 @@ fn sheet_by_strings(keys: &[u64], pages: usize) -> String {
 #[test]
 fn a_page_has_forty_lines() {
     for (count, pages, on_the_last) in PAGES {
-        // 0, 1, 64, 729, … and the largest key.
-        let mut keys: Vec<u64> = (0..count as u64).map(|at| at.pow(6)).collect();
+        // 0, 1, 32, 243, … and the largest key.
+        let mut keys: Vec<u64> = (0..count as u64).map(|at| at.pow(5)).collect();
         if let Some(last) = keys.last_mut() {
             *last = u64::MAX;
         }
@@ -109,10 +111,10 @@ fn keys_of_every_length_are_told_on_a_sheet() {
 
 #[test]
 fn the_longest_sheet_fits() {
-    // 342 lines of keys and nine head lines.
-    let told = sheet_of(&image_of_keys(&even(1_024)), 342 + 9);
+    let (lines, pages) = (KEYS_MOST.div_ceil(3), KEYS_MOST.div_ceil(3 * 40));
+    let told = sheet_of(&image_of_keys(&even(LIMIT)), lines + pages);
     assert_eq!(told.len(), SHEET_MOST);
-    assert_eq!(told, sheet_by_strings(&even(1_024), 9));
+    assert_eq!(told, sheet_by_strings(&even(LIMIT), pages));
 }
 
 /// Those that 16 refuses don't keep an image from having a sheet.
@@ -134,8 +136,8 @@ fn pending_claims_are_not_on_the_sheet() {
     }
     // Full, with full tables: 16 refuses each of the claims of three.
     let lines = SHEET_MOST / LINE;
-    let told = sheet_of(&image_of_keys(&even(1_024)), lines);
-    for cnt in [2, 3, 1_000] {
+    let told = sheet_of(&image_of_keys(&even(LIMIT)), lines);
+    for cnt in [2, 3, KEYS_MOST as u16] {
         assert_eq!(sheet_of(&full_image(cnt), lines), told);
     }
 }
