@@ -9,6 +9,7 @@ use std::path::Path;
 use std::{env, io};
 
 use kiosk::Kiosk;
+use minutefrost::KEYS_MOST;
 use tests::draw::Rng;
 
 fn cards() -> [(&'static str, Kiosk); 7] {
@@ -21,11 +22,11 @@ fn cards() -> [(&'static str, Kiosk); 7] {
     [
         ("empty", Kiosk::of([])),
         ("small", small),
-        ("full", Kiosk::of([]).filled(&mut rng)),
+        ("full", Kiosk::of([]).filled(&mut rng, KEYS_MOST)),
         ("table", Kiosk::hearer(&mut rng, 200, 9)),
         (
             "full_table",
-            Kiosk::hearer(&mut rng, 200, 9).filled(&mut rng),
+            Kiosk::hearer(&mut rng, 200, 9).filled(&mut rng, KEYS_MOST),
         ),
         ("three", three),
         ("heard_three", heard_three),

@@ -15,6 +15,7 @@ use std::{env, io};
 
 use kiosk::Kiosk;
 use second::Claim;
+use tests::OLD_LIMIT;
 use tests::draw::{Density, Rng, frame_of};
 
 /// The claim of three keys with this one as the middle.
@@ -108,7 +109,7 @@ fn cards() -> Vec<Card> {
     cards.push(table("table_some", &mut rng, places));
     let mixed = Kiosk::hearer(&mut rng, 200, 9);
     cards.push(busy("table_mixed", mixed, &[]));
-    let full = Kiosk::hearer(&mut rng, 200, 9).filled(&mut rng);
+    let full = Kiosk::hearer(&mut rng, 200, 9).filled(&mut rng, OLD_LIMIT);
     let keys: Vec<u64> = full.keys().collect();
     // Without space for its middle key it is asked about.
     let waiting = sound(keys[0], keys[1]);

@@ -5,11 +5,13 @@
 use second::*;
 
 use crate::draw::claims_in;
-use crate::drill::{Call, Card, MOST_BYTES};
+use crate::drill::{Call, Card, MOST_BYTES, MOST_WORDS};
 use crate::left_out;
 use crate::middle::{self, ADDED};
 use crate::opening;
 use crate::sheet;
+
+const LIMIT: usize = RawStore::LIMIT;
 
 const NUMBER: usize = 0;
 const COUNT: usize = 1;
@@ -18,13 +20,26 @@ const SECOND: usize = 3;
 const CLAIMS: usize = 4;
 const SENDER: usize = 8;
 const LEFT: usize = 20;
-const RIGHT: usize = LEFT + 1_025;
+const RIGHT: usize = LEFT + 1 + LIMIT;
 const TABLE: usize = RIGHT + 1;
-pub const PAST_NODE: usize = TABLE + 4 * 64;
-pub const PAST_BOTH: usize = RIGHT + 1_025;
+pub const PAST_STORE: usize = RIGHT;
+pub const PAST_NODE: usize = TABLE + 4 * PENDING;
+pub const PAST_BOTH: usize = RIGHT + 1 + LIMIT;
 
-/// The records that a round can fill.
-pub const RECORDS: usize = 2_048;
+/// The records that a round can fill: two for each key of the greatest union.
+pub const RECORDS: usize = 2 * LIMIT;
+
+/// The words of a record.
+const RECORD: usize = 5;
+
+/// Words behind those that a round is lent.
+const PAST_ROUND: usize = 11;
+
+/// The most words that a request can lend to a round.
+pub const MOST_LENT: usize = MOST_WORDS - PAST_BOTH - PAST_ROUND;
+
+// A request has room for every record that a round can need, and for more.
+const _: () = assert!(RECORD * RECORDS < MOST_LENT);
 
 /// A claim was matched in a round though its sender held other keys.
 pub const FALSE_MATCH: &str = "a false match";
@@ -101,13 +116,13 @@ impl Card {
 
     fn put_store(&mut self, at: usize, store: &RawStore) {
         self.words[at] = store.count as u64;
-        self.words[at + 1..at + 1_025].copy_from_slice(&store.keys[..]);
+        self.words[at + 1..][..LIMIT].copy_from_slice(&store.keys[..]);
     }
 
     fn store(&self, at: usize) -> RawStore {
-        let keys = self.words[at + 1..at + 1_025].to_vec();
+        let keys = self.words[at + 1..][..LIMIT].to_vec();
         RawStore {
-            keys: keys.try_into().expect("1,024 places"),
+            keys: keys.try_into().expect("as many places"),
             count: self.words[at] as usize,
         }
     }
@@ -162,7 +177,7 @@ impl Card {
 
     /// The deliveries that a round wrote.
     pub fn deliveries(&self) -> Vec<Delivery> {
-        let records = self.words[PAST_BOTH..].chunks_exact(5);
+        let records = self.words[PAST_BOTH..].chunks_exact(RECORD);
         let delivery = |record: &[u64]| Delivery {
             sender: record[0] as u8,
             claim: claim_of(&record[1..]),
@@ -314,7 +329,7 @@ pub fn beat_case(node: RawNode, lent: usize, noise: Noise) -> Case {
 
 /// As a round on deliveries writes them to flat words, five to a record.
 pub fn round_case(left: RawStore, right: RawStore, lent: usize, noise: Noise) -> Case {
-    let mut given = Card::noise(PAST_BOTH + lent + 11, 0, noise);
+    let mut given = Card::noise(PAST_BOTH + lent + PAST_ROUND, 0, noise);
     given.words[SECOND] = lent as u64;
     given.put_store(LEFT, &left);
     given.put_store(RIGHT, &right);
@@ -322,9 +337,9 @@ pub fn round_case(left: RawStore, right: RawStore, lent: usize, noise: Noise) ->
     let mut threes = Vec::new();
     let mut told = (0, 0, false);
     let case = case(Call::Round, given, |card| {
-        let mut records = vec![Delivery::default(); lent / 5];
+        let mut records = vec![Delivery::default(); lent / RECORD];
         let (met, false_matches) = round_watched(left, right, &mut records);
-        let words = card.words[PAST_BOTH..PAST_BOTH + lent].chunks_exact_mut(5);
+        let words = card.words[PAST_BOTH..PAST_BOTH + lent].chunks_exact_mut(RECORD);
         for (record, delivery) in words.zip(&records[..met.deliveries]) {
             record[0] = u64::from(delivery.sender);
             record[1..].copy_from_slice(&words_of(&delivery.claim));

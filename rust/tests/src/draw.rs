@@ -6,6 +6,19 @@ use second::*;
 
 use crate::middle::{holds, is_faulty, three};
 
+const LIMIT: usize = RawStore::LIMIT;
+
+/// The greatest cnt that question 3 lets pass.
+const MOST_CNT: u16 = LIMIT as u16;
+
+/// The keys of a density at which they are close together: about a quarter more
+/// than fit, so that a full store has some without a neighbour.
+const CLOSE: u64 = LIMIT as u64 * 127 / 100;
+
+/// The keys in each of eight places, which all together have more than twice as
+/// many as fit.
+const NEIGHBOURS: u64 = LIMIT as u64 * 293 / 1_000;
+
 /// Splitmix64: each draw is a mix of a counter that steps by an odd number.
 pub struct Rng(pub u64);
 
@@ -52,14 +65,15 @@ impl Rng {
     pub fn key(&mut self, Density(density): Density) -> u64 {
         match density {
             0 => self.next() % 40,
-            1 => self.next() % 1_300,
-            2 => u64::MAX - self.next() % 1_300,
+            1 => self.next() % CLOSE,
+            2 => u64::MAX - self.next() % CLOSE,
             // One bit each: no key is the XOR of others.
             3 => 1 << self.below(64),
             // Neighbours in a few far places, one of them around both ends.
             4 => {
                 let place = (self.next() % 8).wrapping_mul(0x2492_4924_9249_2492);
-                place.wrapping_add(self.next() % 300).wrapping_sub(150)
+                let at = place.wrapping_add(self.next() % NEIGHBOURS);
+                at.wrapping_sub(NEIGHBOURS / 2)
             }
             5 => self.next() % 100_000,
             _ => match self.below(100) {
@@ -77,9 +91,9 @@ impl Rng {
             1 | 2 => self.below(8),
             3 | 4 => self.below(64),
             5 => self.below(300),
-            6 => self.below(1_025),
-            7 => 1_021 + self.below(4),
-            _ => 1_024,
+            6 => self.below(LIMIT + 1),
+            7 => LIMIT - 3 + self.below(4),
+            _ => LIMIT,
         }
     }
 
@@ -104,7 +118,7 @@ impl Rng {
     /// The keys of a store with room for 0 to 3 more, and no scarce density.
     pub fn nearly_full(&mut self) -> (Vec<u64>, Density) {
         let density = Density(self.pick(&[1, 2, 4, 5, 6]));
-        let count = 1_021 + self.below(4);
+        let count = LIMIT - 3 + self.below(4);
         let mut keys: BTreeSet<u64> = BTreeSet::new();
         while keys.len() < count {
             keys.insert(self.key(density));
@@ -124,12 +138,15 @@ impl Rng {
 
     /// Breaks the order of a store in one of many ways; seldom it holds.
     pub fn bend_store(&mut self, store: &mut RawStore, density: Density) {
-        let count = store.count.min(RawStore::LIMIT);
+        let count = store.count.min(LIMIT);
         let held = count.max(1);
         match self.below(9) {
             0 => store.count = count.wrapping_sub(1),
             1 => store.count = store.count.wrapping_add(1),
-            2 => store.count = self.pick(&[1_024, 1_025, 2_048, usize::MAX, 1 << 63, 65_536]),
+            2 => {
+                let counts = [LIMIT, LIMIT + 1, 2 * LIMIT, usize::MAX, 1 << 63, 65_536];
+                store.count = self.pick(&counts);
+            }
             3 => {
                 let (one, other) = (self.below(held), self.below(held));
                 store.keys.swap(one, other);
@@ -139,12 +156,12 @@ impl Rng {
                 store.keys[at] = store.keys[at.saturating_sub(1)];
             }
             // A place from the count on isn't 0.
-            5 => store.keys[self.below(RawStore::LIMIT)] = self.key(density),
-            6 => store.keys[RawStore::LIMIT - 1] = self.next(),
-            7 => store.keys[count.min(RawStore::LIMIT - 1)] = self.key(density).max(1),
+            5 => store.keys[self.below(LIMIT)] = self.key(density),
+            6 => store.keys[LIMIT - 1] = self.next(),
+            7 => store.keys[count.min(LIMIT - 1)] = self.key(density).max(1),
             _ => {
                 store.keys.fill_with(|| self.next());
-                store.count = self.below(1_030);
+                store.count = self.below(LIMIT + 6);
             }
         }
     }
@@ -194,18 +211,24 @@ impl Rng {
             0 => Claim::new(hi, lo, sum, cnt),
             1 => Claim::new(hi.wrapping_add(1), lo, sum, cnt),
             2 => Claim::new(lo, hi, sum, 0),
-            3 => Claim::new(lo, hi, sum, self.pick(&[1_024, 1_025, 2_000, u16::MAX])),
+            3 => {
+                let cnts = [MOST_CNT, MOST_CNT + 1, 2 * MOST_CNT, u16::MAX];
+                Claim::new(lo, hi, sum, self.pick(&cnts))
+            }
             4 => Claim::new(lo, lo, lo, self.pick(&[0, 1, 2, 3])),
             5 => Claim::new(lo, lo.wrapping_add(1), sum, self.pick(&[1, 2, 3])),
             6 => {
-                let width = self.below(1_030) as u64;
+                let width = self.below(LIMIT + 6) as u64;
                 let cnt = (width + self.next() % 3) as u16;
                 Claim::new(lo, lo.saturating_add(width), sum, cnt)
             }
             7 => Claim::new(lo, hi, sum, 1),
             8 => Claim::new(lo, lo, sum ^ (self.next() % 2), 1),
             9 => Claim::new(lo, hi, lo ^ hi ^ (self.next() % 2), 2),
-            10 => Claim::new(0, u64::MAX, sum, self.pick(&[1, 2, 3, 1_024, 1_025])),
+            10 => {
+                let cnts = [1, 2, 3, MOST_CNT, MOST_CNT + 1];
+                Claim::new(0, u64::MAX, sum, self.pick(&cnts))
+            }
             11 | 12 => self.beside_an_end(lo, hi),
             13 => self.beside_an_end(lo, lo.saturating_add(2)),
             14 => Claim::new(lo, hi, sum, 3),
@@ -231,7 +254,7 @@ impl Rng {
         let mut claim = self.true_claim(keys, Density(0));
         let width = claim.hi - claim.lo;
         if width >= 2 && !self.one_in(3) {
-            let most = 1_022.min(width - 1) as usize;
+            let most = (LIMIT as u64 - 2).min(width - 1) as usize;
             let near = self.below(most.min(9));
             let far = self.below(most);
             claim.cnt = 3 + if self.one_in(3) { far } else { near } as u16;
@@ -311,7 +334,7 @@ impl Rng {
             0 => self.bend_store(&mut node.store, density),
             1 => node.pending_count = count.wrapping_sub(1),
             2 => node.pending_count = node.pending_count.wrapping_add(1),
-            3 => node.pending_count = self.pick(&[64, 65, 66, 1_024, usize::MAX, 1 << 63]),
+            3 => node.pending_count = self.pick(&[64, 65, 66, LIMIT, usize::MAX, 1 << 63]),
             4 => {
                 let other = self.below(held);
                 node.pending.swap(at, other);
@@ -394,8 +417,8 @@ impl Rng {
                 }
             }
         }
-        left.truncate(RawStore::LIMIT);
-        right.truncate(RawStore::LIMIT);
+        left.truncate(LIMIT);
+        right.truncate(LIMIT);
         (left, right)
     }
 }

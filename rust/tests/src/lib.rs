@@ -17,3 +17,7 @@ pub mod middle;
 pub mod opening;
 pub mod program;
 pub mod sheet;
+
+/// The keys of a store that was full when the cards in `tests/data/faulty` were
+/// written: none of them has more, whatever a store can hold now.
+pub const OLD_LIMIT: usize = 1_024;

@@ -115,10 +115,17 @@ fn neighbours(rng: &mut Rng, count: usize) -> Vec<u64> {
     (first..).take(count).collect()
 }
 
+/// So many bits tell more keys apart than fit.
+const BITS: u32 = 12;
+
+const _: () = assert!(LIMIT < 1 << BITS);
+
 /// All but the low bits are those of every other key, but for the ends.
 fn close(rng: &mut Rng, count: usize) -> Vec<u64> {
-    let high = rng.next() << 12;
-    drawn(count, &[0, u64::MAX], || high | rng.next() >> 52)
+    let high = rng.next() << BITS;
+    drawn(count, &[0, u64::MAX], || {
+        high | rng.next() >> (u64::BITS - BITS)
+    })
 }
 
 /// Runs of four from a multiple of four on, whose XOR is 0; the first run
@@ -132,7 +139,7 @@ fn fours(rng: &mut Rng, count: usize) -> Vec<u64> {
 
 /// The XORs of some of a few keys, so that each is that of many others.
 fn sums(rng: &mut Rng, count: usize) -> Vec<u64> {
-    let few: Vec<u64> = (0..12).map(|_| rng.next()).collect();
+    let few: Vec<u64> = (0..BITS).map(|_| rng.next()).collect();
     drawn(count, &[], || {
         let some = few.iter().filter(|_| rng.one_in(2));
         some.fold(0, |sum, key| sum ^ key)

@@ -108,8 +108,8 @@ pub const LAYOUTS: [&str; 12] = [
     "a part of a page",
     "a full page alone",
     "two pages",
-    "three to eight pages",
-    "nine pages",
+    "three pages and more",
+    "as many pages as there can be",
     "all the keys that fit",
     "key 0",
     "the largest key",
@@ -247,7 +247,10 @@ impl Rng {
         let count = match self.below(8) {
             0 => self.below(LINE_KEYS + 2),
             1 => PAGE_KEYS - 1 + self.below(3),
-            2 => PAGE_KEYS * (1 + self.below(8)) + self.below(2),
+            2 => {
+                let full_pages = pages(RawStore::LIMIT) - 1;
+                PAGE_KEYS * (1 + self.below(full_pages)) + self.below(2)
+            }
             3 => RawStore::LIMIT - self.below(2),
             4 => self.below(RawStore::LIMIT + 1),
             _ => {

@@ -10,6 +10,8 @@ use tests::drill::{Call, Card, Drill, MOST_BYTES, MOST_WORDS, request_bytes};
 use tests::left_out;
 use tests::middle::{self, OUTCOMES, REFUSED};
 
+const LIMIT: usize = RawStore::LIMIT;
+
 /// How often a number or a way must have been seen.
 const OFTEN: usize = 100;
 
@@ -72,7 +74,7 @@ fn makes() {
         let store = rng.store(density);
         let count = store.held().len();
         let mut position = || match rng.below(8) {
-            0 => rng.pick(&[0, 1_023, 1_024, 65_536, 1 << 63, usize::MAX]),
+            0 => rng.pick(&[0, LIMIT - 1, LIMIT, 65_536, 1 << 63, usize::MAX]),
             1 => count,
             2 | 3 => count.wrapping_sub(1),
             4 => 0,
@@ -192,8 +194,8 @@ fn claim_for_table(rng: &mut Rng, node: &RawNode, density: Density) -> Claim {
             // After all or nearly all that are pending.
             let held = node.store.held();
             let (lo, hi) = (held[0], held[held.len() - 1]);
-            let cnt = hi.saturating_sub(lo).saturating_add(1).min(1_024);
-            Claim::new(lo, hi, rng.next(), cnt as u16)
+            let most = hi.saturating_sub(lo).saturating_add(1);
+            Claim::new(lo, hi, rng.next(), most.min(LIMIT as u64) as u16)
         }
         _ => rng.claim(node.store.held(), density),
     }
@@ -288,10 +290,10 @@ fn rounds() {
     ];
     // What is claimed in a round is true of its sender: no other outcome.
     let each = [middle::ADDED, middle::OTHERS].concat();
-    run_each(&each, 6_000, &[0, 1, 8, 9], &ways, |rng| {
+    run_each(&each, 7_000, &[0, 1, 8, 9], &ways, |rng| {
         let (left, right) = pair_for_round(rng);
         let union = questions::union_count(&left, &right);
-        let full = left.len() == 1_024 && left == right;
+        let full = left.len() == LIMIT && left == right;
         let stores = stores_for_round(rng, &left, &right);
         let records = match rng.below(6) {
             0 => (2 * union).saturating_sub(1),
@@ -300,8 +302,8 @@ fn rounds() {
             4 => rng.below(2 * union + 1),
             _ => 2 * union + rng.below(30),
         };
-        // Up to 2,074 records fit a request of the drill.
-        let lent = (5 * records + rng.below(5)).min(14_000);
+        // A request of the drill has room for those of any union that fits.
+        let lent = (5 * records + rng.below(5)).min(MOST_LENT);
         let [left, right] = stores;
         let case = round_case(left, right, lent, &mut noise(rng));
         let run = case.number == 0;
@@ -420,7 +422,7 @@ fn writes_frames() {
 
 #[test]
 fn reads_images() {
-    let ways = ["9,860 bytes", left_out::SOME];
+    let ways = ["all the bytes that there can be", left_out::SOME];
     run(8_000, &[0, 1, 14], &ways, |rng| {
         let mut bytes = match rng.below(10) {
             0 => {
@@ -438,27 +440,31 @@ fn reads_images() {
             rng.damage(&mut bytes);
         }
         if rng.one_in(12) && bytes.len() > 1 {
-            let count = rng.pick(&[0u16, 1, 2, 1_023, 1_024, 1_025, u16::MAX]);
+            let most = LIMIT as u16;
+            let count = rng.pick(&[0, 1, 2, most - 1, most, most + 1, u16::MAX]);
             bytes[..2].copy_from_slice(&count.to_be_bytes());
         }
         let lent = past(rng, &mut bytes);
         let case = read_image_case(bytes, lent, &mut noise(rng));
         let read = case.number == 0;
-        case.on("9,860 bytes", read && lent == 9_860)
+        case.on(
+            "all the bytes that there can be",
+            read && lent == IMAGE_MOST,
+        )
     });
 }
 
 #[test]
 fn reads_images_of_too_many() {
-    // 1,025 keys and more, or 65 claims and more, the length being theirs.
+    // More keys than fit, or 65 claims and more, the length being theirs.
     run(200, &[14], &[], |rng| {
         let density = rng.density();
         let keys = if rng.one_in(2) {
-            1_025 + rng.below(3)
+            LIMIT + 1 + rng.below(3)
         } else {
             rng.below(40)
         };
-        let pending = if keys < 1_025 {
+        let pending = if keys <= LIMIT {
             65 + rng.below(3)
         } else {
             rng.below(3)
@@ -474,14 +480,14 @@ fn reads_images_of_too_many() {
 #[test]
 fn writes_images() {
     let ways = ["exactly enough", left_out::NODE];
-    run(5_000, &[0, 1, 15], &ways, |rng| {
+    run(6_000, &[0, 1, 15], &ways, |rng| {
         let node = rng.node();
         let need = 4 + 8 * node.store.held().len() + 26 * node.table().len();
         let lent = match rng.below(8) {
             0 => need - 1,
             1 => rng.below(need),
             2 => need + rng.below(30),
-            3 => 9_860,
+            3 => IMAGE_MOST,
             _ => need,
         };
         let case = write_image_case(&node, lent, &mut noise(rng));
@@ -553,28 +559,28 @@ fn refuses_requests_that_it_cannot_read() {
         cut(&judge, 24),
         cut(&judge, judge.len() - 1),
         with(0, 20, 0),
-        with(18, 2_070, 0),
-        with(u64::MAX, 2_070, 0),
+        with(18, PAST_BOTH, 0),
+        with(u64::MAX, PAST_BOTH, 0),
         // Too few words.
-        with(1, 1_044, 0),
-        with(2, 1_044, 0),
-        with(3, 1_044, 0),
+        with(1, PAST_STORE - 1, 0),
+        with(2, PAST_STORE - 1, 0),
+        with(3, PAST_STORE - 1, 0),
         with(4, 19, 0),
-        with(5, 1_301, 0),
-        with(13, 1_301, 0),
-        with(14, 1_044, 0),
-        with(15, 2_069, 0),
-        request_of(0, 16, 1_044, 0),
+        with(5, PAST_NODE - 1, 0),
+        with(13, PAST_NODE - 1, 0),
+        with(14, PAST_STORE - 1, 0),
+        with(15, PAST_BOTH - 1, 0),
+        request_of(0, 16, PAST_STORE - 1, 0),
         with(17, 19, 0),
         // More lent than is there.
-        with(6, 1_302, 0),
-        with(7, 2_070, 0),
+        with(6, PAST_NODE, 0),
+        with(7, PAST_BOTH, 0),
         with(8, 20, 9),
         with(9, 20, 9),
-        with(10, 1_302, 9),
-        with(11, 1_302, 9),
+        with(10, PAST_NODE, 9),
+        with(11, PAST_NODE, 9),
         with(12, 20, 9),
-        with(16, 1_045, 9),
+        with(16, PAST_STORE, 9),
         // More than the drill has room for.
         head([4, MOST_WORDS as u64 + 1, 0]),
         head([4, u64::MAX, 0]),

@@ -19,6 +19,8 @@ use tests::draw::{Density, Rng};
 use tests::drill::{Card, Drill};
 use tests::middle::{ADDED, ASKED_FULL, HELPED, LAST_PLACE, MATCHED, NO_SPACE, OTHERS};
 
+const LIMIT: usize = RawStore::LIMIT;
+
 /// The kiosks, what was entered, and what is in the air.
 struct World {
     kiosks: Vec<RawNode>,
@@ -101,7 +103,7 @@ impl World {
         if reply.number() == 0 {
             self.entered.insert(key);
         } else {
-            assert!(self.entered.len() >= 1_024, "refused with space to spare");
+            assert!(self.entered.len() >= LIMIT, "refused with space to spare");
         }
         self.kiosks[at].store = reply.left();
         told.event("enter", reply.number());
@@ -161,7 +163,7 @@ impl World {
     fn delivered(&self, call: &'static str, made: bool, number: u8, told: &mut Told) {
         if made && number != 0 {
             assert!(
-                number == 6 && self.entered.len() > 1_024,
+                number == 6 && self.entered.len() > LIMIT,
                 "{call} refused {number}"
             );
         }
@@ -194,8 +196,8 @@ impl World {
     ) -> (Card, bool) {
         let stores = [left, right].map(|at| self.kiosks[at].store.clone());
         let union = keys_of(&stores[0]).union(&keys_of(&stores[1])).count();
-        // As many as it needs, where a request has room for them.
-        let records = records.unwrap_or((2 * union).min(2_048));
+        // As many as it needs, or as any round can that isn't refused by 8.
+        let records = records.unwrap_or((2 * union).min(RECORDS));
         let [one, other] = stores;
         let case = round_case(one, other, 5 * records, &mut || 0);
         let reply = ask(drill, &case);
@@ -205,7 +207,7 @@ impl World {
         self.kiosks[right].store = reply.right();
         told.event("round", reply.number());
         if reply.number() == 8 {
-            assert!(self.entered.len() > 1_024, "refused with space to spare");
+            assert!(self.entered.len() > LIMIT, "refused with space to spare");
         }
         let false_match = case.ways.contains(&FALSE_MATCH);
         (reply, false_match)
@@ -331,14 +333,15 @@ fn keys_of(store: &RawStore) -> BTreeSet<u64> {
     store.held().iter().copied().collect()
 }
 
-/// The largest number of a class of differences.
-const CLASSES: [usize; 7] = [0, 1, 4, 24, 100, 400, 2_048];
+/// The largest number of a class of differences; two stores that have no key in
+/// common differ by all that both hold.
+const CLASSES: [usize; 7] = [0, 1, 4, 24, 100, 400, 2 * LIMIT];
 
 fn differ_class(differ: usize) -> usize {
     CLASSES
         .into_iter()
         .find(|&most| differ <= most)
-        .expect("at most 2,048 keys")
+        .expect("at most the keys of two full stores")
 }
 
 impl Told {
@@ -463,8 +466,12 @@ fn lists_of_events() {
     }
 }
 
-/// Long lists with more keys than the kiosks can hold: 6 and 8 come, and
-/// never before 1,024 different keys are entered.
+/// The first events of a long list, of which nine in sixteen enter a key: more
+/// keys than a kiosk can hold.
+const FILLING: usize = 2 * LIMIT;
+
+/// Long lists with more keys than the kiosks can hold: 6 and 8 come, and never
+/// before as many different keys are entered as one can hold.
 #[test]
 fn lists_past_the_limit() {
     let mut drill = Drill::start();
@@ -473,9 +480,9 @@ fn lists_past_the_limit() {
         let mut world = World::new(rng);
         world.kiosks.truncate(3);
         world.density = Density::WIDE;
-        for event in 0..3_600 {
+        for event in 0..FILLING + 1_600 {
             // Once the kiosks are full, mostly what they say to each other.
-            let least = if event < 2_000 { 0 } else { 7 };
+            let least = if event < FILLING { 0 } else { 7 };
             match least + rng.below(16 - least) {
                 0..9 => world.enter(rng, &mut drill, &mut told),
                 9..11 => world.make(rng, &mut drill, &mut told),
@@ -521,7 +528,7 @@ fn pairs_meet() {
             kiosks: [left, right]
                 .map(|keys| RawNode::of(RawStore::of(&keys), &[]))
                 .to_vec(),
-            entered: (0..1_025).collect(),
+            entered: (0..=LIMIT as u64).collect(),
             air: Vec::new(),
             density: Density::WIDE,
         };

@@ -9,14 +9,19 @@ mod cards;
 mod rehearse;
 mod wallsheet;
 
+use std::collections::BTreeSet;
+
 use archive::{Asked, compare, sheet_by};
 use cards::*;
 use minutefrost::{BEAT_FRAMES, EMPTY_IMAGE, IMAGE_MOST, SHEET_MOST, frames};
 use second::{Claim, PENDING, RawNode, RawStore};
+use tests::OLD_LIMIT;
 use tests::card::{image_length_case, read_image_case, write_image_case};
 use tests::draw::{claim_of, frame_of, image_of};
 use tests::drill::Drill;
 use tests::sheet;
+
+const LIMIT: usize = RawStore::LIMIT;
 
 /// Fills the buffers that are lent, and the places that mean nothing.
 const NOISE: u64 = 0x5A5A_0101_F0F0_3C3C;
@@ -230,14 +235,14 @@ fn faulty_claims_take_no_places() {
     for card in faulty_cards().into_iter().filter(full) {
         let node = node_in(&without_faulty(&card.image));
         let (keys, mut pending) = (node.store.held(), node.table().to_vec());
-        let last = Claim::new(keys[0], keys[keys.len() - 1], NOISE, 1_024);
+        let last = Claim::new(keys[0], keys[keys.len() - 1], NOISE, LIMIT as u16);
         pending.push(last);
         let taken = image_of(keys, &pending);
         expect_written(&take(&card.image, &frame_of(&[last])), &taken, &card.name);
     }
 }
 
-/// Only with a full store the union can be too large.
+/// Refused only where the union is too large.
 #[test]
 fn rehearsals_go_as_without_faulty_claims() {
     let program = rehearse::program();
@@ -251,8 +256,11 @@ fn rehearsals_go_as_without_faulty_claims() {
         let printed = rehearse::compare(&program, &with);
         let told = pair.map(|card| &card.name);
         assert_eq!(printed, rehearse::compare(&program, &without), "{told:?}");
-        let full = pair.iter().any(|card| card.holds.0 == RawStore::LIMIT);
-        assert!(full || printed.contains("left"), "{told:?}: {printed}");
+        let union: BTreeSet<u64> = pair.iter().flat_map(|card| keys_in(&card.image)).collect();
+        match rehearse::number_of(union.len()) {
+            0 => assert!(printed.contains("left"), "{told:?}: {printed}"),
+            number => assert_eq!(printed, format!("refused {number}\n"), "{told:?}"),
+        }
     }
 }
 
@@ -291,10 +299,22 @@ fn refused_calls(card: &Card) -> Vec<(Asked, u8)> {
     ]
 }
 
-/// Calls with a card of a full store. Claims are asked about before room, and
+/// An image with more keys, up to as many as fit; its claims are pending still.
+fn filled(image: &[u8]) -> Vec<u8> {
+    let node = node_in(image);
+    let mut keys = node.store.held().to_vec();
+    let others = (0..)
+        .map(|at: u64| !at)
+        .filter(|key| !node.store.held().contains(key));
+    keys.extend(others.take(LIMIT - keys.len()));
+    keys.sort_unstable();
+    image_of(&keys, node.table())
+}
+
+/// Calls with the image of a full store. Claims are asked about before room, and
 /// room before buffers.
-fn refused_for_room(card: &Card) -> Vec<(Asked, u8)> {
-    let (image, keys) = (&card.image, keys_in(&card.image));
+fn refused_for_room(image: &[u8]) -> Vec<(Asked, u8)> {
+    let keys = keys_in(image);
     let [held, new] = [keys[0], keys[0] + 1].map(|key| claim_of(&[key]));
     let faulty = Claim::new(new.lo, u64::MAX, u64::MAX, 3);
     assert!(is_faulty(&faulty) && !keys.contains(&new.lo));
@@ -302,8 +322,8 @@ fn refused_for_room(card: &Card) -> Vec<(Asked, u8)> {
     vec![
         (enter(image, new.lo), 6),
         (take(image, &frame), 6),
-        (Asked::Take(image.clone(), frame, 0), 6),
-        (Asked::Take(image.clone(), frame_of(&[new, faulty]), 0), 13),
+        (Asked::Take(image.to_vec(), frame, 0), 6),
+        (Asked::Take(image.to_vec(), frame_of(&[new, faulty]), 0), 13),
     ]
 }
 
@@ -312,8 +332,9 @@ fn refused_calls_leave_the_card() {
     let mut full_stores = 0;
     for card in faulty_cards() {
         let mut calls = refused_calls(&card);
-        if card.holds.0 == RawStore::LIMIT {
-            calls.extend(refused_for_room(&card));
+        // Full when it was written: there may be room by now.
+        if card.holds.0 == OLD_LIMIT {
+            calls.extend(refused_for_room(&filled(&card.image)));
             full_stores += 1;
         }
         for (asked, number) in calls {

@@ -288,10 +288,10 @@ fn frame_for(rng: &mut Rng, image: &[u8]) -> Vec<u8> {
     let density = rng.density();
     let mut claims = rng.frame_claims(&keys, density);
     if let (Some(&lo), Some(&hi)) = (keys.first(), keys.last())
-        && hi.saturating_sub(lo) > 2_000
+        && hi.saturating_sub(lo) > 2 * LIMIT as u64
         && rng.one_in(2)
     {
-        claims = vec![Claim::new(lo, hi, rng.next(), 1_024)];
+        claims = vec![Claim::new(lo, hi, rng.next(), LIMIT as u16)];
     }
     if !pending.is_empty() && rng.one_in(4) {
         claims.truncate(3);
@@ -482,7 +482,7 @@ fn all_of_64_are_left_out() {
         assert_eq!(entered(&image, 77), rest);
         let whole = frame_of(&[claim_of(&keys)]);
         assert_eq!(beaten(&image), (rest, whole));
-        let last = Claim::new(0, 1_023, 5, 1_024);
+        let last = Claim::new(0, LIMIT as u64 - 1, 5, LIMIT as u16);
         let asked = Asked::Take(image.clone(), frame_of(&[last]), IMAGE_MOST);
         assert_eq!(left_by(asked).0, image_of(&keys, &[last]));
     }

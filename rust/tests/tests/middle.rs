@@ -93,14 +93,15 @@ fn rounds_of_all_pairs_below_others() {
 }
 
 /// With so many of them below, claims as short as three are of the six keys,
-/// and the middle one takes the last place.
+/// and the middle one takes the last place. Where twice as many keys fit, the
+/// first half of them begins at the second key: so there is one more below.
 #[test]
 fn rounds_of_all_pairs_among_others() {
-    let union = LIMIT;
+    let (below, union) = (u64::from(21 + LIMIT.ilog2()), LIMIT);
     let [held, missing, _] = OTHERS;
     let mut ways = vec![LAST_PLACE, held, missing];
     ways.extend(ADDED);
-    rounds_of_pairs(PAIRS, Common { below: 31, union }, &ways);
+    rounds_of_pairs(PAIRS, Common { below, union }, &ways);
 }
 
 // ---- claims of three of every kind for stores nearly full ----

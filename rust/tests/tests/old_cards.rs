@@ -13,7 +13,7 @@ mod wallsheet;
 
 use cards::{Card, cards_of, faulty_cards, keys_in, sound_cards};
 use minutefrost::{BEAT_FRAMES, IMAGE_MOST, Refusal, SHEET_MOST, frames};
-use second::{Claim, host};
+use second::{Claim, RawStore, host};
 use tests::draw::{frame_of, image_of};
 use tests::sheet;
 
@@ -135,7 +135,7 @@ fn frames_are_taken() {
         for frame in frames(&speaker.sent) {
             // Four claims have at most eight ends and four keys between them;
             // the ends of its own claims the hearer has.
-            let room = keys_in(&image).len() + 12 <= 1_024;
+            let room = keys_in(&image).len() + 12 <= RawStore::LIMIT;
             let owed = room || hearer.name == speaker.name;
             match take(&image, frame) {
                 Ok(taken) => image = taken,

@@ -3,12 +3,14 @@
 
 mod rehearse;
 
-use rehearse::{compare, program};
-use second::{Claim, read_image};
+use rehearse::{compare, number_of, program};
+use second::{Claim, IMAGE_MOST, REHEARSAL_RECORDS, RawStore, questions, read_image};
 use tests::cases::{Seen, for_seeds, one_seed};
 use tests::draw::{Rng, image_of};
 use tests::left_out::{self, ALL, BROKEN, FIRST, LAST, SOME};
 use tests::middle::three;
+
+const LIMIT: usize = RawStore::LIMIT;
 
 /// How often each number and each way must be seen.
 const OFTEN: usize = 40;
@@ -31,11 +33,38 @@ fn prints_refusals_of_cut_inputs() {
     for end in 0..=input.len() {
         compare(&program, &input[..end]);
     }
-    for more in [1, 2, 4, 9_860, 19_720, 19_721, 100_000, 300_000] {
+    let both = 2 * IMAGE_MOST;
+    for more in [1, 2, 4, IMAGE_MOST, both, both + 1, 100_000, 300_000] {
         let mut long = input.clone();
         long.resize(input.len() + more, 0);
         assert_eq!(compare(&program, &long), "refused 14\n");
     }
+}
+
+/// As many keys as there are records for and as many as fit, half of them on
+/// each side, and one more.
+#[test]
+fn prints_refusals_of_unions() {
+    let program = program();
+    for most in [REHEARSAL_RECORDS / 2, LIMIT] {
+        for union in [most, most + 1] {
+            let keys: Vec<u64> = (0..union as u64).collect();
+            let (lower, upper) = keys.split_at(union / 2);
+            let input = [image_of(lower, &[]), image_of(upper, &[])].concat();
+            let lines = compare(&program, &input);
+            match number_of(union) {
+                0 => assert!(lines.starts_with("L 0 ")),
+                number => assert_eq!(lines, format!("refused {number}\n")),
+            }
+        }
+    }
+}
+
+/// The numbers of rehearsals: 9 among them where more keys fit than there are
+/// records for.
+fn numbers() -> Vec<u8> {
+    let too_few = (number_of(LIMIT) == 9).then_some(9);
+    [0, 1, 8, 14].into_iter().chain(too_few).collect()
 }
 
 #[test]
@@ -43,33 +72,49 @@ fn prints_what_the_second_program_prints() {
     let program = program();
     let mut seen = Seen::default();
     for_seeds(1_500, |_, rng| {
-        let input = input(rng);
-        let lines = compare(&program, &input);
-        match lines.strip_prefix("refused ") {
-            Some(number) => seen.number(number.trim_end().parse().expect("a number")),
+        let images = images(rng);
+        let lines = compare(&program, &images.concat());
+        let number = match lines.strip_prefix("refused ") {
+            Some(number) => number.trim_end().parse().expect("a number"),
             None => {
-                seen.number(0);
                 let over = lines.lines().count() > 100;
                 seen.way(if over {
                     "over 100 lines"
                 } else {
                     "a few lines"
                 });
+                0
             }
+        };
+        seen.number(number);
+        let [left, right] = images.map(|image| read_image(&image));
+        if (left.number, right.number) == (0, 0) {
+            let [left, right] = [&left, &right].map(|read| read.node.store.held());
+            assert_eq!(number, number_of(questions::union_count(left, right)));
         }
     });
     if !one_seed() {
-        seen.expect(&[0, 1, 8, 14], &["over 100 lines", "a few lines"], OFTEN);
+        seen.expect(&numbers(), &["over 100 lines", "a few lines"], OFTEN);
     }
 }
 
-/// Two images: in order, bent or damaged, the first or the second or both.
-fn input(rng: &mut Rng) -> Vec<u8> {
-    let (left, mut right) = rng.pair();
+/// The keys of two images. Of those with too many for the records most are cut,
+/// to half as many keys as there are records for.
+fn keys_of_images(rng: &mut Rng) -> [Vec<u64>; 2] {
+    let (mut left, mut right) = rng.pair();
     if rng.one_in(10) {
         right = rng.nearly_full().0;
     }
-    let mut images = [left, right].map(|keys| {
+    if number_of(questions::union_count(&left, &right)) == 9 && !rng.one_in(4) {
+        left.truncate(REHEARSAL_RECORDS / 4);
+        right.truncate(REHEARSAL_RECORDS / 4);
+    }
+    [left, right]
+}
+
+/// Two images: in order, bent or damaged, the first or the second or both.
+fn images(rng: &mut Rng) -> [Vec<u8>; 2] {
+    let mut images = keys_of_images(rng).map(|keys| {
         let mut node = rng.node_of(&keys);
         if rng.one_in(12) {
             rng.bend_node(&mut node);
@@ -80,7 +125,7 @@ fn input(rng: &mut Rng) -> Vec<u8> {
         let which = rng.below(2);
         rng.damage(&mut images[which]);
     }
-    images.concat()
+    images
 }
 
 /// {1, 16} with a claim pending that no store could make (document 02, slip

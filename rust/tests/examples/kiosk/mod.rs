@@ -4,7 +4,6 @@ use std::path::Path;
 use std::{fs, io, mem};
 
 use minutefrost::{BEAT_FRAMES, EMPTY_IMAGE, IMAGE_MOST, beat, enter, frames, keys, take_frame};
-use second::RawStore;
 use tests::draw::Rng;
 
 /// A kiosk is its image.
@@ -60,9 +59,9 @@ impl Kiosk {
         usize::from(u16::from_be_bytes([self.0[at], self.0[at + 1]]))
     }
 
-    /// Enters keys until no more fit.
-    pub fn filled(mut self, rng: &mut Rng) -> Kiosk {
-        while self.keys().len() < RawStore::LIMIT {
+    /// Enters keys until there are so many.
+    pub fn filled(mut self, rng: &mut Rng, count: usize) -> Kiosk {
+        while self.keys().len() < count {
             self.enter(rng.next());
         }
         self
