@@ -87,13 +87,20 @@ impl Pair {
     }
 }
 
-/// 1,024 keys and 64 pending claims of about as many keys as there are, all
-/// with this cnt: below the number of keys there, a beat helps; above, asks.
+/// How far apart the ends of each claim of [`full`] are: most keys lie between
+/// them, and 64 such spans begin at different ones.
+const APART: usize = RawStore::LIMIT - 124;
+
+/// A cnt above the number of keys in such a span.
+pub const ABOVE: u16 = APART as u16 + 100;
+
+/// All the keys that fit and 64 pending claims of about as many, all with this
+/// cnt: below the number of keys there, a beat helps; above, asks.
 pub fn full(cnt: u16, variant: u64) -> RawNode {
-    let Pair { hearer, .. } = Pair::new(1_024, 0, variant);
+    let Pair { hearer, .. } = Pair::new(RawStore::LIMIT, 0, variant);
     let pending: Vec<Claim> = (0..64)
         .map(|at| {
-            let (lo, hi) = (hearer[at], hearer[at + 900]);
+            let (lo, hi) = (hearer[at], hearer[at + APART]);
             Claim::new(lo, hi, lo ^ hi, cnt)
         })
         .collect();

@@ -17,16 +17,20 @@ mod sheet;
 mod timing;
 
 use std::hint::black_box;
+use std::iter;
 use std::path::Path;
 use std::process::ExitCode;
 
-use cases::{Buffers, Case, Pair};
+use cases::{Buffers, Case, Pair, VARIANTS};
 use minutefrost::Refusal;
-use second::{Claim, RawNode};
+use second::{Claim, RawNode, RawStore};
 use timing::{Compared, compare};
 
+/// The most keys of a store.
+const LIMIT: usize = RawStore::LIMIT;
+
 /// The keys of a union.
-const UNIONS: [usize; 3] = [16, 128, 1_024];
+const UNIONS: [usize; 3] = [16, 128, LIMIT];
 
 /// How many of them differ, where the union has as many; then all.
 const DIFFERING: [usize; 3] = [0, 1, 24];
@@ -145,58 +149,76 @@ fn as_number(answer: Result<usize, Refusal>) -> i64 {
     answer.map_or_else(|no| -i64::from(no.number()), |length| length as i64)
 }
 
+/// A number below a million, with a comma before its last three digits.
+fn with_comma(number: usize) -> String {
+    match number {
+        0..1_000 => number.to_string(),
+        _ => format!("{},{:03}", number / 1_000, number % 1_000),
+    }
+}
+
 /// The largest image: what the targets are about.
 fn print_full() {
-    println!("## A full image: 1,024 keys, 64 pending claims\n");
+    let [all, all_but_one] = [LIMIT, LIMIT - 1].map(with_comma);
+    println!("## A full image: {all} keys, {TABLE} pending claims\n");
     println!("| Call | What it does | {CELLS} |");
     println!("|---|---|{RULE}|");
-    let row = |call: &str, what: &str, times: Compared| println!("| {call} | {what} | {times} |");
-    let heard = cases::heard(1_024, 0, TABLE);
-    row(
-        "take_frame",
-        "4 claims, their ends held",
-        take_frame(&heard),
-    );
-    row(
-        "take_frame",
-        "1 claim, pending already: image read and written",
-        take_frame(&cases::all(known)),
-    );
-    row(
-        "take_frame",
-        "refused by 10: image read, nothing written",
-        take_frame(&cases::all(refused)),
-    );
-    row(
-        "take_frame",
-        "1,016 keys, none pending: 4 claims with 8 new keys",
-        take_frame(&cases::all(eight_new)),
-    );
-    row(
+    let heard = cases::heard(LIMIT, 0, TABLE);
+    print_full_frames(&heard);
+    print_row(
         "enter",
         "a key that is held: image read and written",
         enter(&heard),
     );
-    row(
+    print_row(
         "enter",
-        "1,023 keys: a new key",
+        &format!("{all_but_one} keys: a new key"),
         enter(&cases::all(one_new)),
     );
-    row(
+    print_row(
         "count",
         "image read and judged, nothing written",
         count(&heard),
     );
-    row("beat", "64 matched, 1 claim sent", beat(&heard));
+    print_row("beat", "64 matched, 1 claim sent", beat(&heard));
     let full = |cnt| cases::all(|variant| beaten(cases::full(cnt, variant)));
-    row("beat", "64 helped, 129 claims sent", beat(&full(2)));
-    row("beat", "64 asked about, 65 claims sent", beat(&full(1_000)));
+    print_row("beat", "64 helped, 129 claims sent", beat(&full(2)));
+    print_row(
+        "beat",
+        "64 asked about, 65 claims sent",
+        beat(&full(cases::ABOVE)),
+    );
     println!();
+}
+
+/// The frames that it takes, and those that one with room for more does.
+fn print_full_frames(heard: &[Case]) {
+    let all_but_eight = with_comma(LIMIT - 8);
+    print_row("take_frame", "4 claims, their ends held", take_frame(heard));
+    print_row(
+        "take_frame",
+        "1 claim, pending already: image read and written",
+        take_frame(&cases::all(known)),
+    );
+    print_row(
+        "take_frame",
+        "refused by 10: image read, nothing written",
+        take_frame(&cases::all(refused)),
+    );
+    print_row(
+        "take_frame",
+        &format!("{all_but_eight} keys, none pending: 4 claims with 8 new keys"),
+        take_frame(&cases::all(eight_new)),
+    );
+}
+
+fn print_row(call: &str, what: &str, times: Compared) {
+    println!("| {call} | {what} | {times} |");
 }
 
 /// A full image, and a frame of one claim that is pending in it.
 fn known(variant: u64) -> Case {
-    let node = Pair::new(1_024, 0, variant).node(TABLE);
+    let node = Pair::new(LIMIT, 0, variant).node(TABLE);
     Case {
         frame: cases::frame(&node.table()[..1]),
         ..beaten(node)
@@ -205,14 +227,16 @@ fn known(variant: u64) -> Case {
 
 /// A full image, and a frame of no bytes.
 fn refused(variant: u64) -> Case {
-    beaten(Pair::new(1_024, 0, variant).node(TABLE))
+    beaten(Pair::new(LIMIT, 0, variant).node(TABLE))
 }
 
 /// A store with room for one, a full table, and a key that it lacks.
 fn one_new(variant: u64) -> Case {
-    let node = Pair::new(1_023, 0, variant).node(TABLE);
+    let node = Pair::new(LIMIT - 1, 0, variant).node(TABLE);
+    let keys = node.store.held();
     // Beside one that is held, in another place for each variant.
-    let key = node.store.held()[31 * variant as usize] + 1;
+    let apart = keys.len() / VARIANTS as usize;
+    let key = keys[apart * variant as usize] + 1;
     Case {
         key,
         ..beaten(node)
@@ -221,11 +245,12 @@ fn one_new(variant: u64) -> Case {
 
 /// A store with room for eight, and the claims of four pairs that it lacks.
 fn eight_new(variant: u64) -> Case {
-    let node = Pair::new(1_024, 16, variant).node(0);
+    let node = Pair::new(LIMIT, 16, variant).node(0);
     let keys = node.store.held();
+    let upper = keys.len() - 116;
     let claims: Vec<Claim> = (0..4)
         .map(|at| {
-            let (lo, hi) = (keys[100 + at] + 1, keys[900 + at] + 1);
+            let (lo, hi) = (keys[100 + at] + 1, keys[upper + at] + 1);
             Claim::new(lo, hi, lo ^ hi, 2)
         })
         .collect();
@@ -271,6 +296,12 @@ fn print_calls() {
     println!();
 }
 
+/// From 16 keys on twice as many each time, and at last all that fit.
+fn sizes() -> impl Iterator<Item = usize> {
+    let doubled = iter::successors(Some(16), |n| Some(2 * n));
+    doubled.take_while(|n| *n < LIMIT).chain([LIMIT])
+}
+
 /// How the time of a call grows with the keys held.
 fn print_growth() {
     println!("## How the time grows with n keys\n");
@@ -278,7 +309,7 @@ fn print_growth() {
     println!("|---:|---:|---|{RULE}|---:|---:|");
     for pending in [0, TABLE] {
         for (call, timed) in CALLS {
-            for n in [16, 32, 64, 128, 256, 512, 1_024] {
+            for n in sizes() {
                 let times = timed(&cases::heard(n, 0, pending));
                 let [rattle, second] = [times.time(), times.base()].map(|time| time / n as f64);
                 println!("| {n} | {pending} | {call} | {times} | {rattle:.2} | {second:.2} |");

@@ -4,11 +4,10 @@ use std::hint::black_box;
 
 use crate::cases::VARIANTS;
 use crate::timing::{Compared, compare};
-use crate::{CELLS, RULE, as_number};
-use second::RawStore;
+use crate::{CELLS, LIMIT, RULE, as_number};
 
 /// How many keys the kiosk is told.
-const KEYS: [usize; 3] = [64, 513, RawStore::LIMIT];
+const KEYS: [usize; 3] = [64, 513, LIMIT];
 
 fn rattle(keys: usize) -> i64 {
     as_number(minutefrost::opening_cost(keys))

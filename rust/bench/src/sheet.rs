@@ -2,12 +2,12 @@
 
 use crate::cases::{self, Case, Pair};
 use crate::timing::Compared;
-use crate::{CELLS, RULE, as_number, beaten, in_turns};
+use crate::{CELLS, LIMIT, RULE, as_number, beaten, in_turns, with_comma};
 use second::{RawNode, RawStore};
 
 /// How many random keys an image holds: none, some, those of a full page, all
 /// that fit.
-const RANDOM: [usize; 4] = [0, 16, 120, RawStore::LIMIT];
+const RANDOM: [usize; 4] = [0, 16, 120, LIMIT];
 
 /// Both programs lay out the sheets of the same images.
 fn sheet(cases: &[Case]) -> Compared {
@@ -25,7 +25,7 @@ fn random(keys: usize) -> Vec<Case> {
 
 /// Images of the lowest keys that there are, all the same.
 fn lowest() -> Vec<Case> {
-    let keys: Vec<u64> = (0..RawStore::LIMIT as u64).collect();
+    let keys: Vec<u64> = (0..LIMIT as u64).collect();
     cases::all(|_| beaten(RawNode::of(RawStore::of(&keys), &[])))
 }
 
@@ -38,8 +38,9 @@ pub fn print_sheets() {
     println!("## The wall sheet\n");
     println!(
         "Of an image with nothing pending, which is read and judged as `count` does it; then its keys are laid out. Nearly all \
-         random keys have 19 or 20 digits. The lowest keys, 0 to 1,023, have one to four, and of them, as of no key, all 32 cases \
-         are the same.\n"
+         random keys have 19 or 20 digits. The lowest keys, 0 to {}, have one to four, and of them, as of no key, all 32 cases \
+         are the same.\n",
+        with_comma(LIMIT - 1)
     );
     println!("| Keys | Which | Bytes | {CELLS} |");
     println!("|---:|---|---:|{RULE}|");
@@ -51,6 +52,6 @@ pub fn print_sheets() {
         let which = if keys == 0 { "none" } else { "random" };
         row(keys, which, random(keys));
     }
-    row(RawStore::LIMIT, "the lowest", lowest());
+    row(LIMIT, "the lowest", lowest());
     println!();
 }
