@@ -52,8 +52,8 @@ imageSheetOut image out = settle (firstNo (sheetQuestions image (length out))) (
 unfoldable pub openingTold : ℕ → ℤ
 openingTold keys = settle (firstNo (costQuestions keys)) (pos (openingCost keys)) minus
 
--- ---- an image that is written: after the questions of a call comes 15 ("the frame host call needs" the bytes of the longest one), and then a node's
--- image goes to the front of a buffer and its length is returned, or minus the number and the buffer is as it was
+-- ---- an image that is written: after the questions of a call comes 15 for the longest image ("and the host calls require that much output": document
+-- 02, slip 6), and then a node's image goes to the front of a buffer and its length is returned, or minus the number and the buffer is as it was
 
 abbrev pub savingQuestions : List Question → ℕ → List Question
 savingQuestions questions room = questions ++ (question15 room imageLimit ∷ [])

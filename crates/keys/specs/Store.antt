@@ -8,9 +8,9 @@ use lib.Dec.{ltb, leb, eqb}
 use lib.ListN.{length, take, drop, replicate}
 use Rattle.keys.specs.declared.store.Store.{Store}
 
--- "A store holds a count from 0 to 1,024 and 1,024 places."
+-- "A store holds a count from 0 to" the limit and as many places: "The limit becomes 2,048, in stores, in cnt and in unions" (document 02, slip 6).
 abbrev pub limit : ℕ
-limit = 1024
+limit = 2048
 
 -- n places of 0
 unfoldable pub zeros : ℕ → List ℕ

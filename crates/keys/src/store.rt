@@ -10,7 +10,7 @@ pub struct Store {
 }
 
 impl Store {
-    pub const LIMIT: usize = 1024;
+    pub const LIMIT: usize = 2048;
 
     pub const EMPTY: Store = Store {
         keys: [0; Store::LIMIT],

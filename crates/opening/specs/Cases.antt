@@ -50,4 +50,4 @@ called n x d = record { gives = costed n; wanted = record { number = x; deliveri
 
 -- the numbers for planners; "17, for n above the limit"
 abbrev pub calls : List Called
-calls = called 0 0 0 ∷ called 100 0 74 ∷ called 1000 0 716 ∷ called limit 0 726 ∷ called (limit + 1) 17 0 ∷ []
+calls = called 0 0 0 ∷ called 100 0 74 ∷ called 1000 0 716 ∷ called limit 0 1451 ∷ called (limit + 1) 17 0 ∷ []

@@ -62,7 +62,7 @@ lastLine left right deliveries = labelled leftWord left ++ (labelled rightWord r
 unfoldable pub report : Rehearsed → List Delivery → List ℕ
 report r ds = settle (r .number) (lines ds ++ lastLine (r .left) (r .right) (r .deliveries)) refusedLine
 
--- "lends 2,048 records": a number of its own, and not twice the limit of a store
+-- "The rehearsal program still lends 2,048 records" (document 02, slip 6): a number of its own, which does not follow the limit of a store
 abbrev pub lentRecords : ℕ
 lentRecords = 2048
 

@@ -19,5 +19,5 @@ unfolding zeros storeOf inOrder writeSheet linesText flatten decimal decimalIn i
 calls-hold = refl
 
 -- a line is 62 characters and a line feed; the last is a full store's
-pub sheet-sizes : (sheetLength 0 ≡ 63) × (sheetLength 3 ≡ 126) × (sheetLength 120 ≡ 2583) × (sheetLength 121 ≡ 2709) × (sheetLength limit ≡ 22113)
+pub sheet-sizes : (sheetLength 0 ≡ 63) × (sheetLength 3 ≡ 126) × (sheetLength 120 ≡ 2583) × (sheetLength 121 ≡ 2709) × (sheetLength limit ≡ 44163)
 sheet-sizes = (refl, refl, refl, refl, refl)

@@ -32,8 +32,8 @@ use Rattle.wire.specs.Sizes.{AsTold}
 use Rattle.wire.proofs.NumberLaws.{length-bytes}
 use Rattle.wire.proofs.RunLaws.{length-writeRun, key-faithful, claim-faithful}
 
--- "At most 9,860 bytes."
-pub image-size : imageLimit ≡ 9860
+-- "An image may have 18,052 bytes" (document 02, slip 6).
+pub image-size : imageLimit ≡ 18052
 image-size = refl
 
 -- its questions have numbers

@@ -50,7 +50,7 @@
 #include <stdint.h>
 
 /* The most keys that an image can hold. */
-#define MINUTEFROST_KEYS_MOST 1024
+#define MINUTEFROST_KEYS_MOST 2048
 
 /* The bytes of the longest image: what `out` needs, but for a sheet. */
 #define MINUTEFROST_IMAGE_MOST (2 + 8 * MINUTEFROST_KEYS_MOST + 2 + 26 * 64)

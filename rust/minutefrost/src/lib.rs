@@ -74,7 +74,7 @@
 /// words of refusals can have it too: `concat!` takes no constant.
 macro_rules! limit {
     () => {
-        1_024
+        2_048
     };
 }
 
@@ -358,8 +358,8 @@ mod tests {
     /// the customer's documents tell, and the one counted from their layout.
     #[test]
     fn sizes_are_those_of_the_documents() {
-        assert_eq!(IMAGE_MOST, 9_860);
-        assert_eq!(SHEET_MOST, 22_113);
+        assert_eq!(IMAGE_MOST, 18_052);
+        assert_eq!(SHEET_MOST, 44_163);
         // "An empty store is one page with its head line only."
         assert_eq!(sheet_length(0), 63);
     }

@@ -7,7 +7,7 @@ use crate::questions::{self, Asked, ask};
 use crate::store::{RawStore, Store};
 
 /// The length of the image of a full store and a full table, the longest there
-/// is.
+/// is. "the host calls require that much output" (document 02, slip 6).
 pub const IMAGE_MOST: usize = length_of_counts(RawStore::LIMIT, PENDING);
 
 /// The bytes of one key.

@@ -7,6 +7,8 @@ use crate::questions::{self, Asked, ask};
 use crate::round::{Delivery, run};
 
 /// "lends 2,048 records": a number of its own, whatever the store's limit is.
+/// It "still lends" them, so unions of more than half as many keys, within that
+/// limit, "get 9 there" (document 02, slip 6).
 pub const REHEARSAL_RECORDS: usize = 2_048;
 
 /// All that `rehearse` prints for this standard input, each line ended.

@@ -22,8 +22,9 @@ const _: () = assert!(RawStore::LIMIT <= u16::MAX as usize);
 impl RawStore {
     /// The limit: the most keys of a store, which has as many places. It
     /// belongs "to the store type", and all else that is said of it follows
-    /// from this one number.
-    pub const LIMIT: usize = 1_024;
+    /// from this one number, "in stores, in cnt and in unions" (document 02,
+    /// slip 6).
+    pub const LIMIT: usize = 2_048;
 
     /// "The empty store is" as many "zeros with count 0".
     pub fn empty() -> RawStore {

@@ -27,10 +27,10 @@ fn an_image_byte_by_byte() {
     assert_eq!(image_length(&out).length, 46);
 }
 
-/// "At most 9,860 bytes."
+/// "An image may have 18,052 bytes" (document 02, slip 6).
 #[test]
 fn the_length_of_the_longest_image() {
-    assert_eq!(IMAGE_MOST, 9_860);
+    assert_eq!(IMAGE_MOST, 18_052);
 }
 
 #[test]

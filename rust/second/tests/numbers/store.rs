@@ -4,10 +4,11 @@ use super::MAX;
 use super::common::*;
 use second::*;
 
-/// "A store holds a count from 0 to 1,024 and 1,024 places."
+/// "The limit becomes 2,048, in stores, in cnt and in unions" (document 02,
+/// slip 6).
 #[test]
 fn the_limit() {
-    assert_eq!(LIMIT, 1_024);
+    assert_eq!(LIMIT, 2_048);
 }
 
 /// "The empty store is" as many "zeros with count 0".
