@@ -403,12 +403,19 @@ fn sheet_by_strings(keys: &[u64]) -> String {
 
 #[test]
 fn sheets_of_any_store() {
+    let ways = Ways::default();
     for_seeds(200, |rng| {
         let density = rng.density();
         let keys = rng.keys(LIMIT, density);
+        ways.saw(match keys.len() {
+            0 => "empty",
+            LIMIT => "full",
+            _ => "some keys",
+        });
         let expected = sheet_by_strings(&keys);
         assert_eq!(sheet_of(&keys, expected.len()), expected);
     });
+    ways.all_of(&["empty", "full", "some keys"]);
 }
 
 #[test]

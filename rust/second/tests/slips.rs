@@ -125,6 +125,7 @@ fn j_a_span_has_room_for_its_count() {
     assert!(questions::of_claim(&c(5, 6, 3, 2)).is_ok());
 }
 
+/// "case k's 1,025 becomes 2,049" (document 02, slip 6): one above the limit.
 #[test]
 fn k_a_count_is_from_1_to_the_limit() {
     for (lo, hi) in [(0, u64::MAX), (3, 4), (7, 5_000)] {

@@ -3,7 +3,8 @@
 
 #![allow(dead_code)] // Each test file is a program that uses a part of this.
 
-use std::collections::BTreeSet;
+use std::cell::RefCell;
+use std::collections::{BTreeMap, BTreeSet};
 
 use second::*;
 
@@ -332,6 +333,27 @@ pub fn for_seeds(cases: u64, property: impl Fn(&mut Rng)) {
     for seed in seeds {
         let _told = Told(seed);
         property(&mut Rng(seed));
+    }
+}
+
+/// What came of the inputs that a test drew, each way with how often.
+#[derive(Default)]
+pub struct Ways(RefCell<BTreeMap<String, usize>>);
+
+impl Ways {
+    pub fn saw(&self, way: impl ToString) {
+        *self.0.borrow_mut().entry(way.to_string()).or_default() += 1;
+    }
+
+    /// Fails if the inputs never went one of these ways. One seed alone may
+    /// miss some.
+    pub fn all_of<T: ToString>(&self, ways: &[T]) {
+        if std::env::var("SECOND_SEED").is_err() {
+            let seen = self.0.borrow();
+            for way in ways.iter().map(T::to_string) {
+                assert!(seen.contains_key(&way), "never {way}: {seen:?}");
+            }
+        }
     }
 }
 

@@ -34,8 +34,14 @@ fn frames_round_trip() {
 
 #[test]
 fn images_round_trip() {
+    let ways = Ways::default();
     for_seeds(150, |rng| {
         let node = rng.node();
+        ways.saw(match (node.store.count, node.pending_count) {
+            (LIMIT, _) => "a full store",
+            (_, PENDING) => "a full table",
+            _ => "shorter",
+        });
         let mut out = vec![0x55; IMAGE_MOST + rng.below(5)];
         let written = write_image(&node, &mut out);
         assert_eq!(written.number, 0);
@@ -45,6 +51,7 @@ fn images_round_trip() {
         assert_eq!(image_length(&out).length, written.length);
         assert_eq!(read_image(image), ImageRead { number: 0, node });
     });
+    ways.all_of(&["a full store", "a full table", "shorter"]);
 }
 
 #[test]

@@ -10,13 +10,25 @@ use second::*;
 
 #[test]
 fn entering_is_that_of_sets() {
+    let ways = Ways::default();
     for_seeds(300, |rng| {
         let density = rng.density();
         let mut model = set(&rng.keys(LIMIT, density));
+        // So that the last places are taken, too.
+        for _ in 0..rng.below(9) {
+            model.pop_first();
+        }
         let mut store = store_of(&model);
         for _ in 0..40 {
             let key = rng.key(density);
             let entered = enter(store.clone(), key);
+            ways.saw(match (model.len(), model.contains(&key)) {
+                (LIMIT, true) => "held by a full store",
+                (LIMIT, false) => "no room",
+                (_, true) => "held",
+                (count, false) if count == LIMIT - 1 => "the last place",
+                (_, false) => "new",
+            });
             if model.len() == LIMIT && !model.contains(&key) {
                 assert_eq!((entered.number, &entered.store), (6, &store));
             } else {
@@ -27,6 +39,25 @@ fn entering_is_that_of_sets() {
             store = entered.store;
         }
     });
+    ways.all_of(&["held", "new", "the last place"]);
+    ways.all_of(&["held by a full store", "no room"]);
+}
+
+/// The number that a claim got, and whether its cnt was at the limit's edge.
+fn saw_claim(ways: &Ways, claim: &Claim, number: u8) {
+    ways.saw(number);
+    if claim.cnt == MOST_CNT && number == 0 {
+        ways.saw("cnt at the limit");
+    }
+    if claim.cnt == MOST_CNT + 1 && number == 3 {
+        ways.saw("cnt above the limit");
+    }
+}
+
+/// Every number that a claim can get in a store in order was seen.
+fn saw_every_claim(ways: &Ways) {
+    ways.all_of(&[0, 2, 3, 4, 5, 6, 16]);
+    ways.all_of(&["cnt at the limit", "cnt above the limit"]);
 }
 
 #[test]
@@ -57,6 +88,7 @@ fn claims_made_pass_2_to_5_and_16_and_match_at_home() {
 #[test]
 fn replies_are_those_of_sets() {
     let middle_keys = Cell::new(0);
+    let ways = Ways::default();
     for_seeds(600, |rng| {
         let density = rng.density();
         let keys = rng.keys(LIMIT, density);
@@ -65,6 +97,7 @@ fn replies_are_those_of_sets() {
             let claim = rng.claim(&keys, density);
             let replied = reply(store.clone(), claim);
             assert_eq!(replied.number, number(questions::of_reply(&store, &claim)));
+            saw_claim(&ways, &claim, replied.number);
             let (count, claims) = replied.claims();
             if replied.number != 0 {
                 assert_eq!((replied.reply, &replied.store), (None, &store));
@@ -87,6 +120,7 @@ fn replies_are_those_of_sets() {
         }
     });
     seen_often("middle keys", middle_keys.get());
+    saw_every_claim(&ways);
 }
 
 /// Fails if a property was idle: what it needs came only so many times.
@@ -99,6 +133,7 @@ pub fn seen_often(what: &str, times: usize) {
 #[test]
 fn taking_and_beating_are_those_of_sets() {
     let middle_keys = Cell::new(0);
+    let ways = Ways::default();
     for_seeds(150, |rng| {
         let density = rng.density();
         let mut keys = set(&rng.keys(LIMIT, density));
@@ -131,6 +166,7 @@ fn taking_and_beating_are_those_of_sets() {
                 let before = node.clone();
                 let taken = take(node, claim);
                 assert_eq!(taken.number, number(questions::of_take(&before, &claim)));
+                saw_claim(&ways, &claim, taken.number);
                 if taken.number == 0 {
                     let middle = learn_of_set(&mut keys, claim);
                     middle_keys.set(middle_keys.get() + usize::from(middle));
@@ -152,4 +188,5 @@ fn taking_and_beating_are_those_of_sets() {
         }
     });
     seen_often("middle keys", middle_keys.get());
+    saw_every_claim(&ways);
 }

@@ -138,7 +138,7 @@ fn damaged_bytes_are_answered() {
         ("host::beat", &[0, 1, 14, 15]),
         ("host::enter", &[0, 1, 6, 14, 15]),
         ("host::count", &[0, 1, 14]),
-        ("rehearse", &[0, 1, 8, 14]),
+        ("rehearse", &[0, 1, 8, 9, 14]),
     ] {
         for &number in numbers {
             assert!(seen.contains(&(call, number)), "{call} never {number}");
@@ -179,6 +179,7 @@ fn any_bytes_are_answered() {
 
 #[test]
 fn stores_and_nodes_of_any_content_are_answered() {
+    let ways = Ways::default();
     for_seeds(400, |rng| {
         let density = rng.density();
         let mut node = rng.node();
@@ -199,6 +200,7 @@ fn stores_and_nodes_of_any_content_are_answered() {
         let entered = enter(store.clone(), key);
         assert_eq!(entered.number, number(questions::of_enter(&store, key)));
         assert!(entered.number == 0 || entered.store == store);
+        ways.saw(format!("enter {}", entered.number));
         let last = rng.below(20);
         let made = make(&store, 0, last);
         assert_eq!(made.number, number(questions::of_make(&store, 0, last)));
@@ -229,5 +231,8 @@ fn stores_and_nodes_of_any_content_are_answered() {
             number(questions::of_round(&store, &other, records.len()))
         );
         assert!(rounded.number == 0 || (rounded.left == store && rounded.right == other));
+        ways.saw(format!("round {}", rounded.number));
     });
+    ways.all_of(&["enter 0", "enter 1", "enter 6"]);
+    ways.all_of(&["round 0", "round 1", "round 8"]);
 }

@@ -104,6 +104,7 @@ fn beaten(image: &[u8], lent: usize) -> Left {
 
 #[test]
 fn host_calls_on_saved_images_are_those_on_images_without() {
+    let ways = Ways::default();
     for_saved(900, |rng, saved| {
         let Saved { image, without, .. } = saved;
         let density = rng.density();
@@ -132,8 +133,10 @@ fn host_calls_on_saved_images_are_those_on_images_without() {
         ] {
             assert_eq!(left, expected);
             assert_eq!((-left.0).max(0), i64::from(number(asked)));
+            ways.saw(number(asked));
         }
     });
+    ways.all_of(&[0, 6, 13, 15]);
 }
 
 /// "Such an image is written back without it": image in, image out, image in

@@ -8,9 +8,11 @@ use second::*;
 
 #[test]
 fn rounds_are_those_of_sets() {
+    let ways = Ways::default();
     for_seeds(250, |rng| {
         let (left, right) = rng.pair();
         let union = set(&left).union(&set(&right)).count();
+        ways.saw(if union == LIMIT { "full" } else { "less" });
         let untouched = Delivery {
             sender: 77,
             claim: c(4, 3, 2, 1),
@@ -30,6 +32,7 @@ fn rounds_are_those_of_sets() {
         }
         assert!(kept.iter().all(|record| *record == untouched));
     });
+    ways.all_of(&["full", "less"]);
 }
 
 #[test]
@@ -93,6 +96,7 @@ fn rounds_rise_within_the_union_and_meet() {
 
 #[test]
 fn rounds_too_large_or_short_of_records() {
+    let ways = Ways::default();
     for_seeds(200, |rng| {
         let density = rng.density();
         let (left, right) = (rng.keys(LIMIT, density), rng.keys(LIMIT, density));
@@ -111,12 +115,14 @@ fn rounds_too_large_or_short_of_records() {
         let (left, right) = (RawStore::of(&left), RawStore::of(&right));
         let rounded = round(left.clone(), right.clone(), &mut lent);
         assert_eq!(rounded.number, expected);
+        ways.saw(expected);
         if expected != 0 {
             assert_eq!(rounded.deliveries, 0);
             assert_eq!((rounded.left, rounded.right), (left, right));
             assert!(lent.iter().all(|record| *record == Delivery::default()));
         }
     });
+    ways.all_of(&[0, 8, 9]);
 }
 
 /// The rehearsal told by sets, of two images that are in order.
@@ -143,7 +149,8 @@ fn rehearsal_of_sets(left: &[u64], right: &[u64]) -> String {
 
 #[test]
 fn rehearsals_are_rounds() {
-    for_seeds(60, |rng| {
+    let ways = Ways::default();
+    for_seeds(120, |rng| {
         let (left, right) = if rng.one_in(4) {
             let density = rng.density();
             (rng.keys(LIMIT, density), rng.keys(LIMIT, density))
@@ -151,6 +158,12 @@ fn rehearsals_are_rounds() {
             rng.pair()
         };
         let input = [image_of_keys(&left), image_of_keys(&right)].concat();
-        assert_eq!(rehearse(&input), rehearsal_of_sets(&left, &right));
+        let lines = rehearse(&input);
+        assert_eq!(lines, rehearsal_of_sets(&left, &right));
+        ways.saw(match lines.strip_prefix("refused ") {
+            Some(number) => number.trim_end(),
+            None => "run",
+        });
     });
+    ways.all_of(&["run", "8", "9"]);
 }
