@@ -3,18 +3,17 @@
 -- Assumes nothing.
 use mathlib.Core.Path.{_≡_, refl, sym, _∙_, ap}
 use mathlib.Core.Bool.{Bool, true, false, cond, not, _&&_, false≢true, and-true, and-false, and-assoc, and-comm}
-use mathlib.Core.List.{List, [], _∷_, _++_}
+use mathlib.Core.List.{List, [], _∷_}
 use Prim.Native.Nat.{ℕ, _+_, _-_, _≤_, _<_}
 use native.Mathlib.Numerals.{add-one}
 use native.Mathlib.Omega.{arith}
 use borrow.Author.Tests.{le-ltb, le-leb, lt-leb, eqb-true, eq-eqb, ne-eqb, not-true, not-false}
-use lib.Dec.{ltb, leb, eqb}
+use lib.Dec.{ltb, eqb}
 use lib.ListN.{length, take, drop, getD, drop-of-length-le, length-take}
-use lib.Seq.{drop-cons, getD-take, length-take-le, take-at, drop-at, take-length}
+use lib.Seq.{drop-cons, getD-take, length-take-le, take-length}
 use Rattle.keys.specs.declared.lent.Place.{Place}
-use Rattle.keys.specs.Store.{limit, storeOf, inOrder, holds}
+use Rattle.keys.specs.Store.{limit, inOrder, holds}
 use Rattle.keys.specs.Lent.{orderedIn, placeIn, storeWith}
-use Rattle.keys.proofs.StoreLaws.{keysOf-storeOf}
 use Rattle.keys.proofs.LentLaws.{orderedIn-inOrder, orderedIn-all, placeIn-ordered}
 use Rattle.claims.specs.declared.claim.Claim.{Claim}
 use Rattle.claims.specs.Claim.{noClaim}
@@ -24,8 +23,8 @@ use Rattle.claims.specs.Call.{judgedFormerly}
 use Rattle.claims.proofs.ClaimLaws.{same-claim}
 use Rattle.rule.specs.declared.node.Node.{Node}
 use Rattle.rule.specs.Table.{tableLimit, before, climbsFrom, climbs}
-use Rattle.rule.specs.Node.{blanks, holdsAll, allFit, allTell, allUnused, nodeOf, savedInOrder, nodeInOrder}
-use Rattle.rule.proofs.NodeLaws.{allUnused-blanks}
+use Rattle.rule.specs.Node.{holdsAll, allFit, allTell, allUnused, savedInOrder, nodeInOrder}
+use Rattle.rule.proofs.NodeLaws.{savedInOrder-nodeOf}
 use Rattle.rule.proofs.TableLaws.{before-total}
 use Rattle.nodes.specs.declared.order.Order.{Order}
 use Rattle.nodes.specs.Lent.{nodeWith, pending, orderOf, frontIn}
@@ -267,14 +266,6 @@ module _ (keys : List ℕ) (held : ℕ) (table : List Claim) (count : ℕ) (long
       ordered-unused e blank f = f ∙ sym (left-to-ask ∙ rw (not-false (found .given) e))
 
 -- ---- the node of some keys and claims, as one in an image
-
-savedInOrder-nodeOf : (l : List ℕ) (t : List Claim) → savedInOrder (nodeOf l t) ≡ (inOrder (storeOf l) && (leb (length t) tableLimit && pending t l))
-unfolding savedInOrder nodeOf
-savedInOrder-nodeOf l t =
-    let b : List Claim = blanks (tableLimit - length t) in
-    let front : take (length t) (t ++ b) ≡ t = take-at t b (length t) refl in
-    let past : drop (length t) (t ++ b) ≡ b = drop-at t b (length t) refl in
-    rw (front, past, keysOf-storeOf l, allUnused-blanks (tableLimit - length t), and-true (allFit t l))
 
 module _ (keys : List ℕ) (table : List Claim) (count : ℕ) where
   -- what the code is to return

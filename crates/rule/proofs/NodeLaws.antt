@@ -4,14 +4,14 @@
 -- Not here: the table (TableLaws). Assumes nothing.
 use Prim.Native.Nat.{ℕ, zero, suc, _+_, _-_, _≤_}
 use native.Mathlib.Nat.{zero-add, suc-add}
-use mathlib.Core.Bool.{Bool, true, cond, _&&_}
+use mathlib.Core.Bool.{Bool, true, cond, _&&_, and-true}
 use mathlib.Core.List.{List, [], _∷_, _++_, List·Memᴰ, List·Memᴰ·head, List·Memᴰ·tail, List·Memᴰ·not-nil, Memᴰ·cast, map}
 use mathlib.Core.Path.{_≡_, refl, sym, ap, _∙_, subst}
 use native.Mathlib.Omega.{arith}
 use borrow.Author.Tests.{leb-true, le-leb, eqb-true, eq-eqb}
 use lib.Dec.{leb, eqb}
 use lib.ListN.{length, take, drop, length-drop, length-replicate, take-append-drop, length-map}
-use lib.Seq.{length-take-le, take-append-seam, drop-append-seam}
+use lib.Seq.{length-take-le, take-append-seam, drop-append-seam, take-at, drop-at}
 use Rattle.keys.specs.declared.store.Store.{Store}
 use Rattle.keys.specs.Store.{limit, keysOf, storeOf, inOrder, holds}
 use Rattle.keys.proofs.Tests.{and-left, and-right, and-both}
@@ -210,6 +210,16 @@ saved-savedInOrder n o =
     (and-both b (c && (d && e)) (le-leb (n .count) tableLimit (o .count))
     (and-both c (d && e) (o .table)
     (and-both d e (mem-allFit (pendingOf n) (nodeKeys n) (o .fit)) (o .unused))))
+
+-- the node of some keys and claims, as one in an image
+pub savedInOrder-nodeOf : (l : List ℕ) (t : List Claim)
+    → savedInOrder (nodeOf l t) ≡ (inOrder (storeOf l) && (leb (length t) tableLimit && (climbs t && allFit t l)))
+unfolding savedInOrder nodeOf
+savedInOrder-nodeOf l t =
+    let b : List Claim = blanks (tableLimit - length t) in
+    let front : take (length t) (t ++ b) ≡ t = take-at t b (length t) refl in
+    let past : drop (length t) (t ++ b) ≡ b = drop-at t b (length t) refl in
+    rw (front, past, keysOf-storeOf l, allUnused-blanks (tableLimit - length t), and-true (allFit t l))
 
 -- in order by another judgement, if the pending claims fit by it
 rejudged : (a b : Claim → ℕ) (n : Node) → OrderedBy a n

@@ -9,13 +9,14 @@ use Rattle.wire.specs.Number.{number, bytes}
 use Rattle.wire.specs.Claim.{claimBytes, claimFrom}
 use Rattle.wire.specs.Frame.{headBytes, frameBytes, marked, countable, sized, readFrame, writeFrame, frameLent}
 use Rattle.wire.specs.Image.{imageBytes, countFits, countsFit, toldLength, parse, readImage, imageLength, writeImage, imageLent}
-use Rattle.wire.specs.Cases.{Row, table, faultyTable}
+use Rattle.wire.specs.OldLimit.{readUnder}
+use Rattle.wire.specs.Cases.{Row, table, faultyTable, oldTable}
 
 -- all that has to be opened to compute with the calls
 opened : Unit {0}
 unfolding zeros storeOf emptyStore inOrder judged judgedFormerly blanks nodeOf emptyNode savedInOrder nodeInOrder number bytes claimBytes claimFrom
     headBytes frameBytes marked countable sized readFrame writeFrame frameLent putAt
-    imageBytes countFits countsFit toldLength parse readImage imageLength writeImage imageLent
+    imageBytes countFits countsFit toldLength parse readImage imageLength writeImage imageLent readUnder
 opened = tt
 
 pub cases-hold : map (λ (r : Row). r .gives) table ≡ map (λ (r : Row). r .wanted) table
@@ -26,3 +27,8 @@ cases-hold = refl
 pub faulty-cases-hold : map (λ (r : Row). r .gives) faultyTable ≡ map (λ (r : Row). r .wanted) faultyTable
 unfolding opened
 faulty-cases-hold = refl
+
+-- images saved under the old limit
+pub old-cases-hold : map (λ (r : Row). r .gives) oldTable ≡ map (λ (r : Row). r .wanted) oldTable
+unfolding opened
+old-cases-hold = refl

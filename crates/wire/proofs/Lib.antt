@@ -12,6 +12,7 @@
 --   ImagePaths    the ways of src/image.rt
 --   SectionLaws   a section at the front of some bytes, both ways
 --   ImageTrips    the round trips of images
+--   OldLimitLaws  images saved under the old limit
 --   Cases         the worked examples
 pub mod NumberLaws
 pub mod ClaimLaws
@@ -25,4 +26,5 @@ pub mod LentLaws
 pub mod ImagePaths
 pub mod SectionLaws
 pub mod ImageTrips
+pub mod OldLimitLaws
 pub mod Cases

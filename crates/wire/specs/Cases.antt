@@ -1,5 +1,6 @@
 -- Worked examples over the call definitions, as one table: a frame and an image byte by byte, and each way to be refused; then, as a second
--- one, claims of three that no store could make. That each row gives what is wanted is one law for each table, in proofs/Cases. Assumes nothing.
+-- one, claims of three that no store could make, and as a third images saved under the old limit. That each row gives what is wanted is one law for each
+-- table, in proofs/Cases. Assumes nothing.
 use Prim.Native.Nat.{ℕ, _+_, _*_}
 use mathlib.Core.List.{List, [], _∷_, _++_}
 use lib.ListN.{take, replicate}
@@ -15,6 +16,7 @@ use Rattle.wire.specs.Number.{bytes}
 use Rattle.wire.specs.Claim.{keyWidth, countWidth}
 use Rattle.wire.specs.Frame.{frameBytes, fourOf, noFrame, readFrame, writeFrame, frameLent}
 use Rattle.wire.specs.Image.{imageLimit, imageBytes, noImage, readImage, imageLength, writeImage, imageLent}
+use Rattle.wire.specs.OldLimit.{oldLimit, Read, readUnder}
 
 -- what a row compares
 pub data Compared : Type 0 where
@@ -22,6 +24,7 @@ pub data Compared : Type 0 where
   image-is : Imaged → Compared
   length-is : Length → Compared
   bytes-are : List ℕ → Compared
+  read-is : Read → Compared
 
 pub record Row : Type 0 where
   pub gives : Compared
@@ -58,6 +61,10 @@ imageWrites n room bs = record { gives = bytes-are (imageLent n (replicate room 
 
 abbrev pub imageLengthIs : Node → ℕ → ℕ → ℕ → Row
 imageLengthIs n room number long = record { gives = length-is (writeImage n room); wanted = length-is (record { number = number; length = long }) }
+
+-- the bytes of an image of n keys, each of them 0, with nothing pending
+abbrev pub zeroKeys : ℕ → List ℕ
+zeroKeys n = bytes countWidth n ++ replicate (keyWidth * n + countWidth) 0
 
 -- a small number in 8 bytes, high byte first
 abbrev pub eight : ℕ → List ℕ
@@ -126,7 +133,7 @@ table =
     ∷ imageGives (0 ∷ 0 ∷ 0 ∷ 0 ∷ []) emptyNode
     -- nothing, a count too high, a second count that is missing, a length that the counts belie
     ∷ imageGets [] 14
-    ∷ imageGets (bytes countWidth (limit + 1) ++ replicate (keyWidth * (limit + 1) + countWidth) 0) 14
+    ∷ imageGets (zeroKeys (limit + 1)) 14
     ∷ imageGets (0 ∷ 1 ∷ eight 7) 14
     ∷ imageGets (nodeImage ++ (0 ∷ [])) 14
     ∷ imageGets (take 53 nodeImage) 14
@@ -176,4 +183,34 @@ faultyTable =
     ∷ imageGets (imageBytes (10 ∷ 0 ∷ []) faulty) 1
     -- a node that is given with one gets 1
     ∷ imageLengthIs (nodeOf (0 ∷ 10 ∷ []) faulty) imageLimit 1 0
+    ∷ []
+
+-- ---- images saved under the old limit (document 02, slip 6)
+
+-- some bytes read under it, with the number and with the keys and claims that come of it
+abbrev pub readFormerly : List ℕ → ℕ → List ℕ → List Claim → Row
+readFormerly bs n ks cs = record {
+  gives = read-is (readUnder oldLimit bs);
+  wanted = read-is (record { number = n; contents = record { keys = ks; pending = cs } });
+}
+
+-- two keys far enough apart for a claim of any count, and an image of them with a claim of n keys pending
+abbrev pub apart : List ℕ
+apart = 0 ∷ 2 * limit ∷ []
+
+abbrev pub counting : ℕ → List Claim
+counting n = claim 0 (2 * limit) 7 n ∷ []
+
+abbrev pub oldTable : List Row
+oldTable =
+    -- what slip 2 leaves out is left out whatever the limit
+    readFormerly savedImage 0 (0 ∷ 10 ∷ []) soundClaims
+    -- a claim that counts as many keys as the old limit; one key more got 1, and is taken now
+    ∷ readFormerly (imageBytes apart (counting oldLimit)) 0 apart (counting oldLimit)
+    ∷ readFormerly (imageBytes apart (counting (oldLimit + 1))) 1 [] []
+    ∷ imageGives (imageBytes apart (counting (oldLimit + 1))) (nodeOf apart (counting (oldLimit + 1)))
+    -- as many keys as the old limit, all equal; one more got 14, and gets now what the others got
+    ∷ readFormerly (zeroKeys oldLimit) 1 [] []
+    ∷ readFormerly (zeroKeys (oldLimit + 1)) 14 [] []
+    ∷ imageGets (zeroKeys (oldLimit + 1)) 1
     ∷ []
