@@ -18,6 +18,6 @@ pub mod opening;
 pub mod program;
 pub mod sheet;
 
-/// The keys of a store that was full when the cards in `tests/data/faulty` were
-/// written: none of them has more, whatever a store can hold now.
+/// The keys of a store that was full before slip 6 of document 02: none of the
+/// cards that were written until then has more, whatever a store can hold now.
 pub const OLD_LIMIT: usize = 1_024;

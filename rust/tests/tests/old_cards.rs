@@ -14,7 +14,8 @@ mod wallsheet;
 use cards::{Card, cards_of, faulty_cards, keys_in, sound_cards};
 use minutefrost::{BEAT_FRAMES, IMAGE_MOST, Refusal, SHEET_MOST, frames};
 use second::{Claim, RawStore, host};
-use tests::draw::{frame_of, image_of};
+use tests::OLD_LIMIT;
+use tests::draw::{claim_of, claims_in, frame_of, image_of};
 use tests::sheet;
 
 /// What a call leaves: its answer, the image it wrote, and the buffer for
@@ -73,6 +74,36 @@ fn images_hold_what_they_held() -> Result<(), Refusal> {
         assert_eq!((read.number, held), (0, card.holds), "{}", card.name);
         assert_eq!(read.node.store.held(), keys, "{}", card.name);
         assert!(minutefrost::keys(&card.image)?.eq(keys), "{}", card.name);
+    }
+    Ok(())
+}
+
+/// The bytes of the longest image before slip 6 of document 02.
+const OLD_IMAGE_MOST: usize = 9_860;
+
+/// "Images saved under the old limit mean the same" (document 02, slip 6). Of a
+/// kiosk that was full there are two cards of each state, one of them as long as
+/// an image could be. They are read as just the keys and claims that stand in
+/// their bytes; only that there is room again is new.
+#[test]
+fn full_cards_mean_the_same_and_have_room() -> Result<(), Refusal> {
+    let full = |card: &Card| card.holds.0 == OLD_LIMIT;
+    let cards: Vec<Card> = sound_cards().into_iter().filter(full).collect();
+    let longest = cards
+        .iter()
+        .filter(|card| card.image.len() == OLD_IMAGE_MOST);
+    assert_eq!((cards.len(), longest.count()), (12, 6));
+    for card in cards {
+        let mut keys = keys_in(&card.image);
+        let pending = claims_in(&card.image[4 + 8 * keys.len()..]);
+        let read = second::read_image(&card.image);
+        assert_eq!(read.node.table(), pending, "{}", card.name);
+        let new = keys[keys.len() / 2] + 1;
+        assert!(keys.binary_search(&new).is_err(), "{}", card.name);
+        let taken = take(&card.image, &frame_of(&[claim_of(&[new])]))?;
+        keys.insert(keys.len() / 2 + 1, new);
+        assert_eq!(enter(&card.image, new)?, image_of(&keys, &pending));
+        assert_eq!(keys_in(&taken), keys, "{}", card.name);
     }
     Ok(())
 }
