@@ -46,6 +46,9 @@ const CALLS: [Called; 4] = [
     ("count", |host, case, _| host.count(&case.image)),
 ];
 
+/// How many keys a union has, and how many of them differ.
+type Row = (usize, usize);
+
 /// What is timed of this checkout and of the one before, at one place.
 type Two<T> = [T; 2];
 
@@ -59,11 +62,25 @@ pub fn print(before: &Path) -> io::Result<()> {
         Ok(searches) => print_searches(&searches),
         Err(why) => println!("The search is not timed: {why}.\n"),
     }
-    print_host(&loaded(before, Host::of)?);
+    let hosts = loaded(before, Host::of)?;
+    let rows = rows_of_both(hosts[0]);
+    print_host(&hosts, &rows);
     let rounds = loaded(before, TimedRound::of)?;
-    print_rounds(&rounds);
-    print_deliveries(rounds[0]);
+    print_rounds(&rounds, &rows);
+    print_deliveries(rounds[0], &rows);
     Ok(())
+}
+
+/// The unions and differences whose images both take: a store of the other
+/// checkout may hold fewer keys, and then its calls refuse them by 14.
+fn rows_of_both(hosts: Two<Host>) -> Vec<Row> {
+    let takes = |union| {
+        let case = &cases::heard(union, 0, 0)[0];
+        hosts
+            .iter()
+            .all(|host| host.take_frame(&case.image, &[], &mut []) != -14)
+    };
+    differences().filter(|(union, _)| takes(*union)).collect()
 }
 
 /// Of how many cases both give other bytes.
@@ -138,13 +155,13 @@ fn print_searches(places: &[Two<Search>]) {
     println!();
 }
 
-fn print_host(places: &[Two<Host>]) {
+fn print_host(places: &[Two<Host>], rows: &[Row]) {
     println!("| Union | Differing | Pending | Call | {CELLS} | {UNLIKE} |");
     println!("|---:|---:|---:|---|{RULE}|{UNLIKE_RULE}|");
     let [now, before] = places[0];
     let all = places.iter().flatten().all(Host::has_enter_and_count);
     let calls = if all { 4 } else { 2 };
-    for (union, differing) in differences() {
+    for &(union, differing) in rows {
         for pending in [0, TABLE] {
             let cases = cases::heard(union, differing, pending);
             let pending = cases[0].pending;
@@ -159,11 +176,11 @@ fn print_host(places: &[Two<Host>]) {
     println!();
 }
 
-fn print_rounds(places: &[Two<TimedRound>]) {
+fn print_rounds(places: &[Two<TimedRound>], rows: &[Row]) {
     println!("| Union | Differing | Deliveries | {CELLS} | {UNLIKE} |");
     println!("|---:|---:|---:|{RULE}|{UNLIKE_RULE}|");
     let [now, before] = places[0];
-    for (union, differing) in differences() {
+    for &(union, differing) in rows {
         let cases = round::row(union, differing);
         let deliveries = Deliveries::agreed(&cases, now).mean();
         let unlike = unlike(&cases, |case| case.made(now), |case| case.made(before));
@@ -177,10 +194,10 @@ fn print_rounds(places: &[Two<TimedRound>]) {
 }
 
 /// How many deliveries both make, and the ratio of the means.
-fn print_deliveries([now, before]: Two<TimedRound>) {
+fn print_deliveries([now, before]: Two<TimedRound>, rows: &[Row]) {
     println!("| Union | Differing | now: {COUNTS} | before: {COUNTS} | ratio |");
     println!("|---:|---:|{COUNTS_RULE}|{COUNTS_RULE}|---:|");
-    for (union, differing) in deliveries::rows() {
+    for (union, differing) in deliveries::of(rows.iter().copied()) {
         let cases = round::row(union, differing);
         let now = Deliveries::agreed(&cases, now);
         let before = Deliveries::of(&cases, before);

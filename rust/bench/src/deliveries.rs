@@ -40,9 +40,10 @@ impl fmt::Display for Deliveries {
     }
 }
 
-/// The rows: where no key differs, each end just hears the other's whole claim.
-pub fn rows() -> impl Iterator<Item = (usize, usize)> {
-    differences().filter(|(_, differing)| *differing > 0)
+/// Those of some rows that are told: where no key differs, each end just hears
+/// the other's whole claim.
+pub fn of(rows: impl Iterator<Item = (usize, usize)>) -> impl Iterator<Item = (usize, usize)> {
+    rows.filter(|(_, differing)| *differing > 0)
 }
 
 pub fn print(program: TimedRound) {
@@ -53,7 +54,7 @@ pub fn print(program: TimedRound) {
     );
     println!("| Union | Differing | {COUNTS} |");
     println!("|---:|---:|{COUNTS_RULE}|");
-    for (union, differing) in rows() {
+    for (union, differing) in of(differences()) {
         let deliveries = Deliveries::agreed(&round::row(union, differing), program);
         println!("| {union} | {differing} | {deliveries} |");
     }

@@ -29,8 +29,9 @@ use timing::{Compared, compare};
 /// The most keys of a store.
 const LIMIT: usize = RawStore::LIMIT;
 
-/// The keys of a union.
-const UNIONS: [usize; 3] = [16, 128, LIMIT];
+/// The keys of a union: 1,024 were all that fit until slip 6 of document 02, so
+/// that these rows can be held against earlier ones.
+const UNIONS: [usize; 4] = [16, 128, 1_024, LIMIT];
 
 /// How many of them differ, where the union has as many; then all.
 const DIFFERING: [usize; 3] = [0, 1, 24];
