@@ -72,7 +72,8 @@ table =
     ∷ refuses (claim 5 5 0 1) 5
     -- j. (5, 6, 3, 3): 4.
     ∷ refuses (claim 5 6 3 3) 4
-    -- k. cnt 0 or the limit plus 1 ("case k's 1,025 becomes 2,049": document 02, slip 6) with lo < hi: 3. (For every lo < hi and sum: `judged-count` of proofs/Cases.)
+    -- k. cnt 0 or the limit plus 1 ("case k's 1,025 becomes 2,049": document 02, slip 6) with lo < hi: 3.
+    -- (For every lo < hi and sum: `judged-count` of proofs/Cases.)
     ∷ refuses (claim 5 (2 * limit) 0 0) 3
     ∷ refuses (claim 5 (2 * limit) 0 (limit + 1)) 3
     -- l. (9, 5, 12, 2): 2.

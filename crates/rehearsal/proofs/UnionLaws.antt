@@ -35,7 +35,8 @@ module _ (input : List ℕ) where
       let number : rehearsed input lentRecords .number ≡ n = rehearsed-number input lentRecords ∙ e in
       settle-refused (rehearsed input lentRecords .number) _ refusedLine (λ z. f (sym number ∙ z)) ∙ ap refusedLine number
 
-  module _ (front : frontQuestion14 input .yes ≡ true) (first : readImage (firstBytes input) .number ≡ 0) (second : readImage (secondBytes input) .number ≡ 0) where
+  module _ (front : frontQuestion14 input .yes ≡ true)
+      (first : readImage (firstBytes input) .number ≡ 0) (second : readImage (secondBytes input) .number ≡ 0) where
     abbrev left : Store
     left = storeIn (firstBytes input)
 

@@ -1,7 +1,7 @@
 -- "Images saved under the old limit mean the same." (document 02, slip 6) Reading an image, as Image has it, with the limit as a parameter of the judging:
 -- of how many keys an image may have (14), and of how many a pending claim may count (3). That with today's limit this is what the call returns, and that
--- what is accepted under a lower one is read as the same contents, is in proofs/OldLimitLaws. Assumes nothing.
-use Prim.Native.Nat.{ℕ}
+-- what is accepted under one limit and keeps within another is read as the same, is in proofs/OldLimitLaws. Assumes nothing.
+use Prim.Native.Nat.{ℕ, _≤_}
 use mathlib.Core.Bool.{Bool, true, _&&_}
 use mathlib.Core.List.{List, [], _∷_}
 use lib.Dec.{leb, eqb}
@@ -13,8 +13,8 @@ use Rattle.claims.specs.Reply.{ends}
 use Rattle.rule.specs.Table.{climbs}
 use Rattle.rule.specs.Node.{holdsAll}
 use Rattle.wire.specs.declared.answer.Imaged.{Imaged}
-use Rattle.wire.specs.Run.{key}
-use Rattle.wire.specs.Image.{Section, claimSection, countsFit, toldLength, Contents, parse, nodeFrom, used}
+use Rattle.wire.specs.Run.{key, Each}
+use Rattle.wire.specs.Image.{Section, claimSection, countOf, countsFit, toldLength, Contents, parse, nodeFrom, used}
 
 -- the limit before slip 6
 abbrev pub oldLimit : ℕ
@@ -65,3 +65,12 @@ readUnder most bs = settle (firstNo (questionsUnder most bs)) (record { number =
 -- .. as the call returns it: a node of these keys and claims
 abbrev pub imagedAs : Read → Imaged
 imagedAs r = record { number = r .number; node = nodeFrom (r .contents) }
+
+-- ---- which images keep within a limit
+
+abbrev pub CountsTo : ℕ → Claim → Type 0
+CountsTo most c = c .cnt ≤ most
+
+-- no more keys than that, and no pending claim that counts more
+abbrev pub Within : ℕ → List ℕ → Type 0
+Within most bs = (countOf bs ≤ most) × Each (CountsTo most) (parse bs .pending)
