@@ -8,7 +8,8 @@ use lib.Dec.{ltb, leb, eqb}
 use lib.ListN.{length, take, drop, replicate}
 use Rattle.keys.specs.declared.store.Store.{Store}
 
--- "A store holds a count from 0 to" the limit and as many places: "The limit becomes 2,048, in stores, in cnt and in unions" (document 02, slip 6).
+-- "A store holds a count from 0 to" the limit and as many places. "The limit becomes 2,048, in stores, in cnt and in unions" (document 02, slip 6).
+-- "Questions 3, 6, 8 and 14 use the new limit, and so does the premise on how many keys a list enters": all of them cite this number.
 abbrev pub limit : ℕ
 limit = 2048
 
