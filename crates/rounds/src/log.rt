@@ -1,5 +1,6 @@
 // The lent run of transcript records, as a slice of delivery structs (document 01, "A round"): a record stored, a record read, and the round over them.
-// The round's core works on words (`transcript`). Its words stand in a local array here, and each record is stored once.
+// The round's core works on words (`transcript`). Its words stand in a local array here, ten for each key that a store can hold, and each record is stored
+// once.
 // put, get, copy_out, round and round_record hold or make a reference to structs, so their proofs are walks by hand; the others are covered.
 ghost use mathlib.Core.Path.{_≡_};
 ghost use lib.ListN.{length, set, getD};

@@ -94,10 +94,52 @@ fn entering_and_counting_are_those_of_stores() {
     }
 }
 
+/// A node that takes claims in turn, and the number of the first one refused.
+fn taken_in_turn(mut node: RawNode, claims: &[Claim]) -> (RawNode, u8) {
+    for claim in claims {
+        let taken = take(node, *claim);
+        node = taken.node;
+        if taken.number != 0 {
+            return (node, taken.number);
+        }
+    }
+    (node, 0)
+}
+
+/// The host call's beat of a node's image is the beat of the node.
+fn beats_alike(node: RawNode, image: &[u8], rng: &mut Rng) {
+    let mut new = vec![0x44; IMAGE_MOST + rng.below(3)];
+    let mut frames = vec![0x66; host::BEAT_FRAMES + rng.below(3)];
+    let length = host::beat(image, &mut new, &mut frames);
+    let mut run = vec![0; BEAT_WORDS];
+    let beaten = beat(node, &mut run);
+    let claims: Vec<Claim> = run[..4 * beaten.written]
+        .chunks(4)
+        .map(|words| c(words[0], words[1], words[2], words[3] as u16))
+        .collect();
+    let expected: Vec<u8> = claims.chunks(4).flat_map(frame_of).collect();
+    assert_eq!(length, expected.len() as i64);
+    assert_eq!(frames[..expected.len()], expected);
+    assert!(frames[expected.len()..].iter().all(|&byte| byte == 0x66));
+    let expected = image_of(beaten.node.store.held(), beaten.node.table());
+    assert_eq!(new[..expected.len()], expected);
+    assert!(new[expected.len()..].iter().all(|&byte| byte == 0x44));
+}
+
+/// How much is lent for an image: mostly enough.
+fn room_for_image(rng: &mut Rng) -> usize {
+    match rng.below(6) {
+        0 => 0,
+        1 => IMAGE_MOST - 1,
+        2 => IMAGE_MOST + 1,
+        _ => IMAGE_MOST,
+    }
+}
+
 #[test]
 fn host_calls_are_the_calls_on_nodes() {
     for_seeds(250, |rng| {
-        let mut node = rng.node();
+        let node = rng.node();
         let image = image_of(node.store.held(), node.table());
         let density = rng.density();
         let held = node.store.held().to_vec();
@@ -105,29 +147,16 @@ fn host_calls_are_the_calls_on_nodes() {
             .map(|_| rng.claim(&held, density))
             .filter(|claim| questions::of_claim(claim).is_ok())
             .collect();
-        let room = *rng.pick(&[
-            IMAGE_MOST,
-            IMAGE_MOST,
-            IMAGE_MOST,
-            IMAGE_MOST + 1,
-            IMAGE_MOST - 1,
-            0,
-        ]);
+        let room = room_for_image(rng);
         let mut out = vec![0x55; room];
         let answer = host::take_frame(&image, &frame_of(&claims), &mut out);
 
-        let mut refused = if claims.is_empty() { 12 } else { 0 };
-        for claim in &claims {
-            let taken = take(node, *claim);
-            node = taken.node;
-            refused = taken.number;
-            if refused != 0 {
-                break;
-            }
-        }
-        if refused == 0 && room < IMAGE_MOST {
-            refused = 15;
-        }
+        let (node, refused) = taken_in_turn(node, &claims);
+        let refused = match refused {
+            _ if claims.is_empty() => 12,
+            0 if room < IMAGE_MOST => 15,
+            number => number,
+        };
         if refused != 0 {
             assert_eq!(answer, -i64::from(refused));
             assert!(out.iter().all(|&byte| byte == 0x55));
@@ -137,23 +166,6 @@ fn host_calls_are_the_calls_on_nodes() {
         assert_eq!(answer, expected.len() as i64);
         assert_eq!(out[..expected.len()], expected);
         assert!(out[expected.len()..].iter().all(|&byte| byte == 0x55));
-
-        // And a beat of what came of it.
-        let mut new = vec![0x44; IMAGE_MOST + rng.below(3)];
-        let mut frames = vec![0x66; host::BEAT_FRAMES + rng.below(3)];
-        let length = host::beat(&expected, &mut new, &mut frames);
-        let mut run = vec![0; BEAT_WORDS];
-        let beaten = beat(node, &mut run);
-        let claims: Vec<Claim> = run[..4 * beaten.written]
-            .chunks(4)
-            .map(|words| c(words[0], words[1], words[2], words[3] as u16))
-            .collect();
-        let expected: Vec<u8> = claims.chunks(4).flat_map(frame_of).collect();
-        assert_eq!(length, expected.len() as i64);
-        assert_eq!(frames[..expected.len()], expected);
-        assert!(frames[expected.len()..].iter().all(|&byte| byte == 0x66));
-        let expected = image_of(beaten.node.store.held(), beaten.node.table());
-        assert_eq!(new[..expected.len()], expected);
-        assert!(new[expected.len()..].iter().all(|&byte| byte == 0x44));
+        beats_alike(node, &expected, rng);
     });
 }

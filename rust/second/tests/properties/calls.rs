@@ -130,6 +130,44 @@ pub fn seen_often(what: &str, times: usize) {
     }
 }
 
+/// Pending claims as sets have them, by rank.
+type Table = BTreeSet<(u16, u64, u64, u64)>;
+
+/// A beat of a node, which writes what one of these keys and this table does;
+/// the node afterwards.
+fn beaten_as_set(node: RawNode, keys: &BTreeSet<u64>, table: &mut Table, more: usize) -> RawNode {
+    let mut run = vec![7; BEAT_WORDS + more];
+    let beaten = beat(node, &mut run);
+    let held: Vec<u64> = keys.iter().copied().collect();
+    let mut expected = Vec::new();
+    if !held.is_empty() {
+        expected.push(claim_of(&held));
+    }
+    table.retain(|&(cnt, lo, hi, sum)| {
+        let (asks, claims) = reply_of_set(keys, c(lo, hi, sum, cnt));
+        expected.extend(claims);
+        asks
+    });
+    assert_eq!((beaten.number, beaten.written), (0, expected.len()));
+    let (written, kept) = run.split_at(4 * beaten.written);
+    for (words, claim) in written.chunks(4).zip(&expected) {
+        let cnt = u64::from(claim.cnt);
+        assert_eq!(words, [claim.lo, claim.hi, claim.sum, cnt]);
+    }
+    assert!(kept.iter().all(|&word| word == 7));
+    beaten.node
+}
+
+/// Keys and a table that hear a claim; whether it told a middle key.
+fn heard_by_set(keys: &mut BTreeSet<u64>, table: &mut Table, claim: Claim) -> bool {
+    let middle = learn_of_set(keys, claim);
+    table.insert(claim.rank());
+    if table.len() == 65 {
+        table.pop_last();
+    }
+    middle
+}
+
 #[test]
 fn taking_and_beating_are_those_of_sets() {
     let middle_keys = Cell::new(0);
@@ -137,52 +175,28 @@ fn taking_and_beating_are_those_of_sets() {
     for_seeds(150, |rng| {
         let density = rng.density();
         let mut keys = set(&rng.keys(LIMIT, density));
-        let mut table = BTreeSet::new();
+        let mut table = Table::new();
         let mut node = RawNode::of(store_of(&keys), &[]);
         for _ in 0..120 {
-            let held: Vec<u64> = keys.iter().copied().collect();
             if rng.one_in(60) {
-                let mut run = vec![7; BEAT_WORDS + rng.below(9)];
-                let beaten = beat(node, &mut run);
-                let mut expected = Vec::new();
-                if !held.is_empty() {
-                    expected.push(claim_of(&held));
-                }
-                table.retain(|&(cnt, lo, hi, sum)| {
-                    let (asks, claims) = reply_of_set(&keys, c(lo, hi, sum, cnt));
-                    expected.extend(claims);
-                    asks
-                });
-                assert_eq!((beaten.number, beaten.written), (0, expected.len()));
-                let (written, kept) = run.split_at(4 * beaten.written);
-                for (words, claim) in written.chunks(4).zip(&expected) {
-                    let cnt = u64::from(claim.cnt);
-                    assert_eq!(words, [claim.lo, claim.hi, claim.sum, cnt]);
-                }
-                assert!(kept.iter().all(|&word| word == 7));
-                node = beaten.node;
+                node = beaten_as_set(node, &keys, &mut table, rng.below(9));
             } else {
+                let held: Vec<u64> = keys.iter().copied().collect();
                 let claim = rng.claim(&held, density);
                 let before = node.clone();
                 let taken = take(node, claim);
                 assert_eq!(taken.number, number(questions::of_take(&before, &claim)));
                 saw_claim(&ways, &claim, taken.number);
                 if taken.number == 0 {
-                    let middle = learn_of_set(&mut keys, claim);
+                    let middle = heard_by_set(&mut keys, &mut table, claim);
                     middle_keys.set(middle_keys.get() + usize::from(middle));
-                    table.insert(claim.rank());
-                    if table.len() == 65 {
-                        table.pop_last();
-                    }
                 } else {
                     assert_eq!(taken.node, before);
                 }
                 node = taken.node;
             }
-            let pending: Vec<Claim> = table
-                .iter()
-                .map(|&(cnt, lo, hi, sum)| c(lo, hi, sum, cnt))
-                .collect();
+            let claims = table.iter().map(|&(cnt, lo, hi, sum)| c(lo, hi, sum, cnt));
+            let pending: Vec<Claim> = claims.collect();
             assert_eq!(node, RawNode::of(store_of(&keys), &pending));
             assert!(questions::q1_node_in_order(&node));
         }

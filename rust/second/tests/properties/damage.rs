@@ -177,61 +177,71 @@ fn any_bytes_are_answered() {
     });
 }
 
+/// Puts a count, a key or a claim anywhere in a node, or nothing.
+fn bend(node: &mut RawNode, density: usize, rng: &mut Rng) {
+    for _ in 0..rng.below(3) {
+        match rng.below(6) {
+            0 => node.store.count = rng.below(LIMIT + 6),
+            1 => node.store.count = rng.next() as usize,
+            2 => node.store.keys[rng.below(LIMIT)] = rng.key(density),
+            3 => node.pending_count = rng.below(70),
+            4 => node.pending_count = rng.next() as usize,
+            _ => node.pending[rng.below(64)] = rng.claim(&[], density),
+        }
+    }
+}
+
+/// A store of any content is entered into, made a claim of and replied by.
+fn store_is_answered(store: &RawStore, density: usize, rng: &mut Rng, ways: &Ways) {
+    let (claim, key) = (rng.claim(&[], density), rng.key(density));
+    let entered = enter(store.clone(), key);
+    assert_eq!(entered.number, number(questions::of_enter(store, key)));
+    assert!(entered.number == 0 || entered.store == *store);
+    ways.saw(format!("enter {}", entered.number));
+    let last = rng.below(20);
+    let made = make(store, 0, last);
+    assert_eq!(made.number, number(questions::of_make(store, 0, last)));
+    let replied = reply(store.clone(), claim);
+    assert_eq!(replied.number, number(questions::of_reply(store, &claim)));
+    assert!(replied.number == 0 || replied.store == *store);
+
+    let other = RawStore::of(&rng.keys(100, density));
+    let mut records = vec![Delivery::default(); 2 * LIMIT];
+    let rounded = round(store.clone(), other.clone(), &mut records);
+    let asked = questions::of_round(store, &other, records.len());
+    assert_eq!(rounded.number, number(asked));
+    assert!(rounded.number == 0 || (rounded.left == *store && rounded.right == other));
+    ways.saw(format!("round {}", rounded.number));
+}
+
+/// A node of any content takes a claim, beats and is written.
+fn node_is_answered(node: &RawNode, density: usize, rng: &mut Rng) {
+    let claim = rng.claim(&[], density);
+    let taken = take(node.clone(), claim);
+    assert_eq!(taken.number, number(questions::of_take(node, &claim)));
+    assert!(taken.number == 0 || taken.node == *node);
+    assert!(taken.number != 0 || questions::q1_node_in_order(&taken.node));
+    let words = *rng.pick(&[BEAT_WORDS - 1, BEAT_WORDS]);
+    let mut run = vec![7; words];
+    let beaten = beat(node.clone(), &mut run);
+    assert_eq!(beaten.number, number(questions::of_beat(node, words / 4)));
+    assert!(beaten.number == 0 || (beaten.node == *node && run == vec![7; words]));
+    assert!(beaten.number != 0 || questions::q1_node_in_order(&beaten.node));
+    let mut out = vec![0x55; rng.below(IMAGE_MOST + 1)];
+    let written = write_image(node, &mut out);
+    let asked = questions::of_write_image(node, out.len());
+    assert_eq!(written.number, number(asked));
+}
+
 #[test]
 fn stores_and_nodes_of_any_content_are_answered() {
     let ways = Ways::default();
     for_seeds(400, |rng| {
         let density = rng.density();
         let mut node = rng.node();
-        for _ in 0..rng.below(3) {
-            match rng.below(6) {
-                0 => node.store.count = rng.below(LIMIT + 6),
-                1 => node.store.count = rng.next() as usize,
-                2 => node.store.keys[rng.below(LIMIT)] = rng.key(density),
-                3 => node.pending_count = rng.below(70),
-                4 => node.pending_count = rng.next() as usize,
-                _ => node.pending[rng.below(64)] = rng.claim(&[], density),
-            }
-        }
-        let store = node.store.clone();
-        let claim = rng.claim(&[], density);
-        let key = rng.key(density);
-
-        let entered = enter(store.clone(), key);
-        assert_eq!(entered.number, number(questions::of_enter(&store, key)));
-        assert!(entered.number == 0 || entered.store == store);
-        ways.saw(format!("enter {}", entered.number));
-        let last = rng.below(20);
-        let made = make(&store, 0, last);
-        assert_eq!(made.number, number(questions::of_make(&store, 0, last)));
-        let replied = reply(store.clone(), claim);
-        assert_eq!(replied.number, number(questions::of_reply(&store, &claim)));
-        assert!(replied.number == 0 || replied.store == store);
-        let taken = take(node.clone(), claim);
-        assert_eq!(taken.number, number(questions::of_take(&node, &claim)));
-        assert!(taken.number == 0 || taken.node == node);
-        assert!(taken.number != 0 || questions::q1_node_in_order(&taken.node));
-        let words = *rng.pick(&[BEAT_WORDS - 1, BEAT_WORDS]);
-        let mut run = vec![7; words];
-        let beaten = beat(node.clone(), &mut run);
-        assert_eq!(beaten.number, number(questions::of_beat(&node, words / 4)));
-        assert!(beaten.number == 0 || (beaten.node == node && run == vec![7; words]));
-        assert!(beaten.number != 0 || questions::q1_node_in_order(&beaten.node));
-        let mut out = vec![0x55; rng.below(IMAGE_MOST + 1)];
-        let written = write_image(&node, &mut out);
-        assert_eq!(
-            written.number,
-            number(questions::of_write_image(&node, out.len()))
-        );
-        let other = RawStore::of(&rng.keys(100, density));
-        let mut records = vec![Delivery::default(); 2 * LIMIT];
-        let rounded = round(store.clone(), other.clone(), &mut records);
-        assert_eq!(
-            rounded.number,
-            number(questions::of_round(&store, &other, records.len()))
-        );
-        assert!(rounded.number == 0 || (rounded.left == store && rounded.right == other));
-        ways.saw(format!("round {}", rounded.number));
+        bend(&mut node, density, rng);
+        store_is_answered(&node.store, density, rng, &ways);
+        node_is_answered(&node, density, rng);
     });
     ways.all_of(&["enter 0", "enter 1", "enter 6"]);
     ways.all_of(&["round 0", "round 1", "round 8"]);
