@@ -10,9 +10,9 @@ use native.Mathlib.Omega.{arith}
 use borrow.Author.Tests.{le-leb, lt-leb, eq-eqb, ne-eqb, not-true, not-false}
 use lib.ListN.{length, take, drop, getD, set, length-append, drop-of-length-le}
 use lib.Seq.{sets, drop-cons, length-take-le, getD-take}
+use Rattle.keys.specs.Lent.{storeBy}
 use Rattle.keys.specs.declared.store.Store.{Store}
-use Rattle.keys.specs.Store.{limit}
-use Rattle.keys.specs.Lent.{storeWith}
+use Rattle.keys.specs.Store.{Sized}
 use Rattle.keys.proofs.PlaceLaws.{putAt-nil, putAt-zero, sets-putAt}
 use Rattle.claims.specs.declared.claim.Claim.{Claim}
 use Rattle.claims.specs.declared.answer.Answer.{Answer}
@@ -28,7 +28,7 @@ use Rattle.rule.specs.Node.{blanks, nodeInOrder}
 use Rattle.rule.specs.Call.{beaten, beatenLent}
 use Rattle.rule.proofs.TableLaws.{length-claimsOf}
 use Rattle.rule.proofs.NodeLaws.{length-blanks, drop-blanks, nodeInOrder-ordered}
-use Rattle.nodes.specs.Lent.{nodeWith}
+use Rattle.nodes.specs.Lent.{nodeBy}
 use Rattle.beats.specs.declared.beats.Kept.{Kept}
 use Rattle.beats.specs.Lent.{serveIn, wholeIn, sendingIn, wroteAt, Wrote, keptWith, ServedAt}
 use Rattle.beats.specs.Lent.{beatenWith, unbeaten, beatIn, beatInLent, BeatsIn}
@@ -171,23 +171,23 @@ module _ (s : Store) (table : List Claim) (pending at : ℕ) (lent₀ : List ℕ
 
 -- ---- `write_whole`
 
-module _ (keys : List ℕ) (count : ℕ) (lent : List ℕ) where
-  pub whole-none : count ≡ 0 → Wrote 0 (wholeIn (storeWith keys count)) lent 0 lent
+module _ (keys sums : List ℕ) (count : ℕ) (lent : List ℕ) where
+  pub whole-none : count ≡ 0 → Wrote 0 (wholeIn (storeBy keys sums count)) lent 0 lent
   unfolding wholeIn
   whole-none e = rw (eq-eqb count 0 e) (record { place = refl; words = sym (putAt-nil lent 0) })
 
-  pub whole-one : (count ≡ 0 → ⊥) → (made : Made) → made ≡ makeIn (storeWith keys count) 0 (count - 1)
-      → claimWidth ≤ length lent → (after : List ℕ) → after ≡ putClaim lent 0 (made .claim) → Wrote 0 (wholeIn (storeWith keys count)) lent 1 after
+  pub whole-one : (count ≡ 0 → ⊥) → (made : Made) → made ≡ makeIn (storeBy keys sums count) 0 (count - 1)
+      → claimWidth ≤ length lent → (after : List ℕ) → after ≡ putClaim lent 0 (made .claim) → Wrote 0 (wholeIn (storeBy keys sums count)) lent 1 after
   unfolding wholeIn
   whole-one f made e room after g =
       rw (ne-eqb count 0 f, ← e) (record { place = refl; words = g ∙ putClaim-wroteAt 0 (made .claim) lent (omega arith) })
 
 -- ---- `beat_in`
 
-module _ (keys : List ℕ) (held : ℕ) (table : List Claim) (count : ℕ) (lent : List ℕ) where
+module _ (keys sums : List ℕ) (held : ℕ) (table : List Claim) (count : ℕ) (lent : List ℕ) where
   -- the node that beats
   abbrev node : Node
-  node = nodeWith keys held table count
+  node = nodeBy keys sums held table count
 
   pub beat-many : tableLimit < count → BeatsIn node lent (unbeaten node 1) lent
   unfolding beatIn beatInLent
@@ -201,9 +201,9 @@ module _ (keys : List ℕ) (held : ℕ) (table : List Claim) (count : ℕ) (lent
   }
 
   module _ (h : count ≤ tableLimit) (g : beatLimit ≤ length lent / claimWidth) {at : ℕ} {half : List ℕ}
-      (whole : Wrote 0 (wholeIn (storeWith keys held)) lent at half) where
+      (whole : Wrote 0 (wholeIn (storeBy keys sums held)) lent at half) where
     abbrev s : Store
-    s = storeWith keys held
+    s = storeBy keys sums held
 
     abbrev served : Served
     served = serveIn s (take count table)
@@ -217,7 +217,7 @@ module _ (keys : List ℕ) (held : ℕ) (table : List Claim) (count : ℕ) (lent
         let same : length half ≡ length lent = ap length (whole .words) ∙ length-wroteAt 0 (wholeIn s) lent whole-fits in
         omega (arith, whole .place, length-wholeIn s)
 
-    pub beat-done : {kept : Kept} {after : List ℕ} → ServedAt at served half kept after → BeatsIn node lent (beatenWith keys held kept) after
+    pub beat-done : {kept : Kept} {after : List ℕ} → ServedAt at served half kept after → BeatsIn node lent (beatenWith keys sums held kept) after
     unfolding beatIn beatInLent
     beat-done {kept} {after} done =
         let place : at ≡ length (wholeIn s) = omega (arith, whole .place) in
@@ -225,7 +225,7 @@ module _ (keys : List ℕ) (held : ℕ) (table : List Claim) (count : ℕ) (lent
         = rw (whole .place, whole .words) (sym (wroteAt-append 0 (wholeIn s) (served .sent) lent whole-fits)) in
         let kept-is : kept ≡ keptWith (length (wholeIn s)) served = done .result ∙ ap (λ (m : ℕ). keptWith m served) place in
         record {
-          result = rw (le-leb count tableLimit h, le-leb beatLimit (length lent / claimWidth) g) (ap (beatenWith keys held) kept-is);
+          result = rw (le-leb count tableLimit h, le-leb beatLimit (length lent / claimWidth) g) (ap (beatenWith keys sums held) kept-is);
           words = rw (le-leb count tableLimit h, le-leb beatLimit (length lent / claimWidth) g)
               (done .words ∙ joined);
         }
@@ -237,8 +237,8 @@ module _ (n : Node) (lent : List ℕ) {ordered : Bool} (told : ordered ≡ nodeI
   unfolding beaten beatenLent
   beat-1 e = rw (← told, not-true ordered e) (refl, refl)
 
-  pub beat-ordered : not ordered ≡ false → length (n .store .keys) ≡ limit → {r : Beaten} {after : List ℕ} → BeatsIn n lent r after
+  pub beat-ordered : not ordered ≡ false → Sized (n .store) → {r : Beaten} {after : List ℕ} → BeatsIn n lent r after
       → (r ≡ beaten n lent) × (after ≡ beatenLent n lent)
-  beat-ordered e long beats =
+  beat-ordered e sized beats =
       let o = nodeInOrder-ordered n (sym told ∙ not-false ordered e) in
-      (beats .result ∙ beatIn-beaten n lent long o, beats .words ∙ beatInLent-beatenLent n lent long o)
+      (beats .result ∙ beatIn-beaten n lent sized o, beats .words ∙ beatInLent-beatenLent n lent sized o)

@@ -1,4 +1,4 @@
--- What the beat of a node whose keys are lent means (specs/Lent): of any content, what a refusal leaves; of a node in order, the rule (Table and Call of
+-- What the beat of a node whose keys and sums are lent means (specs/Lent): of any content, what a refusal leaves; of a node in order, the rule (Table and Call of
 -- `rule`). In order: claims in lent words; how many claims are made and kept; the table served by a store in order; the beat. Assumes nothing.
 use mathlib.Core.Path.{_≡_, refl, sym, _∙_, ap, ap₂}
 use mathlib.Core.Bool.{Bool, true, false, cond}
@@ -9,7 +9,7 @@ use borrow.Author.Tests.{le-leb, lt-ltb, ne-eqb}
 use lib.Dec.{leb, eqb}
 use lib.ListN.{length, length-append}
 use Rattle.keys.specs.declared.store.Store.{Store}
-use Rattle.keys.specs.Store.{limit, storeOf}
+use Rattle.keys.specs.Store.{limit, Sized, storeOf}
 use Rattle.keys.specs.Place.{putAt}
 use Rattle.keys.proofs.Rising.{Rising}
 use Rattle.keys.proofs.StoreLaws.{inOrder-count, inOrder-rising, length-keysOf, storeOf-keysOf, count-storeOf}
@@ -112,16 +112,16 @@ module _ (n : Node) (lent : List ℕ) where
 
 -- ---- the beat of a node in order
 
-module _ (n : Node) (lent : List ℕ) (long : length (n .store .keys) ≡ limit) (o : Ordered n) where
+module _ (n : Node) (lent : List ℕ) (sized : Sized (n .store)) (o : Ordered n) where
   -- its keys
   abbrev l : List ℕ
   l = nodeKeys n
 
   store-is : n .store ≡ storeOf l
-  store-is = storeOf-keysOf (n .store) long (o .store)
+  store-is = storeOf-keysOf (n .store) sized (o .store)
 
   short : length l ≤ limit
-  short = omega (arith, length-keysOf (n .store) long (o .store), inOrder-count (n .store) (o .store))
+  short = omega (arith, length-keysOf (n .store) (sized .keys) (o .store), inOrder-count (n .store) (o .store))
 
   rise : Rising l
   rise = inOrder-rising (n .store) (o .store)

@@ -1,4 +1,4 @@
--- The beat of a node whose keys are lent, for any content: by one equation over the node that its parts make up (`nodeWith` of `nodes`), as the code
+-- The beat of a node whose keys and sums are lent, for any content: by one equation over the node that its parts make up (`nodeBy` of `nodes`), as the code
 -- carries it out. No store is copied for a claim, and it is no rule of document 01. Question 1 is not its own; where the table cannot be read it says 1.
 -- Whatever can be refused is asked before the first write, so a number other than 0 means that node and words are what they were (`beatIn-kept`,
 -- `beatInLent-kept` of proofs/LentLaws). What it means where the node is in order is said by laws (proofs/LentLaws), by Table and Call of `rule`.
@@ -22,7 +22,7 @@ use Rattle.rule.specs.Table.{tableLimit, beatLimit, Served, remains}
 use Rattle.rule.specs.Node.{blanks, pendingOf}
 use Rattle.rule.specs.Question.{question15}
 use Rattle.rule.specs.Call.{claimWords}
-use Rattle.nodes.specs.Lent.{nodeWith}
+use Rattle.nodes.specs.Lent.{nodeBy}
 use Rattle.beats.specs.declared.beats.Kept.{Kept}
 
 -- ---- the table served
@@ -65,9 +65,9 @@ pub record ServedAt (at : ℕ) (s : Served) (lent : List ℕ) (kept : Kept) (aft
 
 -- ---- the beat
 
--- what a beat gives, by the run of keys and what the call returns; and what it gives where it is refused
-abbrev pub beatenWith : List ℕ → ℕ → Kept → Beaten
-beatenWith keys held k = record { number = k .number; node = nodeWith keys held (k .table) (k .count); written = k .written }
+-- what a beat gives, by keys and sums and what the call returns; and what it gives where it is refused
+abbrev pub beatenWith : List ℕ → List ℕ → ℕ → Kept → Beaten
+beatenWith keys sums held k = record { number = k .number; node = nodeBy keys sums held (k .table) (k .count); written = k .written }
 
 abbrev pub unbeaten : Node → ℕ → Beaten
 unbeaten n x = record { number = x; node = n; written = 0 }
@@ -80,7 +80,7 @@ beatInQuestions n lent = question 1 (leb (n .count) tableLimit) ∷ question15 (
 unfoldable pub beatIn : Node → List ℕ → Beaten
 beatIn n lent =
     settle (firstNo (beatInQuestions n lent))
-    (beatenWith (n .store .keys) (n .store .count) (keptWith (length (wholeIn (n .store))) (serveIn (n .store) (pendingOf n))))
+    (beatenWith (n .store .keys) (n .store .sums) (n .store .count) (keptWith (length (wholeIn (n .store))) (serveIn (n .store) (pendingOf n))))
     (unbeaten n)
 
 -- .. and what the lent words hold afterwards

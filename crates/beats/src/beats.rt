@@ -10,12 +10,12 @@ use words::put_claim;
 ghost use mathlib.Core.Path.{_≡_};
 ghost use Prim.Native.Nat.{_+_, _*_, _≤_};
 ghost use lib.ListN.{length, take};
-ghost use Rattle.keys.specs.Lent.{storeWith};
+ghost use Rattle.keys.specs.Lent.{storeBy};
 ghost use Rattle.claims.specs.Reply.{claimsOf};
 ghost use Rattle.claims.specs.Words.{claimWidth};
 ghost use Rattle.rule.specs.Table.{tableLimit, remains};
 ghost use Rattle.rule.specs.Call.{beaten, beatenLent};
-ghost use Rattle.nodes.specs.Lent.{nodeWith};
+ghost use Rattle.nodes.specs.Lent.{nodeBy};
 ghost use Rattle.beats.specs.Lent.{serveIn, wholeIn, Wrote, ServedAt, beatenWith, BeatsIn};
 
 // Writes the claims that an answer carries, and returns the place after them.
@@ -65,8 +65,9 @@ pub struct Kept {
 }
 
 // Serves the pending claims in table order, and writes the claims of their answers from a place on.
-fn serve_table(
-    keys: &[u64],
+fn serve_table<'a>(
+    keys: &'a [u64],
+    sums: &'a [u64],
     count: usize,
     table: [Claim; Node::TABLE],
     pending: usize,
@@ -74,7 +75,7 @@ fn serve_table(
     at: usize,
 ) -> Kept
     requires { ⌜ (pending ≤ tableLimit) × (claimWidth * (at + 2 * pending) ≤ length (now lent)) ⌝ }
-    ensures { λ r. ⌜ ServedAt at (serveIn (storeWith (now (keys .entry)) count) (take pending table)) (now (lent .entry)) r (now (lent .exit)) ⌝ }
+    ensures { λ r. ⌜ ServedAt at (serveIn (storeBy (now (keys .entry)) (now (sums .entry)) count) (take pending table)) (now (lent .entry)) r (now (lent .exit)) ⌝ }
 {
     let mut kept = [Claim::NONE; Node::TABLE];
     let mut n = 0;
@@ -83,7 +84,7 @@ fn serve_table(
     while i < pending {
         let claim = table[i];
         i += 1;
-        let answer = answer_in(keys, count, claim);
+        let answer = answer_in(keys, sums, count, claim);
         written = write_answer(lent, written, answer);
         if remains(answer) {
             kept[n] = claim;
@@ -99,27 +100,29 @@ fn serve_table(
 }
 
 // Writes the whole claim to the first place, if there is one, and returns the place after it.
-fn write_whole(keys: &[u64], count: usize, lent: &mut [u64]) -> usize
+fn write_whole<'a>(keys: &'a [u64], sums: &'a [u64], count: usize, lent: &mut [u64]) -> usize
     requires { ⌜ claimWidth ≤ length (now lent) ⌝ }
-    ensures { λ r. ⌜ Wrote 0 (wholeIn (storeWith (now (keys .entry)) count)) (now (lent .entry)) r (now (lent .exit)) ⌝ }
+    ensures { λ r. ⌜ Wrote 0 (wholeIn (storeBy (now (keys .entry)) (now (sums .entry)) count)) (now (lent .entry)) r (now (lent .exit)) ⌝ }
 {
     if count == 0 {
         return 0;
     }
-    let made = make_in(keys, count, 0, count - 1);
+    let made = make_in(keys, sums, count, 0, count - 1);
     put_claim(lent, 0, made.claim);
     1
 }
 
-// The beat of a node whose keys are lent, for any content: question 1 is not put, but a table that could not be read is refused with its number. Asks 15.
-pub fn beat_in(
-    keys: &[u64],
+// The beat of a node whose keys and sums are lent, for any content: question 1 is not put, but a table that could not be read is refused with its number. Asks 15.
+pub fn beat_in<'a>(
+    keys: &'a [u64],
+    sums: &'a [u64],
     held: usize,
     table: [Claim; Node::TABLE],
     count: usize,
     lent: &mut [u64],
 ) -> Kept
-    ensures { λ r. ⌜ BeatsIn (nodeWith (now (keys .entry)) held table count) (now (lent .entry)) (beatenWith (now (keys .entry)) held r) (now (lent .exit)) ⌝ }
+    ensures { λ r. ⌜ BeatsIn (nodeBy (now (keys .entry)) (now (sums .entry)) held table count) (now (lent .entry))
+        (beatenWith (now (keys .entry)) (now (sums .entry)) held r) (now (lent .exit)) ⌝ }
 {
     if Node::TABLE < count {
         return Kept {
@@ -137,8 +140,8 @@ pub fn beat_in(
             written: 0,
         };
     }
-    let at = write_whole(keys, held, lent);
-    serve_table(keys, held, table, count, lent, at)
+    let at = write_whole(keys, sums, held, lent);
+    serve_table(keys, sums, held, table, count, lent, at)
 }
 
 // The beat of a node: the whole claim and the claims of the replies to the pending ones are written, one after the other. Asks 1 and 15.
@@ -154,7 +157,14 @@ pub fn beat(node: Node, lent: &mut [u64]) -> Beaten
     }
     let mut n = node;
     let pending = n.pending;
-    let kept = beat_in(&n.store.keys, n.store.count, pending, n.count, lent);
+    let kept = beat_in(
+        &n.store.keys,
+        &n.store.sums,
+        n.store.count,
+        pending,
+        n.count,
+        lent,
+    );
     let places = kept.table;
     n.pending = places;
     n.count = kept.count;

@@ -1,7 +1,7 @@
 -- The public calls (src/calls.rt): one law for each way that the code goes, from the calls on a lent run to the definitions of specs/Call.
 -- A store that passes question 1 is that of its keys, so the laws of LentLaws apply. Assumes nothing.
-use mathlib.Core.Path.{_≡_, refl, sym, _∙_, ap}
-use mathlib.Core.Bool.{Bool, true, false, cond, not, _&&_}
+use mathlib.Core.Path.{_≡_, refl, sym, _∙_, ap, subst}
+use mathlib.Core.Bool.{Bool, true, false, cond, not, _&&_, true≢false}
 use mathlib.Core.Logic.{⊎-elim}
 use mathlib.Core.List.{List, [], _∷_, _++_}
 use Prim.Native.Nat.{ℕ, _+_, _≤_, _<_}
@@ -11,12 +11,15 @@ use lib.Dec.{ltb, leb, eqb}
 use lib.ListN.{length}
 use Rattle.keys.specs.declared.lent.Added.{Added}
 use Rattle.keys.specs.declared.store.Store.{Store}
-use Rattle.keys.specs.Store.{limit, keysOf, storeOf, inOrder, insert, insertAll}
-use Rattle.keys.specs.Lent.{orderedIn, storeWith, Grown, grownWith, addIn}
+use Rattle.keys.specs.Store.{limit, Sized, keysOf, storeOf, inOrder, position, insert, insertAll}
+use Rattle.keys.specs.Lent.{summedIn, renewedFrom, storeWith, Grown, grownWith, grown, unfit, addIn, storeBy, markedAll, finishIn}
 use Rattle.keys.proofs.Tests.{lt-or-le, eq-or-ne}
 use Rattle.keys.proofs.Rising.{Rising}
-use Rattle.keys.proofs.StoreLaws.{inOrder-count, inOrder-rising, length-keysOf, storeOf-keysOf}
-use Rattle.keys.proofs.LentLaws.{orderedIn-inOrder, addIn-fits, addIn-full}
+use Rattle.keys.proofs.Insert.{length-insert-ge}
+use Rattle.keys.proofs.Position.{position-le, take-insert}
+use Rattle.keys.proofs.StoreLaws.{count-storeOf, inOrder-count, inOrder-rising, length-keysOf, storeOf-keysOf}
+use Rattle.keys.proofs.SumLaws.{RightTo, right-store, right-less, right-grown, MarkedOf, marked-all, finish-marked}
+use Rattle.keys.proofs.LentLaws.{summedIn-inOrder, storeWith-storeOf, addIn-fits, addIn-full}
 use Rattle.claims.specs.declared.answer.Answer.the-variants.{Refused}
 use Rattle.claims.specs.declared.answer.Made.{Made}
 use Rattle.claims.specs.declared.answer.Replied.{Replied}
@@ -26,9 +29,9 @@ use Rattle.claims.specs.Claim.{claimOf, noClaim}
 use Rattle.claims.specs.Question.{firstNo, settle, question6, claimQuestions}
 use Rattle.claims.specs.Reply.{ends, withEnds, hear, reply, numberOf}
 use Rattle.claims.specs.Call.{judged, entered, made, replyQuestions, replied, Replying}
-use Rattle.claims.specs.Lent.{makeIn, repliedWith, replyIn}
+use Rattle.claims.specs.Lent.{makeIn, RepliedIn, repliedWith, replyIn}
 use Rattle.claims.proofs.QuestionLaws.{Passes, passes, claimQuestions-numbered, firstNo-append-zero, firstNo-append-no}
-use Rattle.claims.proofs.ReplyLaws.{numberOf-answer}
+use Rattle.claims.proofs.ReplyLaws.{numberOf-answer, hear-fits}
 use Rattle.claims.proofs.LentLaws.{makeIn-store, replyIn-judged, replyIn-fits, replyIn-full}
 
 -- the number that the answer stands for follows from the answer
@@ -46,12 +49,12 @@ replying s c r e = record { result = e; number = ap (λ (x : Replied). numberOf 
     go true z = numberOf-answer c (hear c (keysOf s)) ∙ sym (eqb-true n 0 z)
     go false z = refl
 
-module _ (s : Store) (long : length (s .keys) ≡ limit) (ordered : Bool) (tested : ordered ≡ orderedIn (s .keys) (s .count)) where
+module _ (s : Store) (sized : Sized s) (ordered : Bool) (tested : ordered ≡ summedIn (s .keys) (s .sums) (s .count)) where
   -- ---- question 1 answered no
 
   module _ (no : not ordered ≡ true) where
     out-of-order : inOrder s ≡ false
-    out-of-order = sym (orderedIn-inOrder s long) ∙ (sym tested ∙ not-true ordered no)
+    out-of-order = sym (summedIn-inOrder s (sized .keys)) ∙ (sym tested ∙ not-true ordered no)
 
     pub entered-1 : (k : ℕ) → record { number = 1; store = s } ≡ entered s k
     unfolding entered
@@ -69,47 +72,69 @@ module _ (s : Store) (long : length (s .keys) ≡ limit) (ordered : Bool) (teste
 
   module _ (yes : not ordered ≡ false) where
     in-order : inOrder s ≡ true
-    in-order = sym (orderedIn-inOrder s long) ∙ (sym tested ∙ not-false ordered yes)
+    in-order = sym (summedIn-inOrder s (sized .keys)) ∙ (sym tested ∙ not-false ordered yes)
 
     rise : Rising (keysOf s)
     rise = inOrder-rising s in-order
 
     own-store : s ≡ storeOf (keysOf s)
-    own-store = storeOf-keysOf s long in-order
+    own-store = storeOf-keysOf s sized in-order
 
     short : length (keysOf s) ≤ limit
-    short = omega (arith, length-keysOf s long in-order, inOrder-count s in-order)
+    short = omega (arith, length-keysOf s (sized .keys) in-order, inOrder-count s in-order)
+
+    -- its keys with their count are all of it
+    with-is : storeWith (s .keys) (s .count) ≡ storeOf (keysOf s)
+    with-is = ap (λ (t : Store). storeWith (t .keys) (t .count)) own-store ∙ storeWith-storeOf (keysOf s) short
 
     -- `enter`
 
-    module _ (k : ℕ) where
-      entered-fits : length (insert k (keysOf s)) ≤ limit → record { number = cond (addIn s k .fits) 0 6; store = addIn s k .store } ≡ entered s k
+    module _ (k : ℕ) (a : Added) (after : List ℕ) (added : grownWith after a ≡ addIn (storeWith (s .keys) (s .count)) k) where
+      fits-then : length (insert k (keysOf s)) ≤ limit → grownWith after a ≡ grown (storeOf (insert k (keysOf s))) (position k (keysOf s)) (position k (keysOf s))
+      fits-then f = added ∙ (ap (λ (t : Store). addIn t k) with-is ∙ addIn-fits (keysOf s) rise k f)
+
+      full-then : limit < length (insert k (keysOf s)) → grownWith after a ≡ unfit (storeOf (keysOf s))
+      full-then f = added ∙ (ap (λ (t : Store). addIn t k) with-is ∙ addIn-full (keysOf s) rise k f)
+
+      pub entered-unfit : not (a .fits) ≡ true → record { number = 6; store = storeBy after (s .sums) (a .count) } ≡ entered s k
       unfolding entered
-      entered-fits f =
-          let g = ap (λ (t : Store). addIn t k) own-store ∙ addIn-fits (keysOf s) rise k f in
-          rw (in-order, lt-ltb (length (insert k (keysOf s))) (limit + 1) (omega arith), g)
+      entered-unfit f = ⊎-elim {C = record { number = 6; store = storeBy after (s .sums) (a .count) } ≡ entered s k}
+          (λ (full : limit < length (insert k (keysOf s))).
+          let same : grownWith after a ≡ unfit s = full-then full ∙ ap unfit (sym own-store) in
+          rw (in-order, le-ltb (length (insert k (keysOf s))) (limit + 1) (omega arith))
+          (ap (λ (g : Grown). record { number = 6; store = storeBy (g .store .keys) (s .sums) (g .store .count) }) same))
+          (λ (fits : length (insert k (keysOf s)) ≤ limit).
+          absurd (true≢false (sym (ap (λ (g : Grown). g .fits) (fits-then fits)) ∙ not-true (a .fits) f)))
+          (lt-or-le limit (length (insert k (keysOf s))))
 
-      entered-full : limit < length (insert k (keysOf s)) → record { number = cond (addIn s k .fits) 0 6; store = addIn s k .store } ≡ entered s k
-      unfolding entered
-      entered-full f =
-          let g = ap (λ (t : Store). addIn t k) own-store ∙ addIn-full (keysOf s) rise k f in
-          rw (in-order, le-ltb (length (insert k (keysOf s))) (limit + 1) (omega arith), g)
-          (λ i. record { number = 6; store = sym own-store i })
+      -- the key fits; the sums from it on are worked out anew
+      module _ (f : not (a .fits) ≡ false) (t : Store) (anew : t ≡ renewedFrom (a .first) (storeBy after (s .sums) (a .count))) where
+        entered-keys : length (insert k (keysOf s)) ≤ limit → record { number = 0; store = t } ≡ entered s k
+        unfolding entered
+        entered-keys fits =
+            let l : List ℕ = keysOf s in
+            let g = fits-then fits in
+            let first : a .first ≡ position k l = ap (λ (x : Grown). x .first) g in
+            let keys-are : after ≡ storeOf (insert k l) .keys = ap (λ (x : Grown). x .store .keys) g in
+            let count-is : a .count ≡ storeOf (insert k l) .count = ap (λ (x : Grown). x .store .count) g in
+            let old : RightTo l (s .sums) (position k l) =
+            subst (λ (t : Store). RightTo l (t .sums) (position k l)) (sym own-store)
+            (right-less l (storeOf l .sums) (length l) (position k l) (right-store l short) (position-le k l)) in
+            let front : RightTo (insert k l) (s .sums) (position k l) =
+            right-grown l (insert k l) (s .sums) (position k l) old (length-insert-ge k l) (take-insert (position k l) k l (omega arith)) in
+            let done = finish-marked (insert k l) (record { store = storeBy (storeOf (insert k l) .keys) (s .sums) (length (insert k l)); mark = position k l }) fits
+            (record { keys = refl; count = refl; sums = front }) in
+            let store-is : t ≡ storeOf (insert k l) =
+            anew ∙ ((λ i. renewedFrom (first i) (storeBy (keys-are i) (s .sums) ((count-is ∙ count-storeOf (insert k l)) i))) ∙ done) in
+            rw (in-order, lt-ltb (length (insert k l)) (limit + 1) (omega arith))
+            (ap (λ (x : Store). record { number = 0; store = x }) store-is)
 
-      entered-added : record { number = cond (addIn s k .fits) 0 6; store = addIn s k .store } ≡ entered s k
-      entered-added = ⊎-elim {C = record { number = cond (addIn s k .fits) 0 6; store = addIn s k .store } ≡ entered s k}
-          entered-full entered-fits (lt-or-le limit (length (insert k (keysOf s))))
-
-      module _ (a : Added) (after : List ℕ) (added : grownWith after a ≡ addIn s k) where
-        pub entered-unfit : not (a .fits) ≡ true → record { number = 6; store = storeWith after (a .count) } ≡ entered s k
-        entered-unfit f =
-            (λ i. record { number = cond (sym (not-true (a .fits) f) i) 0 6; store = storeWith after (a .count) })
-            ∙ (ap (λ (g : Grown). record { number = cond (g .fits) 0 6; store = g .store }) added ∙ entered-added)
-
-        pub entered-fit : not (a .fits) ≡ false → record { number = 0; store = storeWith after (a .count) } ≡ entered s k
-        entered-fit f =
-            (λ i. record { number = cond (sym (not-false (a .fits) f) i) 0 6; store = storeWith after (a .count) })
-            ∙ (ap (λ (g : Grown). record { number = cond (g .fits) 0 6; store = g .store }) added ∙ entered-added)
+        pub entered-fit : record { number = 0; store = t } ≡ entered s k
+        entered-fit = ⊎-elim {C = record { number = 0; store = t } ≡ entered s k}
+            (λ (full : limit < length (insert k (keysOf s))).
+            absurd (true≢false (sym (not-false (a .fits) f) ∙ ap (λ (g : Grown). g .fits) (full-then full))))
+            entered-keys
+            (lt-or-le limit (length (insert k (keysOf s))))
 
     -- `make`
 
@@ -120,7 +145,7 @@ module _ (s : Store) (long : length (s .keys) ≡ limit) (ordered : Bool) (teste
         ∙ (ap (λ (t : Store). makeIn t i j) own-store
         ∙ (makeIn-store (keysOf s) short i j
         ∙ (ap (λ (n : ℕ). cond (leb i j && ltb j n) (record { number = 0; claim = claimOf i j (keysOf s) }) (record { number = 7; claim = noClaim }))
-        (length-keysOf s long in-order)
+        (length-keysOf s (sized .keys) in-order)
         ∙ rw in-order (go (leb i j && ltb j (s .count))))))
       where
         go : (t : Bool) → cond {A = Made} t (record { number = 0; claim = claimOf i j (keysOf s) }) (record { number = 7; claim = noClaim })
@@ -131,11 +156,23 @@ module _ (s : Store) (long : length (s .keys) ≡ limit) (ordered : Bool) (teste
     -- `reply`
 
     module _ (c : Claim) where
-      replied-judged : (judged c ≡ 0 → ⊥) → replyIn s c ≡ replied s c
+      -- what replying gives, once all sums are worked out
+      abbrev done : RepliedIn → Replied
+      done r = record { store = finishIn (r .marked); answer = r .answer }
+
+      -- the store with all its sums right
+      whole : MarkedOf (keysOf s) (markedAll s)
+      whole = subst (λ (t : Store). MarkedOf (keysOf s) (markedAll t)) (sym own-store) (marked-all (keysOf s) short)
+
+      unmoved : finishIn (markedAll s) ≡ s
+      unmoved = finish-marked (keysOf s) (markedAll s) short whole ∙ sym own-store
+
+      replied-judged : (judged c ≡ 0 → ⊥) → done (replyIn (markedAll s) c) ≡ replied s c
       unfolding replied judged
       replied-judged f =
           let no = firstNo-append-no (claimQuestions c) (question6 (ends c) (keysOf s) ∷ []) f in
-          replyIn-judged s c f ∙ rw (in-order, no, ne-eqb (firstNo (claimQuestions c)) 0 f)
+          ap done (replyIn-judged (markedAll s) c f)
+          ∙ rw (in-order, no, ne-eqb (firstNo (claimQuestions c)) 0 f) (λ i. record { store = unmoved i; answer = Refused (firstNo (claimQuestions c)) })
 
       module _ (pass : judged c ≡ 0) where
         good : Passes c
@@ -147,26 +184,29 @@ module _ (s : Store) (long : length (s .keys) ≡ limit) (ordered : Bool) (teste
         unfolding judged
         only-6 = firstNo-append-zero (claimQuestions c) (question6 (ends c) (keysOf s) ∷ []) (claimQuestions-numbered c) pass
 
-        replied-fits : length (withEnds c (keysOf s)) ≤ limit → replyIn s c ≡ replied s c
+        replied-fits : length (withEnds c (keysOf s)) ≤ limit → done (replyIn (markedAll s) c) ≡ replied s c
         unfolding replied
         replied-fits f =
-            ap (λ (t : Store). replyIn t c) own-store
-            ∙ (replyIn-fits (keysOf s) rise c good f
-            ∙ rw (in-order, only-6, lt-ltb (length (insertAll (ends c) (keysOf s))) (limit + 1) (omega arith)))
+            let (marked, answer) = replyIn-fits (keysOf s) short rise (markedAll s) whole c good f in
+            let store = finish-marked (hear c (keysOf s)) (replyIn (markedAll s) c .marked) (hear-fits c (keysOf s) f) marked in
+            rw (in-order, only-6, lt-ltb (length (insertAll (ends c) (keysOf s))) (limit + 1) (omega arith))
+            (λ i. record { store = store i; answer = answer i })
 
-        replied-full : limit < length (withEnds c (keysOf s)) → replyIn s c ≡ replied s c
+        replied-full : limit < length (withEnds c (keysOf s)) → done (replyIn (markedAll s) c) ≡ replied s c
         unfolding replied
         replied-full f =
-            ap (λ (t : Store). replyIn t c) own-store
-            ∙ (replyIn-full (keysOf s) rise c good f
+            ap done (replyIn-full (keysOf s) short rise (markedAll s) whole c good f)
             ∙ rw (in-order, only-6, le-ltb (length (insertAll (ends c) (keysOf s))) (limit + 1) (omega arith))
-            (λ i. record { store = sym own-store i; answer = Refused 6 }))
+            (λ i. record { store = unmoved i; answer = Refused 6 })
 
-      pub replyIn-replied : replyIn s c ≡ replied s c
-      replyIn-replied = ⊎-elim {C = replyIn s c ≡ replied s c}
+      replyIn-replied : done (replyIn (markedAll s) c) ≡ replied s c
+      replyIn-replied = ⊎-elim {C = done (replyIn (markedAll s) c) ≡ replied s c}
           (λ (pass : judged c ≡ 0).
-          ⊎-elim {C = replyIn s c ≡ replied s c} (replied-full pass) (replied-fits pass) (lt-or-le limit (length (withEnds c (keysOf s)))))
+          ⊎-elim {C = done (replyIn (markedAll s) c) ≡ replied s c} (replied-full pass) (replied-fits pass) (lt-or-le limit (length (withEnds c (keysOf s)))))
           replied-judged (eq-or-ne (judged c) 0)
 
-      pub replied-told : (t : Told) (after : List ℕ) → repliedWith after t ≡ replyIn s c → Replying s c (repliedWith after t)
-      replied-told t after e = replying s c (repliedWith after t) (e ∙ replyIn-replied)
+      pub replied-told : (t : Told) (after sums : List ℕ) → repliedWith after sums t ≡ replyIn (markedAll s) c
+          → (x : Store) → x ≡ renewedFrom (t .mark) (storeBy after sums (t .count)) → Replying s c (record { store = x; answer = t .answer })
+      replied-told t after sums e x anew =
+          replying s c (record { store = x; answer = t .answer })
+          ((λ i. record { store = anew i; answer = t .answer }) ∙ (ap done e ∙ replyIn-replied))

@@ -9,7 +9,8 @@ use mathlib.Core.Path.{_≡_, refl}
 use native.Mathlib.Omega.{arith}
 use borrow.Author.Tests.{le-leb}
 use Rattle.keys.specs.Store.{limit, zeros, storeOf, emptyStore, inOrder}
-use Rattle.keys.specs.Lent.{placeIn, insertedAt, addIn, addBothIn}
+use Rattle.keys.specs.Place.{putAt}
+use Rattle.keys.specs.Lent.{placeIn, insertedAt, addIn, addBothIn, resummed}
 use Rattle.claims.specs.declared.answer.Answer.the-variants.{Match}
 use Rattle.claims.specs.Claim.{between}
 use Rattle.claims.specs.Reply.{third, answer, reply, falseMatch}
@@ -33,7 +34,7 @@ faulty-cases-hold = refl
 
 -- on a lent run: "A refusal returns .. the given store"; and a third key that does not fit is left out
 pub lent-cases-hold : map (λ (r : Row). r .gives) lentTable ≡ map (λ (r : Row). r .wanted) lentTable
-unfolding zeros storeOf placeIn insertedAt addIn addBothIn hearIn replyIn
+unfolding zeros storeOf placeIn insertedAt resummed putAt addIn addBothIn hearIn replyIn
 lent-cases-hold = refl
 
 -- k. cnt 0 or the limit plus 1 "with lo < hi: 3."

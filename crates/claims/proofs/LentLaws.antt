@@ -1,46 +1,43 @@
 -- What the calls on a lent run mean (specs/Lent against specs/Claim and Reply): of any store, what a refusal leaves; and of a store in order, `storeOf l`
--- for rising keys l, the rule. The crates above prove their loops from these. In order: a claim heard; a claim made; the answer; the reply; the
--- sums of both halves of a span. Assumes nothing.
+-- for rising keys l, the rule. The crates above prove their loops from these. In order: a claim heard; a claim made; the answer; the reply, by a store
+-- whose sums are right below its mark (`MarkedOf`). Assumes nothing.
 use mathlib.Core.Path.{_≡_, refl, sym, _∙_, ap, ap₂, subst}
 use mathlib.Core.Logic.{⊎-elim}
 use mathlib.Core.Bool.{Bool, true, false, cond, _&&_, and-true}
-use mathlib.Core.List.{List, [], _∷_, _++_, List·Memᴰ}
-use Prim.Native.Nat.{ℕ, suc, _+_, _-_, _≤_, _<_}
-use native.Mathlib.Numerals.{add-one}
+use mathlib.Core.List.{List, [], _∷_, List·Memᴰ}
+use Prim.Native.Nat.{ℕ, suc, _+_, _-_, _≤_, _<_, min, max}
 use native.Mathlib.Omega.{arith}
-use borrow.Author.Tests.{lt-ltb, le-leb, leb-true, ltb-true, ltb-false, eq-eqb, ne-eqb}
-use lib.Bits.{bitXor, xor-comm, xor-self, xor-zero-r}
+use borrow.Author.Tests.{lt-ltb, le-leb, leb-true, ltb-true, ltb-false, eqb-true, eq-eqb, ne-eqb}
 use lib.Dec.{ltb, leb, eqb}
-use lib.ListN.{length, take, drop, getD, length-drop, List·getD-append}
-use lib.Seq.{take-append-le, drop-append-le, take-add, drop-drop, take-suc, drop-cons, getD-drop}
+use lib.ListN.{length, take}
+use lib.Seq.{take-take}
 use Rattle.keys.specs.declared.lent.Place.{Place}
 use Rattle.keys.specs.declared.store.Store.{Store}
-use Rattle.keys.specs.Store.{limit, zeros, storeOf, position, insert, insertAll}
-use Rattle.keys.specs.Lent.{placeIn, Grown, grown, addIn, addBothIn}
-use Rattle.keys.proofs.Tests.{and-left, and-right, and-both, eq-or-ne}
+use Rattle.keys.specs.Store.{limit, storeOf, position, insert, insertAll}
+use Rattle.keys.specs.Lent.{resummed, Marked, placeIn, storeWith, Grown, grown, addIn, addBothIn}
+use Rattle.keys.proofs.Tests.{and-left, and-right, and-both, lt-or-le, eq-or-ne}
 use Rattle.keys.proofs.Rising.{Rising}
 use Rattle.keys.proofs.Insert.{length-insert-missing}
-use Rattle.keys.proofs.Position.{position-mono, getD-position, position-insert-le, position-insert-missing}
-use Rattle.keys.proofs.StoreLaws.{keys-storeOf, count-storeOf, length-keys-storeOf}
-use Rattle.keys.proofs.LentLaws.{placeIn-store, addIn-fits, addIn-full, addBothIn-fits, addBothIn-full, addIn-count, Laid, addBothIn-laid}
-use Rattle.claims.specs.declared.answer.Answer.{Answer}
+use Rattle.keys.proofs.Position.{position-mono, getD-position, position-insert-le, position-insert-missing, position-insertAll, take-insertAll}
+use Rattle.keys.proofs.StoreLaws.{count-storeOf, length-keys-storeOf, length-sums-storeOf}
+use Rattle.keys.proofs.SumLaws.{RightTo, right-store, right-less, right-grown, resummed-past, resummed-right, MarkedOf}
+use Rattle.keys.proofs.LentLaws.{storeWith-storeOf, placeIn-store, addIn-fits, addIn-full, addBothIn-fits, addBothIn-full, addIn-count, Laid, addBothIn-laid}
 use Rattle.claims.specs.declared.answer.Answer.the-variants.{Refused, Match, Ask, One, Two}
 use Rattle.claims.specs.declared.answer.Made.{Made}
-use Rattle.claims.specs.declared.answer.Replied.{Replied}
 use Rattle.claims.specs.declared.claim.Claim.{Claim}
-use Rattle.claims.specs.Claim.{span, xorAll, claimOf, noClaim, middleKey, middleInside}
+use Rattle.claims.specs.Claim.{claimOf, noClaim, middleKey, middleInside}
 use Rattle.claims.specs.Question.{question, firstNo, claimQuestions}
-use Rattle.claims.specs.Reply.{withEnds, wantsMiddle, hasSpace, third}
+use Rattle.claims.specs.Reply.{withEnds, wantsMiddle, hasSpace, third, adding}
 use Rattle.claims.specs.Reply.{hear, own, same, decide, zOf, help, answer, reply, numberOf}
 use Rattle.claims.specs.Call.{judged}
-use Rattle.claims.specs.Lent.{hearQuestions, Hearing, tellsThird, endsHeard, thirdHeard, heard, unheard, hearIn, within, makeIn}
-use Rattle.claims.specs.Lent.{middle, Positions, Halves, helpIn, answerAt, answerIn, replyIn}
-use Rattle.claims.proofs.Xor.{xor-assoc, xorAll-append, xorAll-snoc}
+use Rattle.claims.specs.Lent.{hearQuestions, Hearing, tellsThird, endsHeard, thirdHeard, heard, unheard, hearIn, claimBy, within, makeIn}
+use Rattle.claims.specs.Lent.{helpBy, helpIn, answerAt, answerIn, heardBy, markHeard, readyTo, RepliedIn, answered, replyIn}
 use Rattle.claims.proofs.QuestionLaws.{Passes, passes-firstNo, judged-firstNo}
 use Rattle.claims.proofs.QuestionLaws.{firstNo-append-zero, firstNo-append-no, settle-kept, claimQuestions-numbered}
-use Rattle.claims.proofs.ClaimLaws.{claim-ext}
-use Rattle.claims.proofs.ReplyLaws.{Wanted, wanted, withEnds-rising, hear-fits, numberOf-help, numberOf-decide, hear-rising, hear-lo, hear-hi, helper-positions}
+use Rattle.claims.proofs.ReplyLaws.{Wanted, wanted, withEnds-rising, adding-range, hear-fits, hear-same, length-hear-ge, numberOf-decide}
+use Rattle.claims.proofs.ReplyLaws.{hear-rising, hear-lo, hear-hi, helper-positions}
 use Rattle.claims.proofs.ThirdLaws.{wanted-missing}
+use Rattle.claims.proofs.SpanSums.{claimBy-right}
 
 -- ---- a claim heard, by any store
 
@@ -182,23 +179,15 @@ module _ (l : List ℕ) (rise : Rising l) (c : Claim) (good : Passes c) where
 
 -- ---- a claim made
 
--- reading below the count, the run of a store is its keys
-pub getD-store : (l : List ℕ) (i : ℕ) → i < length l → getD (storeOf l .keys) i 0 ≡ getD l i 0
-getD-store l i h = rw (keys-storeOf l) (List·getD-append l (zeros (limit - length l)) 0 i h)
-
-pub span-store : (l : List ℕ) (i j : ℕ) → i ≤ j → j < length l → span i j (storeOf l .keys) ≡ span i j l
-span-store l i j h g =
-    rw (keys-storeOf l, drop-append-le i l (zeros (limit - length l)) (omega arith))
-    (take-append-le (j - i + 1) (drop i l) (zeros (limit - length l)) (omega (arith, length-drop i l)))
-
-pub claimOf-store : (l : List ℕ) (i j : ℕ) → i ≤ j → j < length l → claimOf i j (storeOf l .keys) ≡ claimOf i j l
-claimOf-store l i j h g =
-    claim-ext (claimOf i j (storeOf l .keys)) (claimOf i j l) (getD-store l i (omega arith)) (getD-store l j g) (ap xorAll (span-store l i j h g)) refl
-
 module _ (l : List ℕ) (short : length l ≤ limit) where
+  -- all sums of a store in order are right
+  right : RightTo l (storeOf l .sums) (length l)
+  right = right-store l short
+
   pub within-store : (i j : ℕ) → within (storeOf l) i j ≡ (leb i j && ltb j (length l))
   within-store i j =
-      rw (count-storeOf l, length-keys-storeOf l short, le-leb (length l) limit short) (ap (λ (t : Bool). leb i j && t) (and-true (ltb j (length l))))
+      rw (count-storeOf l, length-keys-storeOf l short, length-sums-storeOf l short, le-leb (length l) limit short)
+      (ap (λ (t : Bool). leb i j && t) (and-true (ltb j (length l))))
 
   pub makeIn-store : (i j : ℕ) → makeIn (storeOf l) i j
       ≡ cond (leb i j && ltb j (length l)) (record { number = 0; claim = claimOf i j l }) (record { number = 7; claim = noClaim })
@@ -206,60 +195,71 @@ module _ (l : List ℕ) (short : length l ≤ limit) where
   makeIn-store i j = rw (within-store i j) (go (leb i j && ltb j (length l)) refl)
     where
       go : (t : Bool) → (leb i j && ltb j (length l)) ≡ t
-          → cond {A = Made} t (record { number = 0; claim = claimOf i j (storeOf l .keys) }) (record { number = 7; claim = noClaim })
+          → cond {A = Made} t (record { number = 0; claim = claimBy (storeOf l .keys) (storeOf l .sums) i j }) (record { number = 7; claim = noClaim })
           ≡ cond t (record { number = 0; claim = claimOf i j l }) (record { number = 7; claim = noClaim })
       go true e =
           ap (λ (c : Claim). record { number = 0; claim = c })
-          (claimOf-store l i j (leb-true i j (and-left (leb i j) (ltb j (length l)) e)) (ltb-true j (length l) (and-right (leb i j) (ltb j (length l)) e)))
+          (claimBy-right l (storeOf l .sums) (length l) right i j
+          (leb-true i j (and-left (leb i j) (ltb j (length l)) e)) (ltb-true j (length l) (and-right (leb i j) (ltb j (length l)) e)))
       go false e = refl
 
 -- ---- the answer
 
--- it is no refusal, whatever the keys are
-pub answerAt-number : (keys : List ℕ) (first last : ℕ) (c : Claim) → numberOf (answerAt keys first last c) ≡ 0
-answerAt-number keys first last c = numberOf-decide (claimOf first last keys) c (helpIn keys first last) (go (ltb (first + 1) last))
+-- it is no refusal, whatever keys and sums are
+pub answerAt-number : (keys sums : List ℕ) (first last : ℕ) (c : Claim) → numberOf (answerAt keys sums first last c) ≡ 0
+answerAt-number keys sums first last c = numberOf-decide (claimBy keys sums first last) c (helpIn keys sums first last) (go (ltb (first + 1) last))
   where
-    go : (t : Bool) → numberOf (cond t (help (first + 1) (last - 1) keys) Match) ≡ 0
-    go true = numberOf-help (first + 1) (last - 1) keys
+    helps : (t : Bool) (a b d : Claim) → numberOf (cond t (One a) (Two b d)) ≡ 0
+    helps true a b d = refl
+    helps false a b d = refl
+
+    go : (t : Bool) → numberOf (cond t (helpBy keys sums (first + 1) (last - 1)) Match) ≡ 0
+    go true = helps (ltb (last - 1 - (first + 1)) 3) (claimBy keys sums (first + 1) (last - 1))
+        (claimBy keys sums (first + 1) (first + 1 + zOf (first + 1) (last - 1))) (claimBy keys sums (first + 1 + zOf (first + 1) (last - 1) + 1) (last - 1))
     go false = refl
 
--- where lo and hi are held
+-- where lo and hi are held, and the sums right as far as hi stands
 
-pub help-store : (l : List ℕ) (a b : ℕ) → a ≤ b → b < length l → help a b (storeOf l .keys) ≡ help a b l
-help-store l a b h g = go (ltb (b - a) 3) refl
-  where
-    go : (t : Bool) → ltb (b - a) 3 ≡ t
-        → cond t (One (claimOf a b (storeOf l .keys))) (Two (claimOf a (a + zOf a b) (storeOf l .keys)) (claimOf (a + zOf a b + 1) b (storeOf l .keys)))
-        ≡ cond t (One (claimOf a b l)) (Two (claimOf a (a + zOf a b) l) (claimOf (a + zOf a b + 1) b l))
-    go true e = ap One (claimOf-store l a b h g)
-    go false e =
-        let far : 3 ≤ b - a = ltb-false (b - a) 3 e in
-        ap₂ Two (claimOf-store l a (a + zOf a b) (omega arith) (omega arith)) (claimOf-store l (a + zOf a b + 1) b (omega arith) g)
+module _ (l sums : List ℕ) (mark : ℕ) (r : RightTo l sums mark) where
+  help-right : (a b : ℕ) → a ≤ b → b < mark → helpBy (storeOf l .keys) sums a b ≡ help a b l
+  help-right a b h g = go (ltb (b - a) 3) refl
+    where
+      by : ℕ → ℕ → Claim
+      by i j = claimBy (storeOf l .keys) sums i j
+
+      go : (t : Bool) → ltb (b - a) 3 ≡ t
+          → cond t (One (by a b)) (Two (by a (a + zOf a b)) (by (a + zOf a b + 1) b))
+          ≡ cond t (One (claimOf a b l)) (Two (claimOf a (a + zOf a b) l) (claimOf (a + zOf a b + 1) b l))
+      go true e = ap One (claimBy-right l sums mark r a b h g)
+      go false e =
+          let far : 3 ≤ b - a = ltb-false (b - a) 3 e in
+          ap₂ Two (claimBy-right l sums mark r a (a + zOf a b) (omega arith) (omega arith)) (claimBy-right l sums mark r (a + zOf a b + 1) b (omega arith) g)
+
+  module _ (rise : Rising l) (c : Claim) (good : Passes c) (held-lo : List·Memᴰ (c .lo) l) (held-hi : List·Memᴰ (c .hi) l) (read : position (c .hi) l < mark) where
+    first-le-last : position (c .lo) l ≤ position (c .hi) l
+    first-le-last = position-mono (c .lo) (c .hi) l (good .ordered)
+
+    decide-right : (same? more? : Bool) → same (own c l) c ≡ same? → ltb (own c l .cnt) (c .cnt) ≡ more?
+        → cond same? Match (cond more? (Ask (own c l)) (helpIn (storeOf l .keys) sums (position (c .lo) l) (position (c .hi) l)))
+        ≡ cond same? Match (cond more? (Ask (own c l)) (help (position (c .lo) l + 1) (position (c .hi) l - 1) l))
+    decide-right true more? e f = refl
+    decide-right false true e f = refl
+    decide-right false false e f =
+        let room : position (c .lo) l + 1 ≤ position (c .hi) l - 1 = helper-positions c l rise good held-lo held-hi e f in
+        rw (lt-ltb (position (c .lo) l + 1) (position (c .hi) l) (omega arith))
+        (help-right (position (c .lo) l + 1) (position (c .hi) l - 1) room (omega arith))
+
+    pub answerAt-right : answerAt (storeOf l .keys) sums (position (c .lo) l) (position (c .hi) l) c ≡ answer c l
+    unfolding answer
+    answerAt-right =
+        ap (λ (o : Claim). decide o c (helpIn (storeOf l .keys) sums (position (c .lo) l) (position (c .hi) l)))
+        (claimBy-right l sums mark r (position (c .lo) l) (position (c .hi) l) first-le-last read)
+        ∙ decide-right (same (own c l) c) (ltb (own c l .cnt) (c .cnt)) refl refl
 
 module _ (l : List ℕ) (short : length l ≤ limit) (rise : Rising l) (c : Claim) (good : Passes c)
     (held-lo : List·Memᴰ (c .lo) l) (held-hi : List·Memᴰ (c .hi) l) where
-  first-le-last : position (c .lo) l ≤ position (c .hi) l
-  first-le-last = position-mono (c .lo) (c .hi) l (good .ordered)
-
   last-lt : position (c .hi) l < length l
   last-lt = getD-position (c .hi) l rise held-hi .0
-
-  decide-store : (same? more? : Bool) → same (own c l) c ≡ same? → ltb (own c l .cnt) (c .cnt) ≡ more?
-      → cond same? Match (cond more? (Ask (own c l)) (helpIn (storeOf l .keys) (position (c .lo) l) (position (c .hi) l)))
-      ≡ cond same? Match (cond more? (Ask (own c l)) (help (position (c .lo) l + 1) (position (c .hi) l - 1) l))
-  decide-store true more? e f = refl
-  decide-store false true e f = refl
-  decide-store false false e f =
-      let room : position (c .lo) l + 1 ≤ position (c .hi) l - 1 = helper-positions c l rise good held-lo held-hi e f in
-      rw (lt-ltb (position (c .lo) l + 1) (position (c .hi) l) (omega arith))
-      (help-store l (position (c .lo) l + 1) (position (c .hi) l - 1) room (omega (arith, last-lt)))
-
-  pub answerAt-store : answerAt (storeOf l .keys) (position (c .lo) l) (position (c .hi) l) c ≡ answer c l
-  unfolding answer
-  answerAt-store =
-      ap (λ (o : Claim). decide o c (helpIn (storeOf l .keys) (position (c .lo) l) (position (c .hi) l)))
-      (claimOf-store l (position (c .lo) l) (position (c .hi) l) first-le-last last-lt)
-      ∙ decide-store (same (own c l) c) (ltb (own c l .cnt) (c .cnt)) refl refl
 
   -- where a key is sought
   place : (k : ℕ) → placeIn (storeOf l .keys) (storeOf l .count) k .at ≡ position k l
@@ -268,129 +268,99 @@ module _ (l : List ℕ) (short : length l ≤ limit) (rise : Rising l) (c : Clai
   pub answerIn-store : answerIn (storeOf l) c ≡ answer c l
   unfolding answerIn
   answerIn-store =
+      let le : position (c .lo) l ≤ position (c .hi) l = position-mono (c .lo) (c .hi) l (good .ordered) in
       let w : within (storeOf l) (position (c .lo) l) (position (c .hi) l) ≡ true =
       within-store l short (position (c .lo) l) (position (c .hi) l)
       ∙ and-both (leb (position (c .lo) l) (position (c .hi) l)) (ltb (position (c .hi) l) (length l))
-      (le-leb (position (c .lo) l) (position (c .hi) l) first-le-last) (lt-ltb (position (c .hi) l) (length l) last-lt) in
-      rw (place (c .lo), place (c .hi), w) answerAt-store
+      (le-leb (position (c .lo) l) (position (c .hi) l) le) (lt-ltb (position (c .hi) l) (length l) last-lt) in
+      rw (place (c .lo), place (c .hi), w)
+      (answerAt-right l (storeOf l .sums) (length l) (right-store l short) rise c good held-lo held-hi last-lt)
 
 -- ---- the reply
 
-module _ (s : Store) (c : Claim) where
+module _ (m : Marked) (c : Claim) where
   -- refused: the store is what it was
-  pub replyIn-kept : (numberOf (replyIn s c .answer) ≡ 0 → ⊥) → replyIn s c .store ≡ s
+  pub replyIn-kept : (numberOf (replyIn m c .answer) ≡ 0 → ⊥) → replyIn m c .marked ≡ m
   unfolding replyIn
-  replyIn-kept = settle-kept (λ (r : Replied). numberOf (r .answer)) (λ (r : Replied). r .store)
-      (record { store = hearIn s c .store; answer = answerAt (hearIn s c .store .keys) (hearIn s c .first) (hearIn s c .last) c })
-      (λ n. record { store = s; answer = Refused n })
-      (answerAt-number (hearIn s c .store .keys) (hearIn s c .first) (hearIn s c .last) c) (λ n. refl) (hearIn s c .number)
+  replyIn-kept = settle-kept (λ (r : RepliedIn). numberOf (r .answer)) (λ (r : RepliedIn). r .marked)
+      (answered c (heardBy m c) ready) (λ n. record { marked = m; answer = Refused n })
+      (answerAt-number (ready .store .keys) (ready .store .sums) (heardBy m c .first) (heardBy m c .last) c) (λ n. refl) (heardBy m c .number)
+    where
+      ready : Marked
+      ready = readyTo m (heardBy m c) (markHeard (m .mark) (m .store .count) (heardBy m c .store .count) (heardBy m c .first))
 
-  pub replyIn-judged : (judged c ≡ 0 → ⊥) → replyIn s c ≡ record { store = s; answer = Refused (judged c) }
+  pub replyIn-judged : (judged c ≡ 0 → ⊥) → replyIn m c ≡ record { marked = m; answer = Refused (judged c) }
   unfolding replyIn
-  replyIn-judged f = rw (hearIn-judged s c f, ne-eqb (judged c) 0 f)
+  replyIn-judged f = rw (hearIn-judged (storeWith (m .store .keys) (m .store .count)) c f, ne-eqb (judged c) 0 f)
 
-module _ (l : List ℕ) (rise : Rising l) (c : Claim) (good : Passes c) where
-  pub replyIn-fits : length (withEnds c l) ≤ limit → replyIn (storeOf l) c ≡ record { store = storeOf (hear c l); answer = reply c l }
+module _ (l : List ℕ) (short : length l ≤ limit) (rise : Rising l) (m : Marked) (o : MarkedOf l m) (c : Claim) (good : Passes c) where
+  -- its keys are those of the store in order
+  keys-are : storeWith (m .store .keys) (m .store .count) ≡ storeOf l
+  keys-are = ap₂ storeWith (o .keys) (o .count ∙ sym (count-storeOf l)) ∙ storeWith-storeOf l short
+
+  pub replyIn-full : limit < length (withEnds c l) → replyIn m c ≡ record { marked = m; answer = Refused 6 }
   unfolding replyIn
-  replyIn-fits h =
-      rw (hearIn-fits l rise c good h)
-      (ap (λ (a : Answer). record { store = storeOf (hear c l); answer = a })
-      (answerAt-store (hear c l) (hear-fits c l h) (hear-rising c l rise) c good (hear-lo c l) (hear-hi c l)))
+  replyIn-full h = rw (ap (λ (s : Store). hearIn s c) keys-are ∙ hearIn-full l rise c good h)
 
-  pub replyIn-full : limit < length (withEnds c l) → replyIn (storeOf l) c ≡ record { store = storeOf l; answer = Refused 6 }
-  unfolding replyIn
-  replyIn-full h = rw (hearIn-full l rise c good h)
+  -- what was added stands from lo on, so the sums before it stay right
+  module _ (fits : length (withEnds c l) ≤ limit) where
+    abbrev after : List ℕ
+    after = hear c l
 
--- ---- the sums of both halves of a span, from which one pass over the keys gives own and the claims that help: the span is the left half and then the
--- right one; the left one begins with lo, and the right one ends with hi
+    abbrev first : ℕ
+    first = position (c .lo) after
 
--- the numbers at positions i to i + n - 1
-abbrev pub part : ℕ → ℕ → List ℕ → List ℕ
-part i n l = take n (drop i l)
+    abbrev last : ℕ
+    last = position (c .hi) after
 
--- two parts, one right after the other, are one
-pub part-join : (i m n : ℕ) (l : List ℕ) → part i m l ++ part (i + m) n l ≡ part i (m + n) l
-part-join i m n l = rw (← (drop-drop m i l)) (sym (take-add m n (drop i l)))
+    heard-is : heardBy m c ≡ endsHeard (standingIn c after)
+    heard-is = ap (λ (s : Store). hearIn s c) keys-are ∙ hearIn-fits l rise c good fits
 
-pub xor-join : (i m n : ℕ) (l : List ℕ) → bitXor (xorAll (part i m l)) (xorAll (part (i + m) n l)) ≡ xorAll (part i (m + n) l)
-xor-join i m n l = sym (xorAll-append (part i m l) (part (i + m) n l)) ∙ ap xorAll (part-join i m n l)
+    -- the mark once the claim is heard
+    abbrev known : ℕ
+    known = markHeard (m .mark) (m .store .count) (storeOf after .count) first
 
--- a part without its first number, and without its last
-pub xor-first : (i n : ℕ) (l : List ℕ) → i < length l → bitXor (xorAll (part i (suc n) l)) (getD l i 0) ≡ xorAll (part (suc i) n l)
-xor-first i n l h =
-    rw (drop-cons l i 0)
-    (ap (λ (x : ℕ). bitXor x (getD l i 0)) (xor-comm (getD l i 0) (xorAll (take n (drop (suc i) l))))
-    ∙ (xor-assoc (xorAll (take n (drop (suc i) l))) (getD l i 0) (getD l i 0)
-    ∙ rw (xor-self, xor-zero-r)))
+    front : take first after ≡ take first l
+    front =
+        let least : (k : ℕ) → List·Memᴰ k (adding c l) → c .lo ≤ k = λ k e. adding-range c l (good .ordered) k e .0 in
+        rw (position-insertAll (c .lo) (adding c l) l least) (take-insertAll (c .lo) (adding c l) l least)
 
-pub xor-last : (i n : ℕ) (l : List ℕ) → i + n < length l → bitXor (xorAll (part i (suc n) l)) (getD l (i + n) 0) ≡ xorAll (part i n l)
-xor-last i n l h =
-    let e : take (suc n) (drop i l) ≡ take n (drop i l) ++ (getD (drop i l) n 0 ∷ []) =
-    take-suc (drop i l) n 0 (omega (arith, length-drop i l)) in
-    rw (e, getD-drop, xorAll-snoc, xor-assoc, xor-self, xor-zero-r)
+    known-right : RightTo after (m .store .sums) known
+    known-right = go (eqb (storeOf after .count) (m .store .count)) refl
+      where
+        grown : length l ≤ length after
+        grown = length-hear-ge c l
 
--- where the first of two claims ends
-pub middle-zOf : (first last : ℕ) → first + 1 < last → middle first last ≡ first + 1 + zOf (first + 1) (last - 1) + 1
-middle-zOf first last h = omega arith
+        go : (t : Bool) → eqb (storeOf after .count) (m .store .count) ≡ t → RightTo after (m .store .sums) (cond t (m .mark) (min (m .mark) first))
+        go true e =
+            let same : length after ≡ length l = sym (count-storeOf after) ∙ (eqb-true (storeOf after .count) (m .store .count) e ∙ o .count) in
+            subst (λ (x : List ℕ). RightTo x (m .store .sums) (m .mark)) (sym (hear-same c l rise (omega arith))) (o .sums)
+        go false e =
+            let less : min (m .mark) first ≤ m .mark = omega arith in
+            let low : min (m .mark) first ≤ first = omega arith in
+            right-grown l after (m .store .sums) (min (m .mark) first) (right-less l (m .store .sums) (m .mark) (min (m .mark) first) (o .sums) less) grown
+            (sym (take-take (min (m .mark) first) first after low)
+            ∙ (ap (take (min (m .mark) first)) front ∙ take-take (min (m .mark) first) first l low))
 
-middle-lt : (first last : ℕ) → 3 ≤ last - 1 - (first + 1) → middle first last < last
-middle-lt first last h = omega arith
+    held : last < length after
+    held = getD-position (c .hi) after (hear-rising c l rise) (hear-hi c l) .0
 
-module _ (keys : List ℕ) (first last left right : ℕ) (halves : Halves keys first last left right) where
-  -- both halves are the span
-  pub halves-sum : bitXor left right ≡ xorAll (span first last keys)
-  halves-sum =
-      let places = halves .places in
-      let m : first + (middle first last - first) ≡ middle first last = omega arith in
-      let n : middle first last - first + (last + 1 - middle first last) ≡ last - first + 1 = omega arith in
-      rw (halves .left-sum, halves .right-sum)
-      (rw (m, n) at (xor-join first (middle first last - first) (last + 1 - middle first last) keys))
+    -- .. and they are right up to hi once those are worked out
+    ready-right : RightTo after (resummed (storeOf after .keys) (m .store .sums) known (last + 1)) (max known (last + 1))
+    ready-right = ⊎-elim {C = RightTo after (resummed (storeOf after .keys) (m .store .sums) known (last + 1)) (max known (last + 1))}
+        (λ (h : last + 1 < known).
+        let most : max known (last + 1) ≡ known = omega arith in
+        rw (most, resummed-past (storeOf after .keys) (m .store .sums) known (last + 1) h) known-right)
+        (λ (h : known ≤ last + 1).
+        let most : max known (last + 1) ≡ last + 1 = omega arith in
+        rw most (resummed-right after (hear-fits c l fits) (m .store .sums) known (last + 1) known-right h (omega (arith, held))))
+        (lt-or-le (last + 1) known)
 
-  -- the sums of the claims that help: without lo and hi
-  pub one-sum : first + 1 < last
-      → bitXor (bitXor (bitXor left right) (getD keys first 0)) (getD keys last 0) ≡ xorAll (span (first + 1) (last - 1) keys)
-  one-sum h =
-      let places = halves .places in
-      let n : ℕ = last - first - 1 in
-      let e : last - first + 1 ≡ suc (suc n) = omega arith in
-      let f : suc first + n ≡ last = omega arith in
-      let g : last - 1 - (first + 1) + 1 ≡ n = omega arith in
-      let a : bitXor (xorAll (part first (suc (suc n)) keys)) (getD keys first 0) ≡ xorAll (part (suc first) (suc n) keys) =
-      xor-first first (suc n) keys (omega arith) in
-      let b : bitXor (xorAll (part (suc first) (suc n) keys)) (getD keys (suc first + n) 0) ≡ xorAll (part (suc first) n keys) =
-      xor-last (suc first) n keys (omega arith) in
-      rw (halves-sum, e, a, g, add-one first) (rw f at b)
-
-  pub left-sum : first + 1 < last → bitXor left (getD keys first 0) ≡ xorAll (span (first + 1) (middle first last - 1) keys)
-  left-sum h =
-      let places = halves .places in
-      let n : ℕ = middle first last - first - 1 in
-      let e : middle first last - first ≡ suc n = omega arith in
-      let k : middle first last - 1 - (first + 1) + 1 ≡ n = omega arith in
-      let a : bitXor (xorAll (part first (suc n) keys)) (getD keys first 0) ≡ xorAll (part (suc first) n keys) = xor-first first n keys (omega arith) in
-      rw (halves .left-sum, e, k) (rw (← (add-one first)) at a)
-
-  pub right-sum : 3 ≤ last - 1 - (first + 1) → bitXor right (getD keys last 0) ≡ xorAll (span (middle first last) (last - 1) keys)
-  right-sum h =
-      let below = middle-lt first last h in
-      let places = halves .places in
-      let n : ℕ = last - middle first last in
-      let e : last + 1 - middle first last ≡ suc n = omega arith in
-      let f : middle first last + n ≡ last = omega arith in
-      let k : last - 1 - middle first last + 1 ≡ n = omega arith in
-      let a : bitXor (xorAll (part (middle first last) (suc n) keys)) (getD keys (middle first last + n) 0) ≡ xorAll (part (middle first last) n keys) =
-      xor-last (middle first last) n keys (omega arith) in
-      rw (halves .right-sum, e, k) (rw f at a)
-
-  -- where the claims that help stand
-  inner-places : (a b : ℕ) → a ≤ b → b ≤ last → Positions keys a b
-  inner-places a b h g = let places = halves .places in record { rise = h; short = omega arith; inside = omega arith }
-
-  pub one-places : first + 1 < last → Positions keys (first + 1) (last - 1)
-  one-places h = inner-places (first + 1) (last - 1) (omega arith) (omega arith)
-
-  pub left-places : 3 ≤ last - 1 - (first + 1) → Positions keys (first + 1) (middle first last - 1)
-  left-places h = inner-places (first + 1) (middle first last - 1) (omega arith) (omega arith)
-
-  pub right-places : 3 ≤ last - 1 - (first + 1) → Positions keys (middle first last) (last - 1)
-  right-places h = inner-places (middle first last) (last - 1) (omega arith) (omega arith)
+    pub replyIn-fits : MarkedOf (hear c l) (replyIn m c .marked) × (replyIn m c .answer ≡ reply c l)
+    unfolding replyIn
+    replyIn-fits =
+        rw heard-is (
+          record { keys = refl; count = count-storeOf after; sums = ready-right },
+          answerAt-right after (resummed (storeOf after .keys) (m .store .sums) known (last + 1)) (max known (last + 1)) ready-right
+              (hear-rising c l rise) c good (hear-lo c l) (hear-hi c l) (omega arith),
+        )

@@ -11,11 +11,11 @@
 --   CountLaws     which answer a claim gets, by counts alone
 --   LackLaws      a claim that comes to a store which lacks its keys
 --   Cases         the twelve lettered cases
---   LentLaws      what the calls on a lent run mean; the sums of both halves of a span
+--   SpanSums      a span's sum, from two running sums
+--   LentLaws      what the calls on a lent run mean
 --   WordsLaws     what it means to read and to write a claim in words
 -- The laws of the code, cited by its proofs alone.
 --   ClaimPaths    src/claim.rt
---   SumsPaths     src/sums.rt
 --   LentPaths     src/lent.rt
 --   CallsPaths    src/calls.rt
 pub mod Xor
@@ -29,9 +29,9 @@ pub mod ThirdLaws
 pub mod CountLaws
 pub mod LackLaws
 pub mod Cases
+pub mod SpanSums
 pub mod LentLaws
 pub mod WordsLaws
 mod ClaimPaths
-mod SumsPaths
 mod LentPaths
 mod CallsPaths

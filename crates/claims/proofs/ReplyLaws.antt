@@ -11,22 +11,23 @@ use mathlib.Core.List.{Memᴰ·cast}
 use mathlib.Core.Logic.{_⊎_, inl, inr, ⊎-elim}
 use mathlib.Core.Path.{_≡_, refl, sym, ap, ap₂, _∙_, subst}
 use native.Mathlib.Omega.{arith}
-use borrow.Author.Tests.{lt-ltb, ltb-true, ltb-false, eqb-true, eq-eqb}
+use borrow.Author.Tests.{lt-ltb, ltb-true, ltb-false, eqb-true}
 use lib.Dec.{ltb, eqb}
 use lib.ListN.{length, take, drop, getD}
 use lib.Seq.{take-at, drop-at}
-use Rattle.keys.specs.Store.{limit, position, insertAll}
-use Rattle.keys.proofs.Tests.{and-left, and-right, and-both, Order, less, equal, greater, order}
+use Rattle.keys.specs.Store.{limit, sameKeys, position, insertAll}
+use Rattle.keys.proofs.Tests.{and-left, and-right, Order, less, equal, greater, order}
 use Rattle.keys.proofs.Rising.{Rising, Sub, sub-trans, sub-append-left, rising-getD, rising-length}
 use Rattle.keys.proofs.Insert.{length-insert-le, mem-insertAll-old, mem-insertAll-new, insertAll-mem, insertAll-sub}
 use Rattle.keys.proofs.Insert.{insertAll-rising, insertAll-held, insertAll-same, length-insertAll-ge}
 use Rattle.keys.proofs.Position.{getD-position, position-mono}
+use Rattle.keys.proofs.StoreLaws.{sameKeys-equal, sameKeys-refl}
 use Rattle.claims.specs.declared.claim.Claim.{Claim}
 use Rattle.claims.specs.declared.answer.Answer.{Answer}
 use Rattle.claims.specs.declared.answer.Answer.the-variants.{Refused, Match, Ask, One, Two}
 use Rattle.claims.specs.Claim.{span, xorAll, claimOf, between, middleKey, middleInside}
 use Rattle.claims.specs.Reply.{ends, withEnds, wantsMiddle, hasSpace, third, adding, hear}
-use Rattle.claims.specs.Reply.{own, same, zOf, help, decide, answer, reply, numberOf, claimsOf, matches, sameKeys, falseMatch}
+use Rattle.claims.specs.Reply.{own, same, zOf, help, decide, answer, reply, numberOf, claimsOf, matches, falseMatch}
 use Rattle.claims.proofs.Xor.{xorAll-one, xorAll-two}
 use Rattle.claims.proofs.Between.{inside, between-one, between-inside, length-between-inside}
 use Rattle.claims.proofs.Span.{first, last, mem-first, mem-last}
@@ -387,19 +388,6 @@ pub reply-spanned : (c : Claim) (l : List ℕ) → Rising l → Passes c → (d 
 reply-spanned c l r p = answer-spanned c (hear c l) (hear-rising c l r) p (hear-lo c l) (hear-hi c l)
 
 -- ---- a match that is not false
-
-pub sameKeys-equal : (a b : List ℕ) → sameKeys a b ≡ true → a ≡ b
-sameKeys-equal [] [] h = refl
-sameKeys-equal [] (k ∷ ks) h = absurd (false≢true h)
-sameKeys-equal (j ∷ js) [] h = absurd (false≢true h)
-sameKeys-equal (j ∷ js) (k ∷ ks) h =
-    let p : j ≡ k = eqb-true j k (and-left (eqb j k) (sameKeys js ks) h) in
-    let q : js ≡ ks = sameKeys-equal js ks (and-right (eqb j k) (sameKeys js ks) h) in
-    cc
-
-pub sameKeys-refl : (a : List ℕ) → sameKeys a a ≡ true
-sameKeys-refl [] = refl
-sameKeys-refl (k ∷ ks) = and-both (eqb k k) (sameKeys ks ks) (eq-eqb k k refl) (sameKeys-refl ks)
 
 pub matches-match : (a : Answer) → matches a ≡ true → a ≡ Match
 matches-match (Refused n) h = absurd (false≢true h)

@@ -6,7 +6,7 @@ use mathlib.Core.Bool.{Bool, true}
 use mathlib.Core.List.{List, [], _∷_}
 use Rattle.keys.specs.declared.store.Store.{Store}
 use Rattle.keys.specs.Store.{limit, zeros, emptyStore, storeOf}
-use Rattle.keys.specs.Lent.{storeWith}
+use Rattle.keys.specs.Lent.{storeWith, markedAll, finishIn}
 use Rattle.claims.specs.declared.claim.Claim.{Claim}
 use Rattle.claims.specs.declared.answer.Answer.{Answer}
 use Rattle.claims.specs.declared.answer.Answer.the-variants.{Refused, Match, Ask, One, Two}
@@ -126,9 +126,12 @@ faultyTable =
 
 -- ---- the reply on a lent run, of any content
 
--- a store hears a claim: the store afterwards, and the answer
+-- a store hears a claim: the store afterwards, once its sums are all worked out, and the answer
 abbrev pub hearsLent : Store → Claim → Store → Answer → Row
-hearsLent s c t a = record { gives = reply-is (replyIn s c); wanted = reply-is (record { store = t; answer = a }) }
+hearsLent s c t a = record {
+  gives = reply-is (record { store = finishIn (replyIn (markedAll s) c .marked); answer = replyIn (markedAll s) c .answer });
+  wanted = reply-is (record { store = t; answer = a });
+}
 
 -- a refusal never writes: with the number n, the store is what it was
 abbrev pub unmoved : Store → Claim → ℕ → Row

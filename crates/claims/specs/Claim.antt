@@ -18,7 +18,8 @@ xorAll [] = 0
 xorAll (k ∷ ks) = bitXor k (xorAll ks)
 
 -- "The claim for positions i to j of a store is: key i, key j, the XOR of all keys i to j with both ends, and j − i + 1."
--- For one key the sum is that key, as the paper's algorithm has it, and not 0, as its text has it.
+-- For one key the sum is that key, as the paper's algorithm has it, and not 0, as its text has it. Of the running sums that a store has beside its keys:
+-- "Claims, replies and lists of events give what they gave before." (document 02, slip 7)
 abbrev pub claimOf : ℕ → ℕ → List ℕ → Claim
 claimOf i j l = record { lo = getD l i 0; hi = getD l j 0; sum = xorAll (span i j l); cnt = j - i + 1 }
 

@@ -6,7 +6,7 @@ use mathlib.Core.Bool.{Bool, true, false, cond, not, _&&_}
 use mathlib.Core.List.{List, [], _∷_, _++_}
 use lib.Dec.{ltb, eqb}
 use lib.ListN.{length}
-use Rattle.keys.specs.Store.{limit, position, insertAll}
+use Rattle.keys.specs.Store.{limit, sameKeys, position, insertAll}
 use Rattle.claims.specs.declared.claim.Claim.{Claim}
 use Rattle.claims.specs.declared.answer.Answer.{Answer}
 use Rattle.claims.specs.declared.answer.Answer.the-variants.{Refused, Match, Ask, One, Two}
@@ -112,13 +112,6 @@ abbrev pub matches : Answer → Bool
 matches a = isMatched (caseOf a .kind)
 
 -- ---- a false match
-
--- are two lists of keys the same?
-abbrev pub sameKeys : List ℕ → List ℕ → Bool
-sameKeys [] [] = true
-sameKeys [] (k ∷ ks) = false
-sameKeys (j ∷ js) [] = false
-sameKeys (j ∷ js) (k ∷ ks) = eqb j k && sameKeys js ks
 
 -- "A match is false if, when the claim was made, its sender held other keys from lo to hi than the receiver holds at the match, what the reply
 -- added counted in." Of the reply to c by a receiver with the keys l, where the sender held `claimed` from lo to hi.

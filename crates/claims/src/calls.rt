@@ -8,7 +8,7 @@ use crate::lent::make_in;
 use crate::lent::reply_in;
 use keys::Store;
 use keys::add_in;
-use keys::ordered_in;
+use keys::summed_in;
 ghost use mathlib.Core.Path.{_≡_};
 ghost use Rattle.claims.specs.Call.{entered, made, Replying};
 
@@ -16,14 +16,11 @@ ghost use Rattle.claims.specs.Call.{entered, made, Replying};
 pub fn enter(store: Store, key: u64) -> Entered
     ensures { λ r. ⌜ r ≡ entered store key ⌝ }
 {
-    let mut s = store;
-    let count = s.count;
-    if !ordered_in(&s.keys, count) {
-        return Entered {
-            number: 1,
-            store: s,
-        };
+    let count = store.count;
+    if !summed_in(&store.keys, &store.sums, count) {
+        return Entered { number: 1, store };
     }
+    let mut s = store;
     let added = add_in(&mut s.keys, count, key);
     s.count = added.count;
     if !added.fits {
@@ -34,7 +31,7 @@ pub fn enter(store: Store, key: u64) -> Entered
     }
     Entered {
         number: 0,
-        store: s,
+        store: s.renewed(added.first),
     }
 }
 
@@ -43,29 +40,37 @@ pub fn make(store: Store, first: usize, last: usize) -> Made
     ensures { λ r. ⌜ r ≡ made store first last ⌝ }
 {
     let count = store.count;
-    if !ordered_in(&store.keys, count) {
+    if !summed_in(&store.keys, &store.sums, count) {
         return Made {
             number: 1,
             claim: Claim::NONE,
         };
     }
-    make_in(&store.keys, count, first, last)
+    make_in(&store.keys, &store.sums, count, first, last)
 }
 
 // Replies to a claim. Asks 1, 2 to 5, 16 and 6.
 pub fn reply(store: Store, claim: Claim) -> Replied
     ensures { λ r. ⌜ Replying store claim r ⌝ }
 {
-    let mut s = store;
-    let count = s.count;
-    if !ordered_in(&s.keys, count) {
+    let count = store.count;
+    if !summed_in(&store.keys, &store.sums, count) {
         return Replied {
-            store: s,
+            store,
             answer: Answer::Refused(1),
         };
     }
-    let told = reply_in(&mut s.keys, count, claim);
+    let mut keys = store.keys;
+    let mut sums = store.sums;
+    let told = reply_in(&mut keys, &mut sums, count, count, claim);
     let answer = told.answer;
-    s.count = told.count;
-    Replied { store: s, answer }
+    let s = Store {
+        keys,
+        sums,
+        count: told.count,
+    };
+    Replied {
+        store: s.renewed(told.mark),
+        answer,
+    }
 }

@@ -1,4 +1,4 @@
-// The calls on a lent run of keys that hear and make claims, for the crates above: no store is copied and question 1 is not put again.
+// The calls on lent keys and sums that hear and make claims, for the crates above: no store is copied and question 1 is not put again.
 // Each is total, and says by a definition of specs/Lent what it does to any content; where it refuses, it has written nothing.
 use crate::answer::Answer;
 use crate::answer::Made;
@@ -6,20 +6,21 @@ use crate::claim::Claim;
 use crate::claim::judge;
 use crate::claim::middle_key;
 use crate::claim::same;
-use crate::sums::sums_of;
-use crate::sums::xor_all;
 use keys::Store;
 use keys::add_both_in;
 use keys::add_in;
+use keys::at_least;
+use keys::capped;
 use keys::places_in;
+use keys::resum_in;
 ghost use mathlib.Core.Path.{_≡_};
 ghost use mathlib.Core.Bool.{true};
-ghost use Prim.Native.Nat.{_≤_};
-ghost use Rattle.claims.specs.Claim.{span, xorAll, claimOf};
+ghost use Prim.Native.Nat.{_≤_, _<_};
+ghost use lib.ListN.{length};
 ghost use Rattle.claims.specs.Question.{question16};
-ghost use Rattle.keys.specs.Lent.{storeWith};
-ghost use Rattle.claims.specs.Lent.{hearingWith, notHeard, tellsThird, hearIn, within, Positions, makeIn};
-ghost use Rattle.claims.specs.Lent.{Halves, helpIn, answerAt, answerIn, repliedWith, replyIn};
+ghost use Rattle.keys.specs.Lent.{storeWith, storeBy};
+ghost use Rattle.claims.specs.Lent.{hearingWith, notHeard, tellsThird, hearIn, within, sumAt, claimBy, Positions, makeIn};
+ghost use Rattle.claims.specs.Lent.{helpIn, answerAt, answerIn, markHeard, repliedWith, replyIn};
 
 // A claim heard: the count then, and where its lo and hi stand; or the number of the first question answered no, and the count as it was.
 pub struct Heard {
@@ -29,9 +30,10 @@ pub struct Heard {
     pub last: usize,
 }
 
-// A claim replied to: the count then, and the answer.
+// A claim replied to: the count then, how far the sums are right, and the answer.
 pub struct Told {
     pub count: usize,
+    pub mark: usize,
     pub answer: Answer,
 }
 
@@ -91,9 +93,9 @@ pub fn hear_in(keys: &mut [u64; Store::LIMIT], count: usize, claim: Claim) -> He
     }
 }
 
-// Whether first and last are positions of the run.
-fn within(keys: &[u64], count: usize, first: usize, last: usize) -> bool
-    ensures { λ r. ⌜ r ≡ within (storeWith (now (keys .entry)) count) first last ⌝ }
+// Whether first and last are positions of keys and sums.
+fn within<'a>(keys: &'a [u64], sums: &'a [u64], count: usize, first: usize, last: usize) -> bool
+    ensures { λ r. ⌜ r ≡ within (storeBy (now (keys .entry)) (now (sums .entry)) count) first last ⌝ }
 {
     if last < first {
         return false;
@@ -104,125 +106,144 @@ fn within(keys: &[u64], count: usize, first: usize, last: usize) -> bool
     if keys.len() < count {
         return false;
     }
+    if sums.len() < count {
+        return false;
+    }
     count <= Store::LIMIT
 }
 
-// The claim of positions first to last, from the sum of their keys.
-fn claim_with(keys: &[u64], first: usize, last: usize, sum: u64) -> Claim
-    requires { ⌜ Positions (now keys) first last × (sum ≡ xorAll (span first last (now keys))) ⌝ }
-    ensures { λ r. ⌜ r ≡ claimOf first last (now (keys .entry)) ⌝ }
+// The sum of the keys at positions first to last: of all up to the last, without those before the first.
+fn span_sum(sums: &[u64], first: usize, last: usize) -> u64
+    requires { ⌜ (first ≤ last) × (last < length (now sums)) ⌝ }
+    ensures { λ r. ⌜ r ≡ sumAt (now (sums .entry)) first last ⌝ }
+{
+    if first == 0 {
+        return sums[last];
+    }
+    sums[last] ^ sums[first - 1]
+}
+
+// The claim of positions first to last.
+fn claim_at<'a>(keys: &'a [u64], sums: &'a [u64], first: usize, last: usize) -> Claim
+    requires { ⌜ Positions (now keys) (now sums) first last ⌝ }
+    ensures { λ r. ⌜ r ≡ claimBy (now (keys .entry)) (now (sums .entry)) first last ⌝ }
 {
     let lo = keys[first];
     let hi = keys[last];
+    let sum = span_sum(sums, first, last);
     let cnt = (last - first + 1) as u16;
     Claim { lo, hi, sum, cnt }
 }
 
-// The claim of positions first to last.
-fn claim_at(keys: &[u64], first: usize, last: usize) -> Claim
-    requires { ⌜ Positions (now keys) first last ⌝ }
-    ensures { λ r. ⌜ r ≡ claimOf first last (now (keys .entry)) ⌝ }
-{
-    let end = last + 1;
-    let sum = xor_all(&keys[first..end]);
-    claim_with(keys, first, last, sum)
-}
-
 // The claim of positions first to last, if they are positions.
-pub fn make_in(keys: &[u64], count: usize, first: usize, last: usize) -> Made
-    ensures { λ r. ⌜ r ≡ makeIn (storeWith (now (keys .entry)) count) first last ⌝ }
+pub fn make_in<'a>(
+    keys: &'a [u64],
+    sums: &'a [u64],
+    count: usize,
+    first: usize,
+    last: usize,
+) -> Made
+    ensures { λ r. ⌜ r ≡ makeIn (storeBy (now (keys .entry)) (now (sums .entry)) count) first last ⌝ }
 {
-    if !within(keys, count, first, last) {
+    if !within(keys, sums, count, first, last) {
         return Made {
             number: 7,
             claim: Claim::NONE,
         };
     }
-    let claim = claim_at(keys, first, last);
+    let claim = claim_at(keys, sums, first, last);
     Made { number: 0, claim }
 }
 
-// The claims that help, from the sums of both halves of the positions first to last.
-fn help_with(keys: &[u64], first: usize, last: usize, left: u64, right: u64) -> Answer
-    requires { ⌜ Halves (now keys) first last left right ⌝ }
-    ensures { λ r. ⌜ r ≡ helpIn (now (keys .entry)) first last ⌝ }
+// The claims that help where lo and hi stand at first and last.
+fn help_at<'a>(keys: &'a [u64], sums: &'a [u64], first: usize, last: usize) -> Answer
+    requires { ⌜ Positions (now keys) (now sums) first last ⌝ }
+    ensures { λ r. ⌜ r ≡ helpIn (now (keys .entry)) (now (sums .entry)) first last ⌝ }
 {
     if last <= first + 1 {
         return Answer::Match;
     }
     let a = first + 1;
     let b = last - 1;
-    let lo = keys[first];
-    let hi = keys[last];
     if b - a < 3 {
-        return Answer::One(claim_with(keys, a, b, left ^ right ^ lo ^ hi));
+        return Answer::One(claim_at(keys, sums, a, b));
     }
-    let mid = first + 1 + (last - first + 1) / 2;
-    let one = claim_with(keys, a, mid - 1, left ^ lo);
-    let two = claim_with(keys, mid, b, right ^ hi);
+    let end = a + (b + 1 - a) / 2;
+    let one = claim_at(keys, sums, a, end);
+    let two = claim_at(keys, sums, end + 1, b);
     Answer::Two(one, two)
 }
 
-// The answer, from the sums of both halves.
-fn answer_with(
-    keys: &[u64],
+// The answer to a claim whose lo and hi stand at first and last.
+fn answer_at<'a>(
+    keys: &'a [u64],
+    sums: &'a [u64],
     first: usize,
     last: usize,
-    left: u64,
-    right: u64,
     claim: Claim,
 ) -> Answer
-    requires { ⌜ Halves (now keys) first last left right ⌝ }
-    ensures { λ r. ⌜ r ≡ answerAt (now (keys .entry)) first last claim ⌝ }
+    requires { ⌜ Positions (now keys) (now sums) first last ⌝ }
+    ensures { λ r. ⌜ r ≡ answerAt (now (keys .entry)) (now (sums .entry)) first last claim ⌝ }
 {
-    let own = claim_with(keys, first, last, left ^ right);
+    let own = claim_at(keys, sums, first, last);
     if same(own, claim) {
         return Answer::Match;
     }
     if own.cnt < claim.cnt {
         return Answer::Ask(own);
     }
-    help_with(keys, first, last, left, right)
-}
-
-// The answer to a claim whose lo and hi stand at first and last: one pass over the span, in two halves.
-fn answer_at(keys: &[u64], first: usize, last: usize, claim: Claim) -> Answer
-    requires { ⌜ Positions (now keys) first last ⌝ }
-    ensures { λ r. ⌜ r ≡ answerAt (now (keys .entry)) first last claim ⌝ }
-{
-    let mid = first + 1 + (last - first + 1) / 2;
-    let end = last + 1;
-    let sums = sums_of(&keys[first..mid], &keys[mid..end]);
-    answer_with(keys, first, last, sums.one, sums.other, claim)
+    help_at(keys, sums, first, last)
 }
 
 // The answer to a claim whose lo and hi are sought; none is added. 1 where they are not found at positions.
-pub fn answer_in(keys: &[u64], count: usize, claim: Claim) -> Answer
-    ensures { λ r. ⌜ r ≡ answerIn (storeWith (now (keys .entry)) count) claim ⌝ }
+pub fn answer_in<'a>(keys: &'a [u64], sums: &'a [u64], count: usize, claim: Claim) -> Answer
+    ensures { λ r. ⌜ r ≡ answerIn (storeBy (now (keys .entry)) (now (sums .entry)) count) claim ⌝ }
 {
     let places = places_in(keys, count, claim.lo, claim.hi);
     let first = places.lower.at;
     let last = places.upper.at;
-    if !within(keys, count, first, last) {
+    if !within(keys, sums, count, first, last) {
         return Answer::Refused(1);
     }
-    answer_at(keys, first, last, claim)
+    answer_at(keys, sums, first, last, claim)
 }
 
-// The reply to a claim. Asks 2 to 5, 16 and 6.
-pub fn reply_in(keys: &mut [u64; Store::LIMIT], count: usize, claim: Claim) -> Told
-    ensures { λ r. ⌜ repliedWith (now (keys .exit)) r ≡ replyIn (storeWith (now (keys .entry)) count) claim ⌝ }
+// How far the sums are right once a claim is heard, `heard` keys being held then.
+fn mark_heard(mark: usize, count: usize, heard: usize, first: usize) -> usize
+    ensures { λ r. ⌜ r ≡ markHeard mark count heard first ⌝ }
+{
+    if heard == count {
+        return mark;
+    }
+    capped(mark, first)
+}
+
+// The reply to a claim, where the sums below the mark are right: those from there to hi are worked out before they are read. Asks 2 to 5, 16 and 6.
+pub fn reply_in(
+    keys: &mut [u64; Store::LIMIT],
+    sums: &mut [u64; Store::LIMIT],
+    count: usize,
+    mark: usize,
+    claim: Claim,
+) -> Told
+    ensures { λ r. ⌜ repliedWith (now (keys .exit)) (now (sums .exit)) r
+        ≡ replyIn (record { store = storeBy (now (keys .entry)) (now (sums .entry)) count; mark = mark }) claim ⌝ }
 {
     let heard = hear_in(keys, count, claim);
     if heard.number != 0 {
         return Told {
             count,
+            mark,
             answer: Answer::Refused(heard.number),
         };
     }
-    let answer = answer_at(&keys[..], heard.first, heard.last, claim);
+    let known = mark_heard(mark, count, heard.count, heard.first);
+    let end = heard.last + 1;
+    resum_in(&keys[..], sums, known, end);
+    let answer = answer_at(&keys[..], &sums[..], heard.first, heard.last, claim);
     Told {
         count: heard.count,
+        mark: at_least(known, end),
         answer,
     }
 }

@@ -4,7 +4,6 @@ mod answer;
 mod calls;
 mod claim;
 mod lent;
-mod sums;
 
 pub use answer::Answer;
 pub use answer::Entered;

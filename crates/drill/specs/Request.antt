@@ -12,9 +12,9 @@ mostWords = 16 * limit
 abbrev pub replySpace : ℕ
 replySpace = 8 * mostWords + 1
 
--- a count and its places
+-- a count, and a key and a sum for each place
 abbrev storeWords : ℕ
-storeWords = 1 + limit
+storeWords = 1 + 2 * limit
 
 -- the place of the first store
 abbrev left : ℕ

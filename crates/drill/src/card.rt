@@ -22,16 +22,19 @@ pub const SECOND: usize = 3;
 // The claims.
 pub const CLAIMS: usize = 4;
 
+// The words of a store: its count, its keys, its sums.
+const STORE: usize = 1 + 2 * Store::LIMIT;
+
 // The store, the place after it, the table's claims, and the places after the node and after both stores.
 pub const LEFT: usize = 20;
 
-pub const RIGHT: usize = LEFT + 1 + Store::LIMIT;
+pub const RIGHT: usize = LEFT + STORE;
 
 const TABLE: usize = RIGHT + 1;
 
 pub const PAST_NODE: usize = TABLE + Claim::WORDS * Node::TABLE;
 
-pub const PAST_BOTH: usize = RIGHT + 1 + Store::LIMIT;
+pub const PAST_BOTH: usize = RIGHT + STORE;
 
 // The four claims of a frame.
 pub fn four_in(words: &[u64; MOST]) -> [Claim; 4] {
@@ -68,28 +71,49 @@ pub fn end_of_lent(words: &[u64; MOST], n: usize, from: usize) -> usize
     from + lent
 }
 
-pub fn store_at(words: &[u64; MOST], at: usize) -> Store
+// The numbers from a place on, one for each place of a store.
+fn run_at(words: &[u64; MOST], at: usize) -> [u64; Store::LIMIT]
     requires { ⌜ at ≤ 1000000 ⌝ }
 {
-    let mut store = Store::empty();
+    let mut run = [0; Store::LIMIT];
     let mut i: usize = 0;
     while i < Store::LIMIT {
-        store.keys[i] = get(words, at + 1 + i);
+        run[i] = get(words, at + i);
         i += 1;
     }
-    store.count = get(words, at) as usize;
-    store
+    run
+}
+
+fn put_run(words: &mut [u64; MOST], at: usize, run: [u64; Store::LIMIT])
+    requires { ⌜ at ≤ 1000000 ⌝ }
+{
+    let mut i: usize = 0;
+    while i < Store::LIMIT {
+        put(words, at + i, run[i]);
+        i += 1;
+    }
+}
+
+pub fn store_at(words: &[u64; MOST], at: usize) -> Store
+    requires { ⌜ at ≤ 900000 ⌝ }
+{
+    let keys = run_at(words, at + 1);
+    let sums = run_at(words, at + 1 + Store::LIMIT);
+    Store {
+        keys,
+        sums,
+        count: get(words, at) as usize,
+    }
 }
 
 pub fn put_store(words: &mut [u64; MOST], at: usize, store: Store)
-    requires { ⌜ at ≤ 1000000 ⌝ }
+    requires { ⌜ at ≤ 900000 ⌝ }
 {
+    let keys = store.keys;
+    let sums = store.sums;
     put(words, at, store.count as u64);
-    let mut i: usize = 0;
-    while i < Store::LIMIT {
-        put(words, at + 1 + i, store.keys[i]);
-        i += 1;
-    }
+    put_run(words, at + 1, keys);
+    put_run(words, at + 1 + Store::LIMIT, sums);
 }
 
 // The claims of a table.

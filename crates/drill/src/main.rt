@@ -17,7 +17,7 @@
 //     4 to 19      four claims, each lo, hi, sum, cnt (of cnt the low 16 bits count). The first is the argument of reply, judge and take; the
 //                  four are those of write_frame. Answered: the claim of make in the first; of reply in the second and third, zeros where there
 //                  is none; of read_frame all four; of round_record the record's claim in the first, and its sender in word 8
-//     20 ..        the store, or the node's store, or a round's left store: its count, then as many places as the limit
+//     20 ..        the store, or the node's store, or a round's left store: its count, then as many keys as the limit, then as many sums
 //     behind it    the node's pending count, then 64 claims; then the words from which a beat is lent its own
 //     behind it    a round's right store; then the words from which a round is lent its own
 //

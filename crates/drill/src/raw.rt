@@ -5,7 +5,7 @@ ghost use lib.ListN.{length};
 ghost use mathlib.Core.Path.{_≡_};
 ghost use Rattle.drill.specs.Request.{mostWords, replySpace};
 
-// The most words of a request: two full stores and what their round is lent are twelve for each key, and a few.
+// The most words of a request: two full stores and what their round is lent are fourteen for each key, and a few.
 pub const MOST: usize = 16 * Store::LIMIT;
 
 // The most bytes of a request: the longest that is lent is a full sheet, of less than 22 for each key.

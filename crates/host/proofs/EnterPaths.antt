@@ -10,7 +10,7 @@ use borrow.Author.Tests.{lt-ltb, le-ltb}
 use lib.ListN.{length}
 use Rattle.keys.specs.declared.store.Store.{Store}
 use Rattle.keys.specs.declared.lent.Added.{Added}
-use Rattle.keys.specs.Store.{limit, storeOf, insert}
+use Rattle.keys.specs.Store.{limit, Sized, storeOf, insert}
 use Rattle.keys.specs.Lent.{storeWith, Grown, grownWith, addIn}
 use Rattle.keys.proofs.Tests.{lt-or-le}
 use Rattle.keys.proofs.Rising.{Rising}
@@ -62,9 +62,9 @@ module _ (n : Node) (key : ℕ) where
 
     -- ---- the key added to the lent keys: what that told, and the run of keys then
 
-    module _ (long : length (n .store .keys) ≡ limit) {h : Added} {after : List ℕ} (added : grownWith after h ≡ addIn (n .store) key) where
+    module _ (sized : Sized (n .store)) {h : Added} {after : List ℕ} (added : grownWith after h ≡ addIn (n .store) key) where
       told : grownWith after h ≡ addIn (storeOf (nodeKeys n)) key
-      told = added ∙ ap (λ (s : Store). addIn s key) (storeOf-keysOf (n .store) long (o .store))
+      told = added ∙ ap (λ (s : Store). addIn s key) (storeOf-keysOf (n .store) sized (o .store))
 
       -- 6 as it is asked, and as adding told it
       pub added-six : six ≡ cond (h .fits) 0 6
@@ -77,7 +77,7 @@ module _ (n : Node) (key : ℕ) where
       pub unfit-long : h .fits ≡ false → length after ≡ limit
       unfit-long f =
           let kept = addIn-unfit (n .store) key (sym (ap (λ (g : Grown). g .fits) added) ∙ f) in
-          rw (ap (λ (g : Grown). g .store .keys) added ∙ ap (λ (s : Store). s .keys) kept) long
+          rw (ap (λ (g : Grown). g .store .keys) added ∙ ap (λ (s : Store). s .keys) kept) (sized .keys)
 
       module _ (fit : h .fits ≡ true) where
         pub added-fits : length grown ≤ limit

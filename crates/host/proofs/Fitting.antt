@@ -10,7 +10,7 @@ use lib.ListN.{length, drop, length-append, length-replicate}
 use Rattle.keys.specs.Store.{limit, zeros, storeOf}
 use Rattle.keys.proofs.Tests.{eq-or-ne}
 use Rattle.keys.proofs.Insert.{insert-mem}
-use Rattle.keys.proofs.StoreLaws.{keys-storeOf, keysOf-storeOf, length-keys-storeOf, inOrder-rising}
+use Rattle.keys.proofs.StoreLaws.{keys-storeOf, keysOf-storeOf, sized-storeOf, inOrder-rising}
 use Rattle.keys.proofs.Rising.{Rising}
 use Rattle.claims.specs.declared.claim.Claim.{Claim}
 use Rattle.claims.specs.Claim.{noClaim, middleKey}
@@ -56,7 +56,7 @@ none-fits = record { lo = omega arith; hi = omega arith; sum = omega arith; cnt 
 module _ (l : List ℕ) (t : List Claim) (few : length l ≤ limit) (several : length t ≤ tableLimit) where
   shaped-nodeOf : Shaped (nodeOf l t)
   unfolding nodeOf blanks
-  shaped-nodeOf = record { keys = length-keys-storeOf l few; pending = simp (length-append, length-replicate) (omega arith) }
+  shaped-nodeOf = record { store = sized-storeOf l few; pending = simp (length-append, length-replicate) (omega arith) }
 
   module _ (p : Each KeyFits l) (q : Each ClaimFits t) where
     narrow-nodeOf : Narrow (nodeOf l t)
@@ -74,7 +74,7 @@ module _ (l : List ℕ) (t : List Claim) (few : length l ≤ limit) (several : l
 -- in order, it fits place by place: past the counts there are zeros
 pub narrow-fits : (n : Node) → Ordered n → Narrow n → NodeFits n
 narrow-fits n o w =
-    subst NodeFits (sym (nodeOf-same n (w .shaped .keys) (w .shaped .pending) o))
+    subst NodeFits (sym (nodeOf-same n (w .shaped .store) (w .shaped .pending) o))
     (fits-nodeOf (nodeKeys n) (pendingOf n) (length-nodeKeys n o) (length-pendingOf n o) (w .keys) (w .pending))
 
 -- ---- what an image holds
@@ -148,7 +148,7 @@ module _ (n : Node) (o : Ordered n) (w : Narrow n) where
       ⊎-elim {C = KeyFits k} (λ (e : k ≡ key). subst KeyFits (sym e) f) (mem-each KeyFits (nodeKeys n) (w .keys) k) (insert-mem key (nodeKeys n) k m)) in
       subst Narrow (sym (nodeEntered-is n key o fits))
       (record {
-        shaped = record { keys = length-keys-storeOf (grown n key) fits; pending = w .shaped .pending };
+        shaped = record { store = sized-storeOf (grown n key) fits; pending = w .shaped .pending };
         keys = rw (keysOf-storeOf (grown n key)) keys;
         pending = w .pending;
       })

@@ -36,6 +36,7 @@ use Rattle.wire.specs.Lent.{readImageIn, readImageInLent}
 use Rattle.wire.proofs.FrameLaws.{frame-numbered, head-yes, sized-yes, take-fourOf, readFrame-number, readFrame-yes, readFrame-0}
 use Rattle.wire.proofs.ImageLaws.{image-numbered, readImage-number}
 use Rattle.wire.proofs.ImageTrips.{image-read-ordered}
+use Rattle.keys.proofs.LentLaws.{sized-storeWith}
 use Rattle.wire.proofs.LentLaws.{readImageIn-part, readImage-no, readImage-lent}
 use Rattle.wire.proofs.RunLaws.{length-readRun}
 use Rattle.host.specs.Taking.{questions6, takenUntil}
@@ -175,28 +176,28 @@ module _ (image : List ℕ) {keys : List ℕ} {r : Rest} (loaded : Loaded image 
       entering-asked : firstNo (enteringQuestions image key) ≡ cond (h .fits) 0 6
       entering-asked =
           past-image (question6 (key ∷ []) (nodeKeys (nodeIn image)) ∷ [])
-          ∙ (ap (λ (m : Node). six m key) (sym (loaded .node read)) ∙ added-six (nodeHeld keys r) key held-ordered (loaded .sound .long) added)
+          ∙ (ap (λ (m : Node). six m key) (sym (loaded .node read)) ∙ added-six (nodeHeld keys r) key held-ordered (sized-storeWith keys (r .held) (loaded .sound .long)) added)
 
       pub enteredInto-unfit : not (h .fits) ≡ true
           → EnteredInto image key after (record { number = 6; held = r .held; table = r .table; count = r .count })
       enteredInto-unfit e =
           let f = not-true (h .fits) e in
-          known-refused (sym (entering-asked ∙ rw f)) (unfit-long (nodeHeld keys r) key held-ordered (loaded .sound .long) added f) (λ (z : 6 ≡ 0). omega arith)
+          known-refused (sym (entering-asked ∙ rw f)) (unfit-long (nodeHeld keys r) key held-ordered (sized-storeWith keys (r .held) (loaded .sound .long)) added f) (λ (z : 6 ≡ 0). omega arith)
 
       pub enteredInto-fit : not (h .fits) ≡ false
           → EnteredInto image key after (record { number = 0; held = h .count; table = r .table; count = r .count })
       enteredInto-fit e =
           let n = nodeHeld keys r in
           let f = not-false (h .fits) e in
-          let node : nodeWith after (h .count) (r .table) (r .count) ≡ nodeEntered n key = added-node n key held-ordered (loaded .sound .long) added f in
+          let node : nodeWith after (h .count) (r .table) (r .count) ≡ nodeEntered n key = added-node n key held-ordered (sized-storeWith keys (r .held) (loaded .sound .long)) added f in
           record {
             number = sym (entering-asked ∙ rw f);
             node = λ z. node ∙ ap (λ (m : Node). nodeEntered m key) (loaded .node read);
             sound = record {
-              long = added-long n key held-ordered (loaded .sound .long) added f;
+              long = added-long n key held-ordered (sized-storeWith keys (r .held) (loaded .sound .long)) added f;
               ordered = λ z.
                   rw node
-                  (ordered-nodeInOrder (nodeEntered n key) (ordered-entered n key held-ordered (added-fits n key held-ordered (loaded .sound .long) added f)));
+                  (ordered-nodeInOrder (nodeEntered n key) (ordered-entered n key held-ordered (added-fits n key held-ordered (sized-storeWith keys (r .held) (loaded .sound .long)) added f)));
             };
           }
 

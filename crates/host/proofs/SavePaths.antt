@@ -42,7 +42,7 @@ pub writeImageIn-room : (n : Node) → Shaped n → nodeInOrder n ≡ true → (
     → (record { number = 0; length = length (nodeBytes n) } ≡ writeImageIn n (length out)) × (putAt out 0 (nodeBytes n) ≡ imageInLent n out)
 writeImageIn-room n shaped ordered out h =
     let l = image-at-most n shaped ordered in
-    writeImageIn-0 n out (ordered-withinLimits n out (shaped .keys) ordered) (omega arith)
+    writeImageIn-0 n out (ordered-withinLimits n out (shaped .store .keys) ordered) (omega arith)
 
 -- .. and then its length is small
 pub written-length : (n : Node) → Shaped n → nodeInOrder n ≡ true → (out : List ℕ) → imageLimit ≤ length out

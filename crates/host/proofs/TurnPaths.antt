@@ -51,7 +51,7 @@ module _ {n : Node} {cs : List Claim} {i : ℕ} {r : Taken} (t : Turn n cs i r) 
   o = nodeInOrder-ordered n (t .ordered)
 
   turn-taken : r ≡ taken n c
-  turn-taken = t .next ∙ takeIn-taken n (t .shaped .pending) o c (t .shaped .keys)
+  turn-taken = t .next ∙ takeIn-taken n (t .shaped .pending) o c (t .shaped .store)
 
   pub turn-refused : (r .number ≡ 0 → ⊥) → takenUntil n (drop i cs) ≡ r
   turn-refused f = rw (drop-cons cs i noClaim (t .below), ← turn-taken, ne-eqb (r .number) 0 f)
@@ -62,7 +62,7 @@ module _ {n : Node} {cs : List Claim} {i : ℕ} {r : Taken} (t : Turn n cs i r) 
   pub turn-ordered : nodeInOrder (r .node) ≡ true
   turn-ordered =
       subst (λ (x : Taken). nodeInOrder (x .node) ≡ true) (sym (t .next))
-      (ordered-nodeInOrder (takeIn n c .node) (ordered-takeIn n (t .shaped .pending) o c (t .shaped .keys)))
+      (ordered-nodeInOrder (takeIn n c .node) (ordered-takeIn n (t .shaped .pending) o c (t .shaped .store)))
 
   -- the run of keys keeps its places
   pub turn-long : length (r .node .store .keys) ≡ limit
@@ -71,7 +71,7 @@ module _ {n : Node} {cs : List Claim} {i : ℕ} {r : Taken} (t : Turn n cs i r) 
       (λ (e : firstNo (takeQuestions n c) ≡ 0).
       rw (turn-taken ∙ taken-done n c e, store-nodeOf (hear c (nodeKeys n)) (tableWith c (pendingOf n)))
       (length-keys-storeOf (hear c (nodeKeys n)) (hear-fits c (nodeKeys n) (takeQuestions-yes n c e .room))))
-      (λ (f : firstNo (takeQuestions n c) ≡ 0 → ⊥). rw (turn-taken ∙ taken-refused n c f) (t .shaped .keys))
+      (λ (f : firstNo (takeQuestions n c) ≡ 0 → ⊥). rw (turn-taken ∙ taken-refused n c f) (t .shaped .store .keys))
       (eq-or-ne (firstNo (takeQuestions n c)) 0)
 
 -- none is left

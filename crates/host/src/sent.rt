@@ -1,7 +1,9 @@
 // A beat, and the claims that it sends in frames.
 use beats::beat_in;
 use claims::Claim;
+use keys::Store;
 use keys::capped;
+use keys::resum_in;
 use rule::Node;
 use wire::Framed;
 use wire::write_frame;
@@ -64,6 +66,7 @@ fn write_frames(words: &[u64], count: usize, frames: &mut [u8]) -> usize
 }
 
 // Runs a beat of a node whose keys are lent, and writes the image of the node afterwards and the frames of the claims that it sends, whose length it returns.
+// An image has no sums: they are worked out here, once.
 pub(crate) fn send(
     keys: &[u64],
     held: usize,
@@ -75,8 +78,10 @@ pub(crate) fn send(
     requires { ⌜ SendGiven (nodeWith (now keys) held table count) (length (now out)) (length (now frames)) ⌝ }
     ensures { λ r. ⌜ Sent (nodeWith (now (keys .entry)) held table count) (now (out .entry)) (now (out .exit)) (now (frames .entry)) (now (frames .exit)) r ⌝ }
 {
+    let mut sums = [0; Store::LIMIT];
+    resum_in(keys, &mut sums, 0, held);
     let mut words = [0; Claim::WORDS * Node::BEAT];
-    let kept = beat_in(keys, held, table, count, &mut words);
+    let kept = beat_in(keys, &sums, held, table, count, &mut words);
     let places = kept.table;
     write_image_in(keys, held, places, kept.count, out);
     write_frames(&words, kept.written, frames)

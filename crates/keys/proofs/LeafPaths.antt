@@ -1,19 +1,22 @@
--- The leaves of src/leaf.rt. Of the loops `rising` and `all_zero`, in which what is left of a run computes the answer: how a turn goes on, and what the answer
--- is where it stops. Not here: the loops that put in, by the laws of their definition (PuttingLaws). Assumes nothing.
-use mathlib.Core.Path.{_≡_, refl, _∙_}
+-- The leaves of src/leaf.rt. Of the loops `rising`, `all_zero`, `summed` and `resum`, in which what is left of a run computes the answer: how a turn goes on,
+-- and what the answer is where it stops. Not here: the loops that put in, by the laws of their definition (PuttingLaws). Assumes nothing.
+use mathlib.Core.Path.{_≡_, refl, sym, ap, _∙_}
 use mathlib.Core.Bool.{true, false, _&&_, and-true, and-assoc}
 use mathlib.Core.Logic.{⊎-elim}
 use mathlib.Core.List.{List, [], _∷_}
-use Prim.Native.Nat.{ℕ, suc, _+_, _≤_, _<_}
+use Prim.Native.Nat.{ℕ, zero, suc, _+_, _-_, _≤_, _<_}
 use native.Mathlib.Numerals.{add-one}
 use native.Mathlib.Omega.{arith}
-use borrow.Author.Tests.{lt-ltb, le-ltb, ne-eqb}
-use lib.Bits.{bitOr, or-zero-l, or-add-and, and-le-r}
+use borrow.Author.Tests.{lt-ltb, le-ltb, eq-eqb, ne-eqb}
+use lib.Bits.{bitXor, bitOr, or-zero-l, or-add-and, and-le-r}
 use lib.Dec.{eqb}
-use lib.ListN.{length, drop, getD, drop-of-length-le}
+use lib.ListN.{length, take, drop, getD, set, drop-of-length-le}
 use lib.Seq.{drop-cons}
-use Rattle.keys.specs.Store.{rising, risesFrom, allZero}
+use Rattle.keys.specs.Store.{runningFrom, running, rising, risesFrom, allZero, sameKeys}
+use Rattle.keys.specs.Place.{putAt}
+use Rattle.keys.specs.Lent.{sumBefore}
 use Rattle.keys.proofs.Tests.{eq-or-ne}
+use Rattle.keys.proofs.PlaceLaws.{putAt-nil, putAt-cons}
 
 -- `rising`: the keys rise if those from i on rise from above the last one
 
@@ -50,3 +53,45 @@ module _ (l : List ℕ) (bits i : ℕ) (e : allZero l ≡ (eqb bits 0 && allZero
 
   pub zero-all : length l ≤ i → eqb bits 0 ≡ allZero l
   zero-all h = rw (e, drop-of-length-le l, and-true)
+
+-- `summed`: these are the sums of the keys l if those from i on follow from the sum so far
+
+module _ (sums l : List ℕ) (sum i : ℕ) (many : length sums ≡ length l) (e : sameKeys sums (running l) ≡ sameKeys (drop i sums) (runningFrom sum (drop i l))) where
+  pub summed-on : i < length l → getD sums i 0 ≡ bitXor sum (getD l i 0)
+      → sameKeys sums (running l) ≡ sameKeys (drop (i + 1) sums) (runningFrom (bitXor sum (getD l i 0)) (drop (i + 1) l))
+  summed-on h same = e ∙ rw (add-one, drop-cons sums i 0 (omega arith), drop-cons l i 0 h, eq-eqb (getD sums i 0) (bitXor sum (getD l i 0)) same)
+
+  pub summed-not : i < length l → (getD sums i 0 ≡ bitXor sum (getD l i 0) → ⊥) → false ≡ sameKeys sums (running l)
+  summed-not h other = rw (e, drop-cons sums i 0 (omega arith), drop-cons l i 0 h, ne-eqb (getD sums i 0) (bitXor sum (getD l i 0)) other)
+
+  pub summed-all : length l ≤ i → true ≡ sameKeys sums (running l)
+  summed-all h =
+      let few : length sums ≤ i = omega arith in
+      rw (e, drop-of-length-le l, drop-of-length-le sums few)
+
+-- `sum_before`
+
+pub before-some : (sums : List ℕ) (at : ℕ) → (at ≡ 0 → ⊥) → getD sums (at - 1) 0 ≡ sumBefore sums at
+before-some sums zero f = absurd (f refl)
+before-some sums (suc i) f = let e : suc i - 1 ≡ i = omega arith in ap (λ (n : ℕ). getD sums n 0) e
+
+-- `resum`: the sums that are left to be worked out, after the sum so far
+
+module _ (keys sums : List ℕ) (count sum i : ℕ) where
+  -- the sums once those from i on are worked out
+  abbrev pub resumFrom : List ℕ
+  resumFrom = putAt sums i (runningFrom sum (take (count - i) (drop i keys)))
+
+  pub resum-end : (all : List ℕ) → resumFrom ≡ all → count ≤ i → sums ≡ all
+  resum-end all e h = let none : count - i ≡ 0 = omega arith in sym (putAt-nil sums i) ∙ (rw none at e)
+
+pub resum-on : (keys sums : List ℕ) (count sum i : ℕ) (all : List ℕ) → resumFrom keys sums count sum i ≡ all → i < count → count ≤ length keys → count ≤ length sums
+    → resumFrom keys (set sums i (bitXor sum (getD keys i 0))) count (bitXor sum (getD keys i 0)) (i + 1) ≡ all
+resum-on keys sums count sum i all e h g f =
+    let one : count - i ≡ suc (count - (i + 1)) = omega arith in
+    let inside : i < length keys = omega arith in
+    let place : i < length sums = omega arith in
+    let key : ℕ = getD keys i 0 in
+    ap (λ (n : ℕ). putAt (set sums i (bitXor sum key)) (i + 1) (runningFrom (bitXor sum key) (take (count - (i + 1)) (drop n keys)))) (add-one i)
+    ∙ (putAt-cons sums i (bitXor sum key) (runningFrom (bitXor sum key) (take (count - (i + 1)) (drop (suc i) keys))) place
+    ∙ (rw (one, drop-cons keys i 0 inside) at e))

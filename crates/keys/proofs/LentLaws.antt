@@ -1,45 +1,57 @@
 -- What the calls on a lent run mean where the run is a store in order (specs/Lent against specs/Store): the run of `storeOf l` for rising keys l, and
--- their number as the count. The crates above prove their loops from these. In order: question 1; a place, of any run and of one in order; a key put
--- in; one key added; two keys added; and of any run, what does not fit and what does.
+-- their number as the count. The crates above prove their loops from these. In order: question 1; the store that a run makes up; a place, of any run and of
+-- one in order; a key put in; one key added; two keys added; and of any run, what does not fit and what does.
 -- Assumes nothing.
 use mathlib.Core.Path.{_≡_, refl, sym, _∙_, ap, ap₂}
-use mathlib.Core.Bool.{Bool, true, false, cond, _&&_, false≢true}
+use mathlib.Core.Bool.{Bool, true, false, cond, _&&_, and-assoc, false≢true}
 use mathlib.Core.Logic.{⊎-elim}
 use mathlib.Core.List.{List, [], _∷_, _++_, append-assoc, List·Memᴰ}
 use Prim.Native.Nat.{ℕ, suc, _+_, _-_, _≤_, _<_}
 use native.Mathlib.Omega.{arith}
 use borrow.Author.Tests.{le-leb, lt-leb, leb-true, ltb-true, eq-eqb, ne-eqb}
 use lib.Dec.{ltb, leb, eqb}
-use lib.ListN.{length, take, drop, getD, length-take, length-drop, take-append-drop, drop-of-length-le}
-use lib.Seq.{length-take-le, take-append-le, drop-append-le, take-at, drop-at, drop-append-add, take-length}
+use lib.ListN.{length, take, drop, getD, replicate, length-append, length-take, length-drop, take-append-drop, drop-of-length-le}
+use lib.Seq.{length-take-le, take-append-le, drop-append-le, take-append-seam, take-at, drop-at, drop-append-add, take-length}
 use Rattle.keys.specs.declared.lent.Place.{Place}
 use Rattle.keys.specs.declared.store.Store.{Store}
-use Rattle.keys.specs.Store.{limit, zeros, keysOf, storeOf, rising, allZero, inOrder, position, holds, insert}
-use Rattle.keys.specs.Lent.{orderedIn, quartered, placeAt, placeIn, insertedAt, lacking, putIn, storeWith}
+use Rattle.keys.specs.Store.{limit, Sized, zeros, keysOf, running, storeOf, rising, allZero, sumsOf, inOrder, position, holds, insert}
+use Rattle.keys.specs.Place.{putAt}
+use Rattle.keys.specs.Lent.{orderedIn, summedIn, resummed, quartered, placeAt, placeIn, insertedAt, lacking, putIn, storeWith}
 use Rattle.keys.specs.Lent.{Grown, grown, unfit, room, withKey, addOne, raised, fitTwo, addTwo, addIn, addBothIn}
 use Rattle.keys.proofs.Tests.{eq-or-ne, and-left, and-right}
+use Rattle.keys.proofs.PlaceLaws.{putAt-replicate}
 use Rattle.keys.proofs.Rising.{Rising, rising-true, holds-mem, holds-absent, mem-holds, absent-holds, mem-or-absent}
 use Rattle.keys.proofs.Insert.{insert-rising, insert-held, insert-mem, mem-insert-new, mem-insert-old}
 use Rattle.keys.proofs.Insert.{length-insert-missing, length-insert-held, length-insert-ge}
 use Rattle.keys.proofs.Position.{position-le, position-mono, insert-position}
 use Rattle.keys.proofs.Position.{position-insert-le, position-insert-self, position-insert-missing, position-insert-held}
-use Rattle.keys.proofs.StoreLaws.{allZero-zeros, count-storeOf, keys-storeOf, keysOf-storeOf}
+use Rattle.keys.proofs.StoreLaws.{length-zeros, allZero-zeros, sameKeys-refl, length-running, count-storeOf, keys-storeOf, keysOf-storeOf}
 use Rattle.keys.proofs.QuarteringLaws.{quartered-lt}
 use Rattle.keys.proofs.PuttingLaws.{length-insertedAt}
 use Rattle.keys.proofs.FindingLaws.{placeIn-front}
 
 -- ---- question 1
 
-pub orderedIn-inOrder : (s : Store) → length (s .keys) ≡ limit → orderedIn (s .keys) (s .count) ≡ inOrder s
-unfolding orderedIn inOrder
-orderedIn-inOrder s e = rw e (go (leb (s .count) limit))
+pub summedIn-inOrder : (s : Store) → length (s .keys) ≡ limit → summedIn (s .keys) (s .sums) (s .count) ≡ inOrder s
+unfolding summedIn orderedIn inOrder
+summedIn-inOrder s e = rw e (go (leb (s .count) limit))
   where
-    go : (t : Bool) → (t && (t && (rising (keysOf s) && allZero (drop (s .count) (s .keys)))))
-        ≡ (t && (rising (keysOf s) && allZero (drop (s .count) (s .keys))))
-    go true = refl
+    blank : Bool
+    blank = allZero (drop (s .count) (s .keys))
+
+    right : Bool
+    right = sumsOf (keysOf s) (s .sums)
+
+    go : (t : Bool) → ((t && (t && (rising (keysOf s) && blank))) && right) ≡ (t && (rising (keysOf s) && (blank && right)))
+    go true = and-assoc (rising (keysOf s)) blank right
     go false = refl
 
--- a run that is keys to its end
+-- with its sums it passes only if it does without them
+pub summedIn-ordered : (keys sums : List ℕ) (count : ℕ) → summedIn keys sums count ≡ true → orderedIn keys count ≡ true
+unfolding summedIn
+summedIn-ordered keys sums count h = and-left (orderedIn keys count) (sumsOf (take count keys) sums) h
+
+-- a run that is keys to its end, with the sums that belong to them
 pub orderedIn-all : (l : List ℕ) → orderedIn l (length l) ≡ inOrder (storeOf l)
 unfolding orderedIn inOrder storeOf
 orderedIn-all l =
@@ -47,11 +59,13 @@ orderedIn-all l =
     let past : drop (length l) (l ++ z) ≡ z = drop-at l z (length l) refl in
     let le : length l ≤ length l = omega arith in
     let none : drop (length l) l ≡ [] = drop-of-length-le l le in
+    let n : length (running l) ≡ length l = length-running 0 l in
     rw (
-      count-storeOf l,
       keysOf-storeOf l,
-      keys-storeOf l,
       past,
+      take-at (running l) z (length l) n,
+      drop-at (running l) z (length l) n,
+      sameKeys-refl (running l),
       allZero-zeros (limit - length l),
       le-leb (length l) (length l) (omega arith),
       take-length l,
@@ -78,6 +92,39 @@ module _ (keys : List ℕ) (count : ℕ) (yes : orderedIn keys count ≡ true) w
 
   pub orderedIn-short : length (take count keys) ≤ limit
   orderedIn-short = rw (length-take count keys) (omega (arith, orderedIn-limit))
+
+-- ---- the store that a run and its count make up
+
+-- its arrays are as long as the run
+pub sized-storeWith : (keys : List ℕ) (count : ℕ) → length keys ≡ limit → Sized (storeWith keys count)
+sized-storeWith keys count e = record {
+  keys = e;
+  sums =
+      length-append (running (take count keys)) (zeros (length keys - count))
+      ∙ (omega (arith, length-running 0 (take count keys), length-take count keys, length-zeros (length keys - count)));
+}
+
+-- of the run of a store, that store
+pub storeWith-storeOf : (l : List ℕ) → length l ≤ limit → storeWith (storeOf l .keys) (storeOf l .count) ≡ storeOf l
+unfolding storeOf
+storeWith-storeOf l h =
+    let front : running (take (length l) (l ++ zeros (limit - length l))) ≡ running l = ap running (take-append-seam l (zeros (limit - length l))) in
+    let many : length (l ++ zeros (limit - length l)) ≡ limit =
+    length-append l (zeros (limit - length l)) ∙ (omega (arith, length-zeros (limit - length l))) in
+    let back : zeros (length (l ++ zeros (limit - length l)) - length l) ≡ zeros (limit - length l) = ap (λ (n : ℕ). zeros (n - length l)) many in
+    λ i. record { keys = l ++ zeros (limit - length l); sums = front i ++ back i; count = length l }
+
+-- all sums worked out over zeros are those that belong to the keys
+pub resummed-zeros : (keys : List ℕ) (count : ℕ) → length keys ≡ limit → count ≤ limit → resummed keys (zeros limit) 0 count ≡ storeWith keys count .sums
+unfolding resummed zeros
+resummed-zeros keys count long few =
+    let inside : count ≤ length keys = omega arith in
+    let all : running (take (count - 0) keys) ≡ running (take count keys) = ap (λ (n : ℕ). running (take n keys)) (let e : count - 0 ≡ count = omega arith in e) in
+    let many : length (running (take count keys)) ≡ count = length-running 0 (take count keys) ∙ length-take-le count keys inside in
+    let left : limit - length (running (take count keys)) ≡ length keys - count = omega arith in
+    rw (le-leb 0 count (omega arith), le-leb count (length keys) inside, le-leb count limit few)
+    (ap (putAt (replicate limit 0) 0) all
+    ∙ (putAt-replicate (running (take count keys)) limit 0 ∙ ap (λ (n : ℕ). running (take count keys) ++ replicate n 0) left))
 
 -- ---- a place, of any run
 
@@ -190,7 +237,7 @@ withKey-insert l rise k h =
     ap (λ (m : ℕ). m + lacking (placeOf l rise k)) (count-storeOf l) ∙ (length-insert-lacking l rise k ∙ sym (count-storeOf (insert k l))) in
     let put : putIn (placeOf l rise k) (storeOf l .count) k (storeOf l .keys) ≡ storeOf (insert k l) .keys =
     ap (λ (m : ℕ). putIn (placeOf l rise k) m k (storeOf l .keys)) (count-storeOf l) ∙ putIn-insert l rise k h in
-    λ i. storeWith (put i) (n i)
+    (λ i. storeWith (put i) (n i)) ∙ storeWith-storeOf (insert k l) h
 
 -- ---- one key added
 

@@ -1,22 +1,26 @@
 -- The calls on a lent run (src/lent.rt): one law for each way that the code goes, over the definitions of specs/Lent. What these mean where the run is
 -- a store in order is in LentLaws. Assumes nothing.
-use mathlib.Core.Path.{_≡_, _∙_, ap}
-use mathlib.Core.Bool.{Bool, true, false, not, and-false}
-use mathlib.Core.List.{List}
+use mathlib.Core.Path.{_≡_, refl, sym, _∙_, ap}
+use mathlib.Core.Bool.{Bool, true, false, cond, not, _&&_, and-false}
+use mathlib.Core.List.{List, []}
 use Prim.Native.Nat.{ℕ, _+_, _-_, _≤_, _<_}
 use native.Mathlib.Nat.{add-zero}
 use native.Mathlib.Omega.{arith}
 use borrow.Author.Tests.{lt-ltb, le-ltb, le-leb, lt-leb, eq-eqb, ne-eqb, not-true, not-false}
 use lib.Dec.{leb, eqb}
-use lib.ListN.{length, take, drop, getD}
+use lib.ListN.{length, take, drop, getD, length-take}
+use lib.Seq.{length-take-le}
 use Rattle.keys.specs.declared.lent.Added.{Added}
 use Rattle.keys.specs.declared.lent.Place.{Place}
-use Rattle.keys.specs.Store.{limit, rising, allZero}
-use Rattle.keys.specs.Lent.{orderedIn, quartered, placeAt, placeIn, insertedAt, lacking, putIn, putTwo}
+use Rattle.keys.specs.declared.store.Store.{Store}
+use Rattle.keys.specs.Store.{limit, runningFrom, running, rising, allZero, sameKeys, sumsOf}
+use Rattle.keys.specs.Place.{putAt}
+use Rattle.keys.specs.Lent.{orderedIn, summedIn, sumBefore, resummed, renewedFrom, quartered, placeAt, placeIn, insertedAt, lacking, putIn, putTwo}
 use Rattle.keys.specs.Lent.{storeWith, Grown, grownWith, grown, noRoom, addTwo, addIn, addBothIn}
-use Rattle.keys.proofs.PlaceLaws.{slice-rest}
+use Rattle.keys.proofs.PlaceLaws.{slice-rest, putAt-nil}
+use Rattle.keys.proofs.StoreLaws.{sameKeys-fewer, length-running}
 use Rattle.keys.proofs.QuarteringLaws.{quartered-lt}
-use Rattle.keys.proofs.LentLaws.{lacking-le, placeIn-le}
+use Rattle.keys.proofs.LentLaws.{orderedIn-long, lacking-le, placeIn-le}
 
 -- `ordered_in`
 
@@ -38,6 +42,85 @@ module _ (keys : List ℕ) (count : ℕ) where
     unfolding orderedIn
     ordered-all-zero e blank looked =
         looked ∙ rw (le-leb count limit few, le-leb count (length keys) long, ← told, not-false rises e, slice-rest keys count)
+
+-- `summed_in`, by what `ordered_in` told
+
+module _ (keys sums : List ℕ) (count : ℕ) (ordered : Bool) (tested : ordered ≡ orderedIn keys count) where
+  pub summed-order : not ordered ≡ true → false ≡ summedIn keys sums count
+  unfolding summedIn
+  summed-order e = rw (← tested, not-true ordered e)
+
+  module _ (e : not ordered ≡ false) where
+    -- the keys below the count, so many
+    pub summed-many : length (take count keys) ≡ count
+    summed-many = length-take-le count keys (orderedIn-long keys count (sym tested ∙ not-false ordered e))
+
+    rest : sumsOf (take count keys) sums ≡ summedIn keys sums count
+    unfolding summedIn
+    rest = rw (← tested, not-false ordered e)
+
+    pub summed-short : length sums < count → false ≡ summedIn keys sums count
+    summed-short h =
+        let n : length (running (take count keys)) ≡ count = length-running 0 (take count keys) ∙ summed-many in
+        let few : length (take (length (take count keys)) sums) < length (running (take count keys)) =
+        omega (arith, summed-many, n, length-take (length (take count keys)) sums) in
+        let none : sumsOf (take count keys) sums ≡ false = rw (sameKeys-fewer (take (length (take count keys)) sums) (running (take count keys)) few) in
+        sym none ∙ rest
+
+    pub summed-lengths : count ≤ length sums → length (take count sums) ≡ length (take count keys)
+    summed-lengths h = length-take-le count sums h ∙ sym summed-many
+
+    module _ (right : Bool) (told : right ≡ sameKeys (take count sums) (running (take count keys))) where
+      pub summed-wrong : not right ≡ true → false ≡ summedIn keys sums count
+      summed-wrong f =
+          let no : sameKeys (take count sums) (running (take count keys)) ≡ false = sym told ∙ not-true right f in
+          let none : sumsOf (take count keys) sums ≡ false = rw (summed-many, no) in
+          sym none ∙ rest
+
+      pub summed-zeros : not right ≡ false → (blank : Bool) → blank ≡ allZero (take (length sums - count) (drop count sums)) → blank ≡ summedIn keys sums count
+      summed-zeros f blank looked =
+          let yes : sameKeys (take count sums) (running (take count keys)) ≡ true = sym told ∙ not-false right f in
+          let last : sumsOf (take count keys) sums ≡ blank = rw (summed-many, yes, looked, slice-rest sums count) in
+          sym last ∙ rest
+
+-- `resum_in`
+
+module _ (keys sums : List ℕ) (first count : ℕ) where
+  -- what is worked out
+  abbrev anew : List ℕ
+  anew = runningFrom (sumBefore sums first) (take (count - first) (drop first keys))
+
+  pub resum-none : count ≤ first → sums ≡ resummed keys sums first count
+  unfolding resummed
+  resum-none h =
+      let none : count - first ≡ 0 = omega arith in
+      rw none (go (leb first count && (leb count (length keys) && leb count limit)))
+    where
+      go : (t : Bool) → sums ≡ cond t (putAt sums first []) sums
+      go true = sym (putAt-nil sums first)
+      go false = refl
+
+  pub resum-short : length keys < count → sums ≡ resummed keys sums first count
+  unfolding resummed
+  resum-short h = rw (lt-leb count (length keys) h, and-false)
+
+  pub resum-long : limit < count → sums ≡ resummed keys sums first count
+  unfolding resummed
+  resum-long h = rw (lt-leb count limit h, and-false, and-false)
+
+  pub resum-all : first < count → count ≤ length keys → count ≤ limit → (before : ℕ) → before ≡ sumBefore sums first
+      → (after : List ℕ) → after ≡ putAt sums first (runningFrom before (take (count - first) (drop first keys))) → after ≡ resummed keys sums first count
+  unfolding resummed
+  resum-all low high few before e after done =
+      let rise : first ≤ count = omega arith in
+      rw (le-leb first count rise, le-leb count (length keys) high, le-leb count limit few)
+      (done ∙ ap (λ (x : ℕ). putAt sums first (runningFrom x (take (count - first) (drop first keys)))) e)
+
+-- `Store::renewed`
+
+pub renewed-sums : (s : Store) (first : ℕ) (sums : List ℕ) → sums ≡ resummed (s .keys) (s .sums) first (s .count)
+    → record { keys = s .keys; sums = sums; count = s .count } ≡ renewedFrom first s
+renewed-sums s first sums e = λ i. record { keys = s .keys; sums = e i; count = s .count }
 
 -- `place_at`
 

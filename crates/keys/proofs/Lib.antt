@@ -6,11 +6,13 @@
 --   Insert          entering keys
 --   Position        the position of a key
 --   StoreLaws       a store in order (specs/Store)
+--   SumLaws         running sums, right below a mark and worked out anew
 --   HalvingLaws, QuarteringLaws    the two searches of specs/Lent: of one to three keys; a turn, the fuel
 --   PartingLaws     what they find in a part of the run
 --   FindingLaws     what they find among rising keys
 --   PuttingLaws     putting an element in at a place
 --   LentLaws        what the calls on a lent run mean, above all where the run is a store in order (specs/Lent)
+--   Cases           rows of question 1
 -- The laws of the code, cited by its proofs alone.
 --   LeafPaths       src/leaf.rt
 --   SearchPaths     src/search.rt
@@ -21,12 +23,14 @@ pub mod Rising
 pub mod Insert
 pub mod Position
 pub mod StoreLaws
+pub mod SumLaws
 mod HalvingLaws
 mod QuarteringLaws
 mod PartingLaws
 mod FindingLaws
 pub mod PuttingLaws
 pub mod LentLaws
+pub mod Cases
 mod LeafPaths
 mod SearchPaths
 mod LentPaths

@@ -3,7 +3,7 @@
 -- positions; positions after an insert.
 -- A law that does not ask for `Rising` holds for any list. Assumes nothing.
 use Prim.Native.Nat.{ℕ, zero, suc, _≤_, _<_, suc-le-suc}
-use mathlib.Core.Bool.{Bool, true, false, _&&_}
+use mathlib.Core.Bool.{Bool, true, false, _&&_, cond}
 use mathlib.Core.List.{List, [], _∷_, _++_, List·Memᴰ, List·Memᴰ·head, List·Memᴰ·tail, List·Memᴰ·not-nil, List·Memᴰ·cases-cons, Memᴰ·cast}
 use mathlib.Core.Logic.{_⊎_, inl, inr, ⊎-elim}
 use mathlib.Core.Path.{_≡_, refl, sym, ap, _∙_}
@@ -12,7 +12,7 @@ use native.Mathlib.Omega.{arith}
 use borrow.Author.Tests.{lt-ltb, le-ltb, ltb-true, eqb-true, eq-eqb}
 use lib.Dec.{ltb, eqb}
 use lib.ListN.{length, take, drop, getD}
-use Rattle.keys.specs.Store.{position, holds, insert}
+use Rattle.keys.specs.Store.{position, holds, insert, insertAll}
 use Rattle.keys.proofs.Tests.{Order, less, equal, greater, order, lt-or-le, le-unless, and-left, and-right, and-both}
 use Rattle.keys.proofs.Rising.{Rising, above-mem, rising-head, mem-getD, rising-getD, rising-getD-le, mem-holds, absent-holds, mem-or-absent}
 use Rattle.keys.proofs.Insert.{insert-after, insert-here, insert-before, insert-held}
@@ -185,3 +185,30 @@ position-insert-missing k new (j ∷ js) h f = go (order j new) (position-insert
 
 pub position-insert-held : (k new : ℕ) (l : List ℕ) → Rising l → List·Memᴰ new l → position k (insert new l) ≡ position k l
 position-insert-held k new l r m = ap (position k) (insert-held new l r m)
+
+-- ---- keys entered from a place on leave those before it
+
+pub take-insert : (p k : ℕ) (l : List ℕ) → p ≤ position k l → take p (insert k l) ≡ take p l
+take-insert zero k l h = refl
+take-insert (suc p) k [] h = absurd (omega arith)
+take-insert (suc p) k (j ∷ js) h = go (ltb j k) (take-insert p k js) h
+  where
+    go : (t : Bool) → (p ≤ position k js → take p (insert k js) ≡ take p js) → suc p ≤ cond t (suc (position k js)) 0
+        → take (suc p) (cond t (j ∷ insert k js) (cond (eqb j k) (j ∷ js) (k ∷ (j ∷ js)))) ≡ j ∷ take p js
+    go true below g = ap (λ (r : List ℕ). j ∷ r) (below (omega arith))
+    go false below g = absurd (omega arith)
+
+module _ (lo : ℕ) where
+  pub position-insertAll : (ks l : List ℕ) → ((k : ℕ) → List·Memᴰ k ks → lo ≤ k) → position lo (insertAll ks l) ≡ position lo l
+  position-insertAll [] l f = refl
+  position-insertAll (k ∷ ks) l f =
+      position-insertAll ks (insert k l) (λ j m. f j (List·Memᴰ·tail m)) ∙ position-insert-le lo k l (f k (List·Memᴰ·head refl))
+
+  pub take-insertAll : (ks l : List ℕ) → ((k : ℕ) → List·Memᴰ k ks → lo ≤ k) → take (position lo l) (insertAll ks l) ≡ take (position lo l) l
+  take-insertAll [] l f = refl
+  take-insertAll (k ∷ ks) l f =
+      let least : lo ≤ k = f k (List·Memᴰ·head refl) in
+      let here : position lo (insert k l) ≡ position lo l = position-insert-le lo k l least in
+      ap (λ (p : ℕ). take p (insertAll ks (insert k l))) (sym here)
+      ∙ (take-insertAll ks (insert k l) (λ j m. f j (List·Memᴰ·tail m))
+      ∙ (ap (λ (p : ℕ). take p (insert k l)) here ∙ take-insert (position lo l) k l (position-mono lo k l least)))

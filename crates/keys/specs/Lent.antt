@@ -9,11 +9,16 @@ use lib.ListN.{length, take, drop, getD}
 use Rattle.keys.specs.declared.lent.Place.{Place}
 use Rattle.keys.specs.declared.lent.Added.{Added}
 use Rattle.keys.specs.declared.store.Store.{Store}
-use Rattle.keys.specs.Store.{limit, rising, allZero}
+use Rattle.keys.specs.Store.{limit, zeros, runningFrom, running, rising, allZero, sumsOf}
+use Rattle.keys.specs.Place.{putAt}
 
 -- is a run of keys with a count that of a store in order?
 unfoldable pub orderedIn : List ℕ → ℕ → Bool
 orderedIn keys count = leb count limit && (leb count (length keys) && (rising (take count keys) && allZero (drop count keys)))
+
+-- `summed_in`: is it, with these sums beside the keys?
+unfoldable pub summedIn : List ℕ → List ℕ → ℕ → Bool
+summedIn keys sums count = orderedIn keys count && sumsOf (take count keys) sums
 
 -- Halving: of the `size` keys from `base` on, the half in which the last key that is at most `key` stands; n times over.
 abbrev pub halved : ℕ → List ℕ → ℕ → ℕ → ℕ → ℕ
@@ -68,10 +73,45 @@ raised p q = record { at = q .at + lacking p; held = q .held }
 abbrev pub putTwo : Place → Place → ℕ → ℕ → ℕ → List ℕ → List ℕ
 putTwo p q count lo hi keys = putIn (raised p q) (count + lacking p) hi (putIn p count lo keys)
 
+-- ---- sums worked out anew
+
+-- the sum of all keys before a place, by the sums: none before the first
+abbrev pub sumBefore : List ℕ → ℕ → ℕ
+sumBefore sums at = getD (0 ∷ sums) at 0
+
+-- `resum_in`: the sums beside the keys from `first` to the count are worked out anew, from the one before them; nothing where there are no such places
+unfoldable pub resummed : List ℕ → List ℕ → ℕ → ℕ → List ℕ
+resummed keys sums first count =
+    cond (leb first count && (leb count (length keys) && leb count limit))
+    (putAt sums first (runningFrom (sumBefore sums first) (take (count - first) (drop first keys))))
+    sums
+
+-- the store of these parts: a run of keys, sums and a count
+abbrev pub storeBy : List ℕ → List ℕ → ℕ → Store
+storeBy keys sums count = record { keys = keys; sums = sums; count = count }
+
+-- a store with its sums from a place on worked out anew
+abbrev pub renewedFrom : ℕ → Store → Store
+renewedFrom first s = storeBy (s .keys) (resummed (s .keys) (s .sums) first (s .count)) (s .count)
+
+-- A store of which the sums below a mark are right, as far as they were read; those from there on are worked out once they are read. So each is worked out
+-- once for many claims, and not anew at every claim that adds a key below it.
+pub record Marked : Type 0 where
+  pub store : Store
+  pub mark : ℕ
+
+-- a store all of whose sums are right, and one once they are all worked out
+abbrev pub markedAll : Store → Marked
+markedAll s = record { store = s; mark = s .count }
+
+abbrev pub finishIn : Marked → Store
+finishIn m = renewedFrom (m .mark) (m .store)
+
 -- ---- keys added to the store that a run of keys and a count make up
 
+-- with the sums that belong to them: the calls that are given no sums read none
 abbrev pub storeWith : List ℕ → ℕ → Store
-storeWith keys count = record { keys = keys; count = count }
+storeWith keys count = record { keys = keys; sums = running (take count keys) ++ zeros (length keys - count); count = count }
 
 -- what adding gives: whether the keys fit, the store then, and where the lesser and the greater one stand in it
 pub record Grown : Type 0 where

@@ -3,7 +3,10 @@
 use crate::leaf::all_zero;
 use crate::leaf::put;
 use crate::leaf::put_both;
+use crate::leaf::resum;
 use crate::leaf::rising;
+use crate::leaf::sum_before;
+use crate::leaf::summed;
 use crate::search::NEAR;
 use crate::search::both_quartered;
 use crate::search::far_both;
@@ -13,7 +16,7 @@ ghost use mathlib.Core.Path.{_≡_};
 ghost use Prim.Native.Nat.{_+_, _≤_, _<_};
 ghost use lib.ListN.{length, getD};
 ghost use Rattle.keys.specs.Store.{limit};
-ghost use Rattle.keys.specs.Lent.{orderedIn, placeAt, placeIn, lacking, putIn, putTwo, storeWith, grownWith, noRoom, addTwo, addIn, addBothIn};
+ghost use Rattle.keys.specs.Lent.{orderedIn, summedIn, resummed, placeAt, placeIn, lacking, putIn, putTwo, storeWith, grownWith, noRoom, addTwo, addIn, addBothIn};
 
 // Where a key stands, or would stand.
 pub struct Place {
@@ -53,6 +56,39 @@ pub fn ordered_in(keys: &[u64], count: usize) -> bool
         return false;
     }
     all_zero(&keys[count..])
+}
+
+// Question 1 of a store, whose keys and sums are lent.
+pub fn summed_in<'a>(keys: &'a [u64], sums: &'a [u64], count: usize) -> bool
+    ensures { λ r. ⌜ r ≡ summedIn (now (keys .entry)) (now (sums .entry)) count ⌝ }
+{
+    if !ordered_in(keys, count) {
+        return false;
+    }
+    if sums.len() < count {
+        return false;
+    }
+    if !summed(&keys[..count], &sums[..count]) {
+        return false;
+    }
+    all_zero(&sums[count..])
+}
+
+// Works the sums of the keys from `first` to the count out anew, if there are such places.
+pub fn resum_in(keys: &[u64], sums: &mut [u64; Store::LIMIT], first: usize, count: usize)
+    ensures { λ _. ⌜ now (sums .exit) ≡ resummed (now (keys .entry)) (now (sums .entry)) first count ⌝ }
+{
+    if count <= first {
+        return;
+    }
+    if keys.len() < count {
+        return;
+    }
+    if Store::LIMIT < count {
+        return;
+    }
+    let before = sum_before(&sums[..], first);
+    resum(keys, sums, first, count, before);
 }
 
 // The place of a key, from the position that was found for it.

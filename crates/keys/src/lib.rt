@@ -6,6 +6,7 @@ mod lent;
 mod search;
 mod store;
 
+pub use count::at_least;
 pub use count::capped;
 pub use lent::Added;
 pub use lent::Place;
@@ -15,4 +16,6 @@ pub use lent::add_in;
 pub use lent::ordered_in;
 pub use lent::place_in;
 pub use lent::places_in;
+pub use lent::resum_in;
+pub use lent::summed_in;
 pub use store::Store;

@@ -9,13 +9,13 @@ use mathlib.Core.Path.{_≡_, refl, sym, ap, ap₂, _∙_, subst}
 use native.Mathlib.Omega.{arith}
 use lib.Dec.{eqb}
 use lib.ListN.{length}
-use Rattle.keys.specs.Store.{limit, insert, insertAll}
+use Rattle.keys.specs.Store.{limit, sameKeys, insert, insertAll}
 use Rattle.keys.proofs.Rising.{Rising, Sub, sub-trans, rising-length}
 use Rattle.keys.proofs.Insert.{insert-rising, insert-sub, length-insert-missing, insertAll-sub}
 use Rattle.claims.specs.declared.claim.Claim.{Claim}
 use Rattle.claims.specs.declared.answer.Answer.{Answer}
 use Rattle.claims.specs.Claim.{between, middleKey, middleInside}
-use Rattle.claims.specs.Reply.{ends, withEnds, wantsMiddle, adding, hear, answer, reply, claimsOf, matches, sameKeys}
+use Rattle.claims.specs.Reply.{ends, withEnds, wantsMiddle, adding, hear, answer, reply, claimsOf, matches}
 use Rattle.claims.proofs.Between.{Lies, within, below, beyond, lies, inside, between-between, between-insert-within, between-insert-outside}
 use Rattle.claims.proofs.Span.{first, last, first-between, last-between}
 use Rattle.claims.proofs.QuestionLaws.{Passes}

@@ -9,7 +9,7 @@ use mathlib.Core.Path.{_≡_, refl, sym, ap, _∙_, subst}
 use native.Mathlib.Omega.{arith}
 use lib.ListN.{length, length-append}
 use Rattle.keys.specs.declared.store.Store.{Store}
-use Rattle.keys.specs.Store.{limit, keysOf, storeOf, emptyStore, inOrder, insertAll}
+use Rattle.keys.specs.Store.{limit, Sized, keysOf, storeOf, emptyStore, inOrder, insertAll}
 use Rattle.keys.proofs.Tests.{lt-or-le}
 use Rattle.keys.proofs.Rising.{Rising, Sub, sub-refl, rising-length}
 use Rattle.keys.proofs.Insert.{insertAll-rising, insertAll-sub, length-insertAll-missing}
@@ -143,39 +143,39 @@ round-cost r rr fits =
 -- ---- the call
 
 -- Of every store that has its places: where the round is not refused, it returns what slip 5 says. Nothing is said of matches.
-pub met-opening : (t : Store) (records : ℕ) → length (t .keys) ≡ limit → met emptyStore t records .number ≡ 0 → met emptyStore t records ≡ afterOpening t
-met-opening t records long z =
+pub met-opening : (t : Store) (records : ℕ) → Sized t → met emptyStore t records .number ≡ 0 → met emptyStore t records ≡ afterOpening t
+met-opening t records sized z =
     let yes = met-zero emptyStore t records z in
     let ordered : inOrder t ≡ true = roundQuestions-yes emptyStore t records yes .right in
     let r : Rising (keysOf t) = inOrder-rising t ordered in
-    let fits : length (keysOf t) ≤ limit = omega (arith, length-keysOf t long ordered, inOrder-count t ordered) in
+    let fits : length (keysOf t) ≤ limit = omega (arith, length-keysOf t (sized .keys) ordered, inOrder-count t ordered) in
     let run : roundBy emptyStore t ≡ roundOf [] (keysOf t) = ap (λ (l : List ℕ). roundOf l (keysOf t)) keysOf-emptyStore in
     let stores : roundBy emptyStore t .stores ≡ pair (keysOf t) (keysOf t)
     = ap (λ (x : Run). x .stores) run ∙ round-fuller [] (keysOf t) tt r fits (inr (λ k i. absurd (List·Memᴰ·not-nil i))) in
-    let same : storeOf (keysOf t) ≡ t = sym (storeOf-keysOf t long ordered) in
+    let same : storeOf (keysOf t) ≡ t = sym (storeOf-keysOf t sized ordered) in
     let left : storeOf (roundBy emptyStore t .stores .left) ≡ t = ap (λ (x : Pair). storeOf (x .left)) stores ∙ same in
     let right : storeOf (roundBy emptyStore t .stores .right) ≡ t = ap (λ (x : Pair). storeOf (x .right)) stores ∙ same in
     let cost : length (roundBy emptyStore t .lines) ≡ openingCost (t .count)
-    = ap (λ (x : Run). length (x .lines)) run ∙ (round-cost (keysOf t) r fits ∙ ap openingCost (length-keysOf t long ordered)) in
+    = ap (λ (x : Run). length (x .lines)) run ∙ (round-cost (keysOf t) r fits ∙ ap openingCost (length-keysOf t (sized .keys) ordered)) in
     met-done emptyStore t records yes ∙ (λ i. record { number = 0; left = left i; right = right i; deliveries = cost i })
 
 -- It is not refused where the store is in order and records enough are lent.
-pub opening-accepted : (t : Store) (records : ℕ) → length (t .keys) ≡ limit → inOrder t ≡ true → 2 * t .count ≤ records →
+pub opening-accepted : (t : Store) (records : ℕ) → Sized t → inOrder t ≡ true → 2 * t .count ≤ records →
     met emptyStore t records .number ≡ 0
-opening-accepted t records long ordered room =
+opening-accepted t records sized ordered room =
     ap (λ (x : Met). x .number)
     (met-done emptyStore t records (yes-roundQuestions emptyStore t records (record {
       left = inOrder-emptyStore;
       right = ordered;
-      fits = rw keysOf-emptyStore (omega (arith, length-keysOf t long ordered, inOrder-count t ordered));
-      room = rw keysOf-emptyStore (omega (arith, length-keysOf t long ordered));
+      fits = rw keysOf-emptyStore (omega (arith, length-keysOf t (sized .keys) ordered, inOrder-count t ordered));
+      room = rw keysOf-emptyStore (omega (arith, length-keysOf t (sized .keys) ordered));
     })))
 
 -- So `opening_cost` tells beforehand what the round then returns.
-pub cost-foretold : (t : Store) (records : ℕ) → length (t .keys) ≡ limit → met emptyStore t records .number ≡ 0 →
+pub cost-foretold : (t : Store) (records : ℕ) → Sized t → met emptyStore t records .number ≡ 0 →
     costed (t .count) ≡ record { number = 0; deliveries = met emptyStore t records .deliveries }
-cost-foretold t records long z =
+cost-foretold t records sized z =
     sym
     (costed-yes (t .count) (met emptyStore t records .deliveries)
     (inOrder-count t (roundQuestions-yes emptyStore t records (met-zero emptyStore t records z) .right))
-    (ap (λ (x : Met). x .deliveries) (met-opening t records long z)))
+    (ap (λ (x : Met). x .deliveries) (met-opening t records sized z)))

@@ -12,7 +12,7 @@ use lib.Dec.{ltb, eqb}
 use lib.ListN.{length, take, drop, getD, length-append, length-take, length-drop}
 use lib.Seq.{length-take-le, take-all, take-append-seam, drop-append-seam, drop-drop}
 use Rattle.keys.specs.declared.store.Store.{Store}
-use Rattle.keys.specs.Store.{limit, storeOf, insertAll}
+use Rattle.keys.specs.Store.{limit, Sized, storeOf, insertAll}
 use Rattle.keys.specs.Place.{putAt}
 use Rattle.keys.proofs.Tests.{and-left, and-right, lt-or-le, eq-or-ne}
 use Rattle.keys.proofs.Rising.{Rising}
@@ -30,12 +30,13 @@ use Rattle.claims.proofs.LentLaws.{hearIn-judged, hearIn-fits, hearIn-full}
 use Rattle.rule.specs.Table.{tableLimit, before, climbsFrom, climbs, insertClaim, tableWith}
 use Rattle.rule.specs.Call.{takeQuestions, taken}
 use Rattle.rule.specs.declared.node.Node.{Node}
+use Rattle.rule.specs.declared.answer.Rest.{Rest}
 use Rattle.rule.specs.declared.answer.Taken.{Taken}
 use Rattle.rule.specs.Node.{blanks, pendingOf, nodeKeys, nodeOf, telling, savedInOrder}
 use Rattle.rule.proofs.TableLaws.{before-trans, before-total, climbsFrom-climbs}
 use Rattle.rule.proofs.NodeLaws.{Ordered, ordered-nodeInOrder, length-telling, length-blanks, blanks-append, blanks-allUnused, drop-blanks, pendingOf-nodeOf}
 use Rattle.rule.proofs.CallLaws.{takeQuestions-yes, takeQuestions-6, taken-done, taken-refused, ordered-taken, length-pendingOf}
-use Rattle.nodes.specs.Lent.{restOf, frontIn, leftOut, admitIn, halvedTo, placeAmong, isAt, placedAt, tableIn, takeIn}
+use Rattle.nodes.specs.Lent.{restOf, frontIn, leftOut, restLeft, admitIn, halvedTo, placeAmong, isAt, placedAt, tableIn, takeIn}
 
 -- ---- what an image holds, admitted
 
@@ -67,6 +68,17 @@ module _ (l : List ℕ) (t : List Claim) (few : length t ≤ tableLimit) where
   pub admitIn-unsaved : savedInOrder (nodeOf l t) ≡ false → admitIn l (restOf (nodeOf l t)) .number ≡ 1
   unfolding admitIn
   admitIn-unsaved e = rw (judged-is, e)
+
+-- whatever is admitted, so many keys are held as were read
+pub held-admitIn : (keys : List ℕ) (r : Rest) → admitIn keys r .held ≡ r .held
+unfolding admitIn
+held-admitIn keys r = go (eqb (r .number) 0) (frontIn keys (r .table) (r .count))
+  where
+    go : (t u : Bool)
+        → cond t (cond u (restLeft (r .held) (r .table) (r .count)) (record { number = 1; held = r .held; table = r .table; count = r .count })) r .held ≡ r .held
+    go true true = refl
+    go true false = refl
+    go false u = refl
 
 -- ---- how many claims of a table come before one
 
@@ -258,10 +270,10 @@ module _ (n : Node) (whole : length (n .pending) ≡ tableLimit) (o : Ordered n)
       ∙ (ap (λ (l : List Claim). drop (length t - n .count) l) past
       ∙ (drop-blanks (length t - n .count) (tableLimit - n .count) ∙ ap blanks left))))
 
-  module _ (c : Claim) (long : length (n .store .keys) ≡ limit) where
+  module _ (c : Claim) (sized : Sized (n .store)) where
     -- the store is that of its keys
-    own-store : n .store ≡ storeOf (nodeKeys n)
-    own-store = storeOf-keysOf (n .store) long (o .store)
+    pub own-store : n .store ≡ storeOf (nodeKeys n)
+    own-store = storeOf-keysOf (n .store) sized (o .store)
 
     -- the table with the claim put in, laid out
     table-is : putAt (n .pending) 0 (tableIn c (pendingOf n)) ≡ tableWith c (pendingOf n) ++ blanks (tableLimit - length (tableWith c (pendingOf n)))

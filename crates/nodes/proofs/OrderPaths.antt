@@ -13,8 +13,8 @@ use lib.ListN.{length, take, drop, getD, drop-of-length-le, length-take}
 use lib.Seq.{drop-cons, getD-take, length-take-le, take-length}
 use Rattle.keys.specs.declared.lent.Place.{Place}
 use Rattle.keys.specs.Store.{limit, inOrder, holds}
-use Rattle.keys.specs.Lent.{orderedIn, placeIn, storeWith}
-use Rattle.keys.proofs.LentLaws.{orderedIn-inOrder, orderedIn-all, placeIn-ordered}
+use Rattle.keys.specs.Lent.{orderedIn, summedIn, placeIn, storeBy}
+use Rattle.keys.proofs.LentLaws.{summedIn-inOrder, summedIn-ordered, orderedIn-all, placeIn-ordered}
 use Rattle.claims.specs.declared.claim.Claim.{Claim}
 use Rattle.claims.specs.Claim.{noClaim}
 use Rattle.claims.specs.Reply.{ends, same}
@@ -27,7 +27,7 @@ use Rattle.rule.specs.Node.{holdsAll, allFit, allTell, allUnused, savedInOrder,
 use Rattle.rule.proofs.NodeLaws.{savedInOrder-nodeOf}
 use Rattle.rule.proofs.TableLaws.{before-total}
 use Rattle.nodes.specs.declared.order.Order.{Order}
-use Rattle.nodes.specs.Lent.{nodeWith, pending, orderOf, frontIn}
+use Rattle.nodes.specs.Lent.{nodeBy, pending, orderOf, frontIn}
 use Rattle.nodes.proofs.LentLaws.{before-not-same}
 
 -- ---- two claims compared
@@ -224,14 +224,18 @@ and-swap : (a b c : Bool) → ((a && b) && c) ≡ ((a && c) && b)
 and-swap true b c = and-comm b c
 and-swap false b c = refl
 
-module _ (keys : List ℕ) (held : ℕ) (table : List Claim) (count : ℕ) (long : length keys ≡ limit)
-    (ordered : Bool) (tested : ordered ≡ orderedIn keys held) where
+module _ (keys sums : List ℕ) (held : ℕ) (table : List Claim) (count : ℕ) (long : length keys ≡ limit)
+    (ordered : Bool) (tested : ordered ≡ summedIn keys sums held) where
   -- the node, which is in order if it is as one in an image and its claims pass 16
   abbrev node : Node
-  node = nodeWith keys held table count
+  node = nodeBy keys sums held table count
 
-  tested-store : inOrder (storeWith keys held) ≡ ordered
-  tested-store = sym (tested ∙ orderedIn-inOrder (storeWith keys held) long)
+  tested-store : inOrder (storeBy keys sums held) ≡ ordered
+  tested-store = sym (tested ∙ summedIn-inOrder (storeBy keys sums held) long)
+
+  -- the keys by themselves pass too
+  pub ordered-keys : not ordered ≡ false → orderedIn keys held ≡ true
+  ordered-keys e = summedIn-ordered keys sums held (sym tested ∙ not-false ordered e)
 
   pub ordered-store : not ordered ≡ true → false ≡ nodeInOrder node
   unfolding nodeInOrder savedInOrder

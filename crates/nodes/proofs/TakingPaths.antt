@@ -10,25 +10,31 @@ use borrow.Author.Tests.{lt-ltb, le-ltb, eqb-false, eq-eqb, ne-eqb, not-true, no
 use lib.Dec.{eqb}
 use lib.ListN.{length, take, drop, getD, length-append, length-take, length-drop, take-append-drop}
 use lib.Seq.{getD-take, length-take-le, take-take, take-all, take-nil, take-at}
-use Rattle.keys.specs.Lent.{insertedAt, storeWith}
+use Rattle.keys.proofs.SumLaws.{renewed-grown}
+use Rattle.keys.specs.Lent.{insertedAt, storeWith, renewedFrom, storeBy}
 use Rattle.keys.specs.declared.store.Store.{Store}
-use Rattle.keys.specs.Store.{limit}
+use Rattle.keys.specs.Store.{limit, Sized, storeOf}
 use Rattle.keys.specs.Place.{putAt}
-use Rattle.keys.proofs.Tests.{lt-or-le}
+use Rattle.keys.proofs.Tests.{lt-or-le, eq-or-ne}
+use Rattle.keys.proofs.LentLaws.{storeWith-storeOf}
 use Rattle.claims.specs.declared.claim.Claim.{Claim}
 use Rattle.claims.specs.Claim.{noClaim}
-use Rattle.claims.specs.Reply.{same}
+use Rattle.claims.specs.Question.{firstNo}
+use Rattle.claims.specs.Reply.{same, hear}
 use Rattle.claims.specs.declared.lent.Heard.{Heard}
 use Rattle.claims.specs.Lent.{Hearing, hearingWith, hearIn}
+use Rattle.claims.proofs.ReplyLaws.{hear-fits, length-hear-ge}
 use Rattle.claims.proofs.LentLaws.{hearIn-kept}
 use Rattle.rule.specs.Table.{tableLimit, before}
-use Rattle.rule.specs.Call.{taken}
+use Rattle.rule.specs.Call.{takeQuestions, taken}
 use Rattle.rule.specs.declared.node.Node.{Node}
+use Rattle.rule.specs.declared.answer.Rest.{Rest}
 use Rattle.rule.specs.declared.answer.Taken.{Taken}
-use Rattle.rule.specs.Node.{nodeInOrder}
-use Rattle.rule.proofs.NodeLaws.{nodeInOrder-ordered}
+use Rattle.rule.specs.Node.{nodeKeys, nodeOf, nodeInOrder}
+use Rattle.rule.proofs.NodeLaws.{Ordered, nodeInOrder-ordered}
+use Rattle.rule.proofs.CallLaws.{takeQuestions-yes, taken-done, taken-refused, length-nodeKeys}
 use Rattle.nodes.specs.Lent.{halvedTo, placeAmong, isAt, placedAt, tableIn, nodeWith, placedIn, Enlisted, takenWith, takeIn}
-use Rattle.nodes.proofs.LentLaws.{takeIn-taken}
+use Rattle.nodes.proofs.LentLaws.{own-store, takeIn-taken}
 
 -- ---- `place_among`: halving
 
@@ -183,5 +189,53 @@ module _ (n : Node) (c : Claim) (ordered : Bool) (tested : ordered ≡ nodeInOrd
   unfolding taken
   taken-1 e = rw (← tested, not-true ordered e)
 
-  pub taken-in : not ordered ≡ false → length (n .pending) ≡ tableLimit → length (n .store .keys) ≡ limit → (r : Taken) → r ≡ takeIn n c → r ≡ taken n c
-  taken-in e whole long r f = f ∙ takeIn-taken n whole (nodeInOrder-ordered n (sym tested ∙ not-false ordered e)) c long
+  module _ (yes : not ordered ≡ false) (whole : length (n .pending) ≡ tableLimit) (sized : Sized (n .store)) where
+    o : Ordered n
+    o = nodeInOrder-ordered n (sym tested ∙ not-false ordered yes)
+
+    -- its keys
+    abbrev l : List ℕ
+    l = nodeKeys n
+
+    own : n .store ≡ storeOf l
+    own = own-store n whole o c sized
+
+    short : length l ≤ limit
+    short = length-nodeKeys n o
+
+    -- its parts without the sums are all of it
+    parts-are : nodeWith (n .store .keys) (n .store .count) (n .pending) (n .count) ≡ n
+    parts-are =
+        let with-is : storeWith (n .store .keys) (n .store .count) ≡ n .store =
+        ap (λ (s : Store). storeWith (s .keys) (s .count)) own ∙ (storeWith-storeOf l short ∙ sym own) in
+        λ i. record { store = with-is i; pending = n .pending; count = n .count }
+
+    module _ (after : List ℕ) (r : Rest) (took : takenWith after r ≡ takeIn (nodeWith (n .store .keys) (n .store .count) (n .pending) (n .count)) c) where
+      taken-is : takenWith after r ≡ taken n c
+      taken-is = took ∙ (ap (λ (x : Node). takeIn x c) parts-are ∙ takeIn-taken n whole o c sized)
+
+      -- the sums worked out anew are those of the keys then
+      summed-anew : (m : List ℕ) → length l ≤ length m → length m ≤ limit → taken n c .node .store ≡ storeOf m
+          → renewedFrom 0 (storeBy after (n .store .sums) (r .held)) ≡ taken n c .node .store
+      summed-anew m h g e =
+          let is : storeWith after (r .held) ≡ storeOf m = ap (λ (t : Taken). t .node .store) taken-is ∙ e in
+          (λ i. renewedFrom 0 (storeBy (is i .keys) (own i .sums) (is i .count))) ∙ (renewed-grown l m h g ∙ sym e)
+
+      store-then : renewedFrom 0 (storeBy after (n .store .sums) (r .held)) ≡ taken n c .node .store
+      unfolding nodeOf
+      store-then = ⊎-elim {C = renewedFrom 0 (storeBy after (n .store .sums) (r .held)) ≡ taken n c .node .store}
+          (λ (e : firstNo (takeQuestions n c) ≡ 0).
+          summed-anew (hear c l) (length-hear-ge c l) (hear-fits c l (takeQuestions-yes n c e .room))
+          (ap (λ (t : Taken). t .node .store) (taken-done n c e)))
+          (λ (f : firstNo (takeQuestions n c) ≡ 0 → ⊥).
+          summed-anew l (omega arith) short (ap (λ (t : Taken). t .node .store) (taken-refused n c f) ∙ own))
+          (eq-or-ne (firstNo (takeQuestions n c)) 0)
+
+      pub taken-in : (s : Store) → s ≡ renewedFrom 0 (storeBy after (n .store .sums) (r .held))
+          → record { number = r .number; node = record { store = s; pending = r .table; count = r .count } } ≡ taken n c
+      taken-in s anew =
+          let store-is : s ≡ taken n c .node .store = anew ∙ store-then in
+          let number-is : r .number ≡ taken n c .number = ap (λ (t : Taken). t .number) taken-is in
+          let table-is : r .table ≡ taken n c .node .pending = ap (λ (t : Taken). t .node .pending) taken-is in
+          let count-is : r .count ≡ taken n c .node .count = ap (λ (t : Taken). t .node .count) taken-is in
+          λ i. record { number = number-is i; node = record { store = store-is i; pending = table-is i; count = count-is i } }

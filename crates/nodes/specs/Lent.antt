@@ -8,7 +8,7 @@ use mathlib.Core.Bool.{Bool, cond, not, _&&_}
 use mathlib.Core.List.{List, _∷_, _++_}
 use lib.Dec.{ltb, leb, eqb}
 use lib.ListN.{length, take, drop, getD}
-use Rattle.keys.specs.Lent.{storeWith}
+use Rattle.keys.specs.Lent.{storeWith, storeBy}
 use Rattle.keys.specs.Place.{putAt}
 use Rattle.claims.specs.declared.claim.Claim.{Claim}
 use Rattle.claims.specs.Claim.{noClaim}
@@ -21,9 +21,13 @@ use Rattle.rule.specs.Table.{tableLimit, before, climbs}
 use Rattle.rule.specs.Node.{blanks, pendingOf, nodeOf, allFit, telling, savedInOrder}
 use Rattle.nodes.specs.declared.order.Order.{Order}
 
--- the node of these parts: a run of keys and how many are held, a table and how many are pending
+-- the node of these parts: a run of keys and how many are held, a table and how many are pending; no sums, where none is read
 abbrev pub nodeWith : List ℕ → ℕ → List Claim → ℕ → Node
 nodeWith keys held table count = record { store = storeWith keys held; pending = table; count = count }
+
+-- .. and with sums
+abbrev pub nodeBy : List ℕ → List ℕ → ℕ → List Claim → ℕ → Node
+nodeBy keys sums held table count = record { store = storeBy keys sums held; pending = table; count = count }
 
 -- a node beside its keys
 abbrev pub restOf : Node → Rest

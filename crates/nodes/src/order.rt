@@ -4,6 +4,7 @@ use claims::judge_formerly;
 use claims::tells;
 use keys::ordered_in;
 use keys::places_in;
+use keys::summed_in;
 use rule::Node;
 ghost use mathlib.Core.Path.{_≡_};
 ghost use mathlib.Core.Bool.{true, false, _&&_};
@@ -16,7 +17,7 @@ ghost use Rattle.claims.specs.Reply.{ends};
 ghost use Rattle.claims.specs.Call.{judgedFormerly};
 ghost use Rattle.rule.specs.Table.{tableLimit, before};
 ghost use Rattle.rule.specs.Node.{holdsAll, allTell, allUnused, nodeInOrder};
-ghost use Rattle.nodes.specs.Lent.{nodeWith, pending, orderOf, frontIn};
+ghost use Rattle.nodes.specs.Lent.{nodeBy, pending, orderOf, frontIn};
 
 // Whether one claim comes before another in a table: by cnt, then lo, hi, sum.
 pub(crate) fn precedes(one: Claim, other: Claim) -> bool
@@ -105,12 +106,18 @@ fn all_unused(table: [Claim; Node::TABLE], count: usize) -> bool
     true
 }
 
-// Whether the node of these parts is in order: a whole run of keys and how many are held, a table and how many are pending.
-fn node_in_order(keys: &[u64], held: usize, table: [Claim; Node::TABLE], count: usize) -> bool
+// Whether the node of these parts is in order: keys and sums whole and how many keys are held, a table and how many claims are pending.
+fn node_in_order<'a>(
+    keys: &'a [u64],
+    sums: &'a [u64],
+    held: usize,
+    table: [Claim; Node::TABLE],
+    count: usize,
+) -> bool
     requires { ⌜ length (now keys) ≡ limit ⌝ }
-    ensures { λ r. ⌜ r ≡ nodeInOrder (nodeWith (now (keys .entry)) held table count) ⌝ }
+    ensures { λ r. ⌜ r ≡ nodeInOrder (nodeBy (now (keys .entry)) (now (sums .entry)) held table count) ⌝ }
 {
-    if !ordered_in(keys, held) {
+    if !summed_in(keys, sums, held) {
         return false;
     }
     if Node::TABLE < count {
@@ -140,5 +147,11 @@ pub(crate) fn front_in(keys: &[u64], table: [Claim; Node::TABLE], count: usize) 
 pub fn ordered(node: Node) -> bool
     ensures { λ r. ⌜ r ≡ nodeInOrder node ⌝ }
 {
-    node_in_order(&node.store.keys, node.store.count, node.pending, node.count)
+    node_in_order(
+        &node.store.keys,
+        &node.store.sums,
+        node.store.count,
+        node.pending,
+        node.count,
+    )
 }

@@ -133,17 +133,18 @@ pub fn take(node: Node, claim: Claim) -> Taken
     if !ordered(node) {
         return Taken { number: 1, node };
     }
-    let mut n = node;
-    let held = n.store.count;
-    let pending = n.pending;
-    let count = n.count;
-    let next = take_in(&mut n.store.keys, held, pending, count, claim);
+    let mut store = node.store;
+    let held = store.count;
+    let pending = node.pending;
+    let next = take_in(&mut store.keys, held, pending, node.count, claim);
+    store.count = next.held;
     let places = next.table;
-    n.store.count = next.held;
-    n.pending = places;
-    n.count = next.count;
     Taken {
         number: next.number,
-        node: n,
+        node: Node {
+            store: store.renewed(0),
+            pending: places,
+            count: next.count,
+        },
     }
 }

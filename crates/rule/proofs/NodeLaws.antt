@@ -13,7 +13,7 @@ use lib.Dec.{leb, eqb}
 use lib.ListN.{length, take, drop, length-drop, length-replicate, take-append-drop, length-map}
 use lib.Seq.{length-take-le, take-append-seam, drop-append-seam, take-at, drop-at}
 use Rattle.keys.specs.declared.store.Store.{Store}
-use Rattle.keys.specs.Store.{limit, keysOf, storeOf, inOrder, holds}
+use Rattle.keys.specs.Store.{limit, Sized, keysOf, storeOf, inOrder, holds}
 use Rattle.keys.proofs.Tests.{and-left, and-right, and-both}
 use Rattle.keys.proofs.Rising.{Rising, Sub, sub-trans, holds-mem, mem-holds}
 use Rattle.keys.proofs.StoreLaws.{keysOf-storeOf, storeOf-keysOf, inOrder-storeOf, inOrder-rising, inOrder-count, emptyStore-storeOf}
@@ -283,7 +283,7 @@ ordered-nodeOf l t r h g u f = record {
 }
 
 -- a node in order, with as many places as the limits say, is the node of its keys and its pending claims
-pub nodeOf-same : (n : Node) → length (n .store .keys) ≡ limit → length (n .pending) ≡ tableLimit → Ordered n → n ≡ nodeOf (nodeKeys n) (pendingOf n)
+pub nodeOf-same : (n : Node) → Sized (n .store) → length (n .pending) ≡ tableLimit → Ordered n → n ≡ nodeOf (nodeKeys n) (pendingOf n)
 unfolding nodeOf
 nodeOf-same n k p o =
     let s : n .store ≡ storeOf (nodeKeys n) = storeOf-keysOf (n .store) k (o .store) in

@@ -9,10 +9,10 @@ use borrow.Author.Tests.{le-leb, lt-leb, not-true, not-false}
 use lib.ListN.{length, take}
 use Rattle.keys.specs.declared.store.Store.{Store}
 use Rattle.keys.specs.Store.{limit, keysOf, inOrder}
-use Rattle.keys.specs.Lent.{orderedIn}
+use Rattle.keys.specs.Lent.{summedIn}
 use Rattle.keys.specs.Place.{putAt}
 use Rattle.keys.proofs.StoreLaws.{inOrder-count, length-keysOf}
-use Rattle.keys.proofs.LentLaws.{orderedIn-inOrder}
+use Rattle.keys.proofs.LentLaws.{summedIn-inOrder}
 use Rattle.wire.specs.declared.answer.Length.{Length}
 use Rattle.text.specs.Put.{Put}
 use Rattle.sheet.specs.Sheet.{sheetText, sheetLength}
@@ -78,10 +78,10 @@ module _ (l out : List ℕ) where
 
 -- ---- a store
 
-module _ (s : Store) (long : length (s .keys) ≡ limit) (ordered : Bool) (tested : ordered ≡ orderedIn (s .keys) (s .count)) where
+module _ (s : Store) (long : length (s .keys) ≡ limit) (ordered : Bool) (tested : ordered ≡ summedIn (s .keys) (s .sums) (s .count)) where
   module _ (out : List ℕ) (no : not ordered ≡ true) where
     out-of-order : inOrder s ≡ false
-    out-of-order = sym (orderedIn-inOrder s long) ∙ (sym tested ∙ not-true ordered no)
+    out-of-order = sym (summedIn-inOrder s long) ∙ (sym tested ∙ not-true ordered no)
 
     pub unordered-told : record { number = 1; length = 0 } ≡ writeSheet s (length out)
     unfolding writeSheet
@@ -93,7 +93,7 @@ module _ (s : Store) (long : length (s .keys) ≡ limit) (ordered : Bool) (teste
 
   module _ (yes : not ordered ≡ false) where
     in-order : inOrder s ≡ true
-    in-order = sym (orderedIn-inOrder s long) ∙ (sym tested ∙ not-false ordered yes)
+    in-order = sym (summedIn-inOrder s long) ∙ (sym tested ∙ not-false ordered yes)
 
     count-few : length (keysOf s) ≤ limit
     count-few = omega (arith, inOrder-count s in-order, length-keysOf s long in-order)

@@ -2,7 +2,7 @@
 use crate::layout::put_sheet;
 use crate::size::sheet_length;
 use keys::Store;
-use keys::ordered_in;
+use keys::summed_in;
 use wire::Length;
 ghost use mathlib.Core.Path.{_≡_};
 ghost use Prim.Native.Nat.{_≤_};
@@ -50,12 +50,12 @@ pub fn write_sheet(store: Store, out: &mut [u8]) -> Length
         × (now (out .exit) ≡ sheetLent store (now (out .entry))) ⌝ }
 {
     let count = store.count;
-    let places = &store.keys[..];
-    if !ordered_in(places, count) {
+    if !summed_in(&store.keys, &store.sums, count) {
         return Length {
             number: 1,
             length: 0,
         };
     }
+    let places = &store.keys[..];
     write_sheet_in(&places[..count], out)
 }

@@ -1,17 +1,20 @@
 -- The core of a round on flat words (specs/Core) is the round of `rule`, specs/Round, where both stores are in order and the records are enough. The
 -- records are the queue itself: what waits stands, in its order, where its deliveries will be recorded. In order: a state of the core laid out from the
--- keys of both stores, what waits and what is delivered; one delivery; deliveries until none waits; the whole claim; both halves. Assumes nothing.
+-- keys of both stores, what waits and what is delivered; one delivery; deliveries until none waits; the end of a half; the whole claim; both halves. Assumes
+-- nothing.
 use Prim.Native.Nat.{ℕ, zero, suc, _+_, _-_, _*_, _≤_, _<_}
 use mathlib.Core.List.{List, [], _∷_, _++_, map, map-append, append-assoc, append-nil, List·Memᴰ·head}
 use mathlib.Core.Path.{_≡_, refl, sym, ap, ap₂, _∙_, subst}
 use native.Mathlib.Omega.{arith}
 use borrow.Author.Tests.{eq-eqb, ne-eqb, lt-ltb, le-leb}
 use lib.ListN.{length, length-append, length-map}
-use Rattle.keys.specs.declared.store.Store.{Store}
+use Rattle.keys.proofs.SumLaws.{MarkedOf, marked-all, finish-marked}
+use Rattle.keys.specs.Lent.{Marked, markedAll}
 use Rattle.keys.specs.Store.{limit, storeOf}
 use Rattle.keys.specs.Place.{putAt}
 use Rattle.keys.proofs.Rising.{Rising, rising-length}
 use Rattle.keys.proofs.StoreLaws.{count-storeOf}
+use Rattle.claims.specs.declared.answer.Answer.{Answer}
 use Rattle.claims.specs.declared.claim.Claim.{Claim}
 use Rattle.claims.specs.Claim.{claimOf, wholeClaim}
 use Rattle.claims.specs.Reply.{withEnds, hear, reply, claimsOf}
@@ -30,7 +33,7 @@ use Rattle.rule.proofs.Half.{Fine, fine-step, weights-step, fine-length, run-ni
 use Rattle.rule.proofs.Half.{opening, halfway-opening, half-run, half-fine, half-union, length-half}
 use Rattle.rule.proofs.Union.{length-left-union, length-right-union}
 use Rattle.transcript.specs.Core.{senderIn, claimIn, Log, delivery, putRecords, putWhole}
-use Rattle.transcript.specs.Core.{Core, firstWaiting, step, steps, finish, opened, reopened, both}
+use Rattle.transcript.specs.Core.{Core, firstWaiting, step, steps, finish, settled, opened, reopened, both}
 use Rattle.transcript.proofs.StepLaws.{steps-on, steps-off}
 use Rattle.transcript.proofs.WordsLaws.{length-over, sender-at, claim-at, logOf, putRecords-append}
 
@@ -42,8 +45,8 @@ noted e = delivery (senderNumber (e .sender)) (e .claim)
 
 -- the core is where both stores have the keys of p, `done` is delivered and q waits, over the words `lent`
 pub record Laid (lent : List ℕ) (p : Pair) (q : List Entry) (done : List Delivery) (s : Core) : Type 0 where
-  pub left-is : s .left ≡ storeOf (p .left)
-  pub right-is : s .right ≡ storeOf (p .right)
+  pub left-is : MarkedOf (p .left) (s .left)
+  pub right-is : MarkedOf (p .right) (s .right)
   pub log-is : s .log ≡ logOf (done ++ map noted q) lent
   pub head-is : s .head ≡ length done
 
@@ -91,10 +94,14 @@ module _ (lent u : List ℕ) (p : Pair) (e : Entry) (q : List Entry) (done : Lis
       (hear-sub (e .claim) (keysBefore e p) u (adding-within u p e sound (fine .within)) (fine .within (receiver e))) in
       omega (arith, fine .fits, length-ends-hear (e .claim) (keysBefore e p))
 
-  -- what the receiver replies, whose store has these keys
-  replied : (own : Store) → own ≡ storeOf (keysBefore e p)
-      → replyIn own (firstWaiting s) ≡ record { store = storeOf (hear (e .claim) (keysBefore e p)); answer = reply (e .claim) (keysBefore e p) }
-  replied own k = ap₂ replyIn k claim-is ∙ replyIn-fits (keysBefore e p) (fine .rises (receiver e)) (e .claim) passes ends-fit
+  keys-short : length (keysBefore e p) ≤ limit
+  keys-short = omega (arith, rising-length (keysBefore e p) u (fine .rises (receiver e)) (fine .whole) (fine .within (receiver e)), fine .fits)
+
+  -- what the receiver replies, whose store has these keys: it then has those that it heard, and the answer is the rule's
+  replied : (own : Marked) → MarkedOf (keysBefore e p) own
+      → MarkedOf (hear (e .claim) (keysBefore e p)) (replyIn own (firstWaiting s) .marked)
+      × (replyIn own (firstWaiting s) .answer ≡ reply (e .claim) (keysBefore e p))
+  replied own k = rw claim-is (replyIn-fits (keysBefore e p) keys-short (fine .rises (receiver e)) own k (e .claim) passes ends-fit)
 
   -- the answers' records go after the last one
   answers-fit : length (done ++ map noted (e ∷ q)) + length (claimsOf (reply (e .claim) (keysBefore e p))) ≤ recordsIn lent
@@ -124,6 +131,11 @@ module _ (lent u : List ℕ) (p : Pair) (e : Entry) (q : List Entry) (done : Lis
       ∙ (putRecords-append (done ++ map noted (e ∷ q)) lent (senderNumber (receiver e)) (claimsOf (reply (e .claim) (keysBefore e p))) answers-fit
       ∙ ap (λ (t : List Delivery). logOf t lent) written)
 
+  -- .. by the answer that was given
+  log-by : (a : Answer) → a ≡ reply (e .claim) (keysBefore e p)
+      → putRecords (s .log) (senderNumber (receiver e)) (claimsOf a) ≡ logOf ((done ++ (noted e ∷ [])) ++ map noted (q ++ answers e p)) lent
+  log-by a told = ap (λ (x : Answer). putRecords (s .log) (senderNumber (receiver e)) (claimsOf x)) told ∙ log-then
+
   head-then : s .head + 1 ≡ length (done ++ (noted e ∷ []))
   head-then = ap (λ (n : ℕ). n + 1) (laid .head-is) ∙ sym (length-append done (noted e ∷ []))
 
@@ -136,27 +148,23 @@ laid-deliver : (lent u : List ℕ) (p : Pair) (x : End) (c : Claim) (claimed : L
 unfolding step
 laid-deliver lent u p leftEnd c claimed q done s fine laid room =
     let e : Entry = record { sender = leftEnd; claim = c; claimed = claimed } in
-    rw (
-      eq-eqb (senderIn (s .log .words) (s .head)) 0 (sender-is lent u p e q done s fine laid room),
-      replied lent u p e q done s fine laid room (s .right) (laid .right-is),
-    )
+    let (right, told) = replied lent u p e q done s fine laid room (s .right) (laid .right-is) in
+    rw (eq-eqb (senderIn (s .log .words) (s .head)) 0 (sender-is lent u p e q done s fine laid room))
     (record {
       left-is = laid .left-is;
-      right-is = refl;
-      log-is = log-then lent u p e q done s fine laid room;
+      right-is = right;
+      log-is = log-by lent u p e q done s fine laid room (replyIn (s .right) (firstWaiting s) .answer) told;
       head-is = head-then lent u p e q done s fine laid room;
     })
 laid-deliver lent u p rightEnd c claimed q done s fine laid room =
     let e : Entry = record { sender = rightEnd; claim = c; claimed = claimed } in
     let one : senderIn (s .log .words) (s .head) ≡ 1 = sender-is lent u p e q done s fine laid room in
-    rw (
-      ne-eqb (senderIn (s .log .words) (s .head)) 0 (λ (z : senderIn (s .log .words) (s .head) ≡ 0). omega arith),
-      replied lent u p e q done s fine laid room (s .left) (laid .left-is),
-    )
+    let (left, told) = replied lent u p e q done s fine laid room (s .left) (laid .left-is) in
+    rw (ne-eqb (senderIn (s .log .words) (s .head)) 0 (λ (z : senderIn (s .log .words) (s .head) ≡ 0). omega arith))
     (record {
-      left-is = refl;
+      left-is = left;
       right-is = laid .right-is;
-      log-is = log-then lent u p e q done s fine laid room;
+      log-is = log-by lent u p e q done s fine laid room (replyIn (s .left) (firstWaiting s) .answer) told;
       head-is = head-then lent u p e q done s fine laid room;
     })
 
@@ -204,6 +212,22 @@ laid-finish m lent u p q done s fine laid room h =
     subst (λ (r : Run). Laid lent (r .stores) [] (done ++ transcript r) (finish s)) (run-more n m u p q fine enough h)
     (laid-steps n lent u p q done s fine laid room enough)
 
+-- ---- the end of a half
+
+-- nothing waits, and all sums of both stores are right
+pub record Whole (lent : List ℕ) (p : Pair) (done : List Delivery) (s : Core) : Type 0 where
+  pub left-is : s .left ≡ markedAll (storeOf (p .left))
+  pub right-is : s .right ≡ markedAll (storeOf (p .right))
+  pub log-is : s .log ≡ logOf done lent
+
+whole-settled : (lent : List ℕ) (p : Pair) (done : List Delivery) (s : Core) → Laid lent p [] done s → length (p .left) ≤ limit → length (p .right) ≤ limit
+    → Whole lent p done (settled s)
+whole-settled lent p done s laid l r = record {
+  left-is = ap markedAll (finish-marked (p .left) (s .left) l (laid .left-is));
+  right-is = ap markedAll (finish-marked (p .right) (s .right) r (laid .right-is));
+  log-is = laid .log-is ∙ ap (λ (t : List Delivery). logOf t lent) (append-nil done);
+}
+
 -- ---- the whole claim
 
 whole-claim : (k : ℕ) (ks : List ℕ) → length (k ∷ ks) ≤ limit
@@ -224,64 +248,68 @@ whole-put lent ds (k ∷ ks) sender h room =
 
 -- ---- both halves
 
-module _ (lent l r : List ℕ) (rl : Rising l) (rr : Rising r) (fits : length (union l r) ≤ limit) (room : 2 * length (union l r) ≤ recordsIn lent) where
-  left-le : length l ≤ length (union l r)
-  left-le = length-left-union l r rl rr
-
-  laid-opened : Laid lent (pair l r) (opening leftEnd (pair l r)) [] (opened (storeOf l) (storeOf r) lent)
-  unfolding opened putAt
-  laid-opened =
-      let w = whole-put lent [] l 0 (omega (arith, left-le)) (omega (arith, left-le)) in
-      let e : map (delivery 0) (wholeClaim l) ≡ map noted (opening leftEnd (pair l r)) = sym (noted-waits leftEnd l (wholeClaim l)) in
-      record { left-is = refl; right-is = refl; log-is = w ∙ ap (λ (t : List Delivery). logOf t lent) e; head-is = refl }
-
-  rises : Rises (pair l r)
-  rises = rises-pair l r rl rr
-
-  laid-left : Laid lent (half leftEnd (pair l r) .stores) [] (transcript (half leftEnd (pair l r))) (finish (opened (storeOf l) (storeOf r) lent))
-  laid-left =
-      let open-half = halfway-opening leftEnd (pair l r) rises fits in
-      rw (half-run leftEnd (pair l r))
-      (laid-finish (length (unionOf (pair l r))) lent (unionOf (pair l r)) (pair l r) (opening leftEnd (pair l r)) [] (opened (storeOf l) (storeOf r) lent)
-      (open-half .fine) laid-opened (omega (arith, open-half .light)) (open-half .light))
+-- the left end's whole claim put first
+laid-opened : (lent l r : List ℕ) → length l ≤ limit → length r ≤ limit → length l ≤ recordsIn lent
+    → Laid lent (pair l r) (opening leftEnd (pair l r)) [] (opened (storeOf l) (storeOf r) lent)
+unfolding opened putAt
+laid-opened lent l r h g room =
+    let w = whole-put lent [] l 0 h (omega arith) in
+    let e : map (delivery 0) (wholeClaim l) ≡ map noted (opening leftEnd (pair l r)) = sym (noted-waits leftEnd l (wholeClaim l)) in
+    record { left-is = marked-all l h; right-is = marked-all r g; log-is = w ∙ ap (λ (t : List Delivery). logOf t lent) e; head-is = refl }
 
 -- the right end's whole claim put after what is delivered
-laid-reopened : (lent : List ℕ) (p : Pair) (done : List Delivery) (s : Core) → Laid lent p [] done s
-    → length (p .right) ≤ limit → length done + length (p .right) ≤ recordsIn lent → Laid lent p (opening rightEnd p) done (reopened s)
+laid-reopened : (lent : List ℕ) (p : Pair) (done : List Delivery) (s : Core) → Whole lent p done s
+    → length (p .left) ≤ limit → length (p .right) ≤ limit → length done + length (p .right) ≤ recordsIn lent → Laid lent p (opening rightEnd p) done (reopened s)
 unfolding reopened
-laid-reopened lent p done s laid h room =
+laid-reopened lent p done s whole l r room =
     let e : map (delivery 1) (wholeClaim (p .right)) ≡ map noted (opening rightEnd p) = sym (noted-waits rightEnd (p .right) (wholeClaim (p .right))) in
-    let log : s .log ≡ logOf done lent = laid .log-is ∙ ap (λ (t : List Delivery). logOf t lent) (append-nil done) in
     record {
-      left-is = laid .left-is;
-      right-is = laid .right-is;
+      left-is = subst (MarkedOf (p .left)) (sym (whole .left-is)) (marked-all (p .left) l);
+      right-is = subst (MarkedOf (p .right)) (sym (whole .right-is)) (marked-all (p .right) r);
       log-is =
-          ap₂ (λ (x : Store) (l : Log). putWhole x l 1) (laid .right-is) log
-          ∙ (whole-put lent done (p .right) 1 h room ∙ ap (λ (t : List Delivery). logOf (done ++ t) lent) e);
-      head-is = ap (λ (l : Log). l .tail) log;
+          ap₂ (λ (x : Marked) (t : Log). putWhole (x .store) t 1) (whole .right-is) (whole .log-is)
+          ∙ (whole-put lent done (p .right) 1 r room ∙ ap (λ (t : List Delivery). logOf (done ++ t) lent) e);
+      head-is = ap (λ (t : Log). t .tail) (whole .log-is);
     }
 
+-- a half from where its whole claim was put, after `done` deliveries
+whole-half : (x : End) (lent : List ℕ) (p : Pair) (done : List Delivery) (s : Core) → Rises p → length (unionOf p) ≤ limit
+    → length done + length (unionOf p) ≤ recordsIn lent → Laid lent p (opening x p) done s
+    → Whole lent (half x p .stores) (done ++ transcript (half x p)) (settled (finish s))
+whole-half x lent p done s rises fits room laid =
+    let open-half = halfway-opening x p rises fits in
+    let ran = laid-finish (length (unionOf p)) lent (unionOf p) p (opening x p) done s (open-half .fine) laid
+    (omega (arith, open-half .light)) (open-half .light) in
+    let q : Pair = half x p .stores in
+    let after : Rises q = half-fine x p rises fits .rises in
+    let n : length (unionOf q) ≡ length (unionOf p) = ap length (half-union x p rises fits) in
+    whole-settled lent q (done ++ transcript (half x p)) (finish s)
+    (subst (λ (b : Run). Laid lent (b .stores) [] (done ++ transcript b) (finish s)) (sym (half-run x p)) ran)
+    (omega (arith, length-left-union (q .left) (q .right) (after leftEnd) (after rightEnd)))
+    (omega (arith, length-right-union (q .left) (q .right) (after rightEnd)))
+
 -- The core is the round.
-pub laid-both : (lent l r : List ℕ) → Rising l → Rising r → length (union l r) ≤ limit → 2 * length (union l r) ≤ recordsIn lent
-    → Laid lent (roundOf l r .stores) [] (transcript (roundOf l r)) (both (storeOf l) (storeOf r) lent)
+pub whole-both : (lent l r : List ℕ) → Rising l → Rising r → length (union l r) ≤ limit → 2 * length (union l r) ≤ recordsIn lent
+    → Whole lent (roundOf l r .stores) (transcript (roundOf l r)) (both (storeOf l) (storeOf r) lent)
 unfolding both roundOf
-laid-both lent l r rl rr fits room =
+whole-both lent l r rl rr fits room =
     let p : Pair = pair l r in
     let a : Run = half leftEnd p in
     let q : Pair = a .stores in
     let rp : Rises p = rises-pair l r rl rr in
     let rq : Rises q = half-fine leftEnd p rp fits .rises in
-    let same : unionOf q ≡ union l r = half-union leftEnd p rp fits in
-    let n : length (unionOf q) ≡ length (union l r) = ap length same in
-    let right-le : length (q .right) ≤ length (unionOf q) = length-right-union (q .left) (q .right) (rq rightEnd) in
+    let n : length (unionOf q) ≡ length (union l r) = ap length (half-union leftEnd p rp fits) in
+    let left-le : length l ≤ length (union l r) = length-left-union l r rl rr in
+    let right-le : length r ≤ length (union l r) = length-right-union l r rr in
+    let left-le-then : length (q .left) ≤ length (unionOf q) = length-left-union (q .left) (q .right) (rq leftEnd) (rq rightEnd) in
+    let right-le-then : length (q .right) ≤ length (unionOf q) = length-right-union (q .left) (q .right) (rq rightEnd) in
     let made : length (transcript a) ≡ length (a .lines) = length-map (a .lines) (λ (x : Line). x .delivery) in
     let few : length (a .lines) ≤ length (union l r) = length-half leftEnd p rp fits in
-    let open-half = halfway-opening rightEnd q rq (omega arith) in
-    let first = laid-left lent l r rl rr fits room in
-    let first-half : Core = finish (opened (storeOf l) (storeOf r) lent) in
-    let second = laid-finish (length (unionOf q)) lent (unionOf q) q (opening rightEnd q) (transcript a) (reopened first-half) (open-half .fine)
-    (laid-reopened lent q (transcript a) first-half first (omega arith) (omega arith)) (omega (arith, open-half .light)) (open-half .light) in
+    let first = whole-half leftEnd lent p [] (opened (storeOf l) (storeOf r) lent) rp fits (omega arith)
+    (laid-opened lent l r (omega arith) (omega arith) (omega arith)) in
+    let first-half : Core = settled (finish (opened (storeOf l) (storeOf r) lent)) in
+    let second = whole-half rightEnd lent q (transcript a) (reopened first-half) rq (omega arith) (omega arith)
+    (laid-reopened lent q (transcript a) first-half first (omega arith) (omega arith) (omega arith)) in
     let joined : transcript a ++ transcript (half rightEnd q) ≡ map (λ (x : Line). x .delivery) (a .lines ++ half rightEnd q .lines) =
     sym (map-append (λ (x : Line). x .delivery) (a .lines) (half rightEnd q .lines)) in
-    subst (λ (t : List Delivery). Laid lent (half rightEnd q .stores) [] t (finish (reopened first-half))) joined
-    (subst (λ (b : Run). Laid lent (b .stores) [] (transcript a ++ transcript b) (finish (reopened first-half))) (sym (half-run rightEnd q)) second)
+    subst (λ (t : List Delivery). Whole lent (half rightEnd q .stores) t (settled (finish (reopened first-half)))) joined second

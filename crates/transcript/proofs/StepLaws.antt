@@ -131,7 +131,7 @@ steps-bound (suc n) s h =
     go true b same = (b .0 ∙ same, omega (arith, b .1))
     go false b same = (refl, h)
 
--- the first half stays among the records
+-- the first half stays among the records, and settling writes none
 pub opened-bound : (left right : Store) (words : List ℕ)
     → (length (finish (opened left right words) .log .words) ≡ length words) × (finish (opened left right words) .log .tail ≤ recordsIn words)
 unfolding opened

@@ -6,23 +6,30 @@ use crate::record::put_record;
 use claims::make_in;
 use claims::reply_in;
 use keys::Store;
-use keys::ordered_in;
+use keys::resum_in;
+use keys::summed_in;
 use rule::Met;
 use words::claim_at;
 ghost use mathlib.Core.Path.{_≡_};
 ghost use mathlib.Core.Bool.{true};
 ghost use Prim.Native.Nat.{_≤_, _<_};
 ghost use lib.ListN.{length};
+ghost use Rattle.keys.specs.Lent.{storeBy, markedAll, finishIn};
 ghost use Rattle.keys.specs.Store.{limit, rising};
-ghost use Rattle.keys.specs.Lent.{storeWith};
 ghost use Rattle.rule.specs.Round.{union};
 ghost use Rattle.rule.specs.Call.{met, recordsIn, metWords};
-ghost use Rattle.transcript.specs.Core.{logWith, putWhole, coreOf, step, finish, opened, reopened, both, Stepped, asked};
+ghost use Rattle.transcript.specs.Core.{logWith, putWhole, step, finish, settled, opened, reopened, both, asked, markedBy, coreBy, Stepped};
 
-// Where the core is: both counts, and where the next record goes.
+// What an end holds: how many keys, and below which place its sums are right.
+pub struct Held {
+    pub count: usize,
+    pub mark: usize,
+}
+
+// Where the core is: what both ends hold, and where the next record goes.
 pub struct Reached {
-    pub left: usize,
-    pub right: usize,
+    pub left: Held,
+    pub right: Held,
     pub tail: usize,
 }
 
@@ -51,13 +58,22 @@ fn union_count(left: &[u64], right: &[u64]) -> usize
 }
 
 // The questions of a round, 1 (left, then right), 8 and 9: the number of the first answered no, or 0.
-fn asked(left: &[u64], left_count: usize, right: &[u64], right_count: usize, records: usize) -> u8
-    ensures { λ r. ⌜ r ≡ asked (storeWith (now (left .entry)) «left_count») (storeWith (now (right .entry)) «right_count») records ⌝ }
+fn asked<'a>(
+    left: &'a [u64],
+    left_sums: &'a [u64],
+    left_count: usize,
+    right: &'a [u64],
+    right_sums: &'a [u64],
+    right_count: usize,
+    records: usize,
+) -> u8
+    ensures { λ r. ⌜ r ≡ asked (storeBy (now (left .entry)) (now («left_sums» .entry)) «left_count»)
+        (storeBy (now (right .entry)) (now («right_sums» .entry)) «right_count») records ⌝ }
 {
-    if !ordered_in(left, left_count) {
+    if !summed_in(left, left_sums, left_count) {
         return 1;
     }
-    if !ordered_in(right, right_count) {
+    if !summed_in(right, right_sums, right_count) {
         return 1;
     }
     let n = union_count(&left[..left_count], &right[..right_count]);
@@ -71,13 +87,21 @@ fn asked(left: &[u64], left_count: usize, right: &[u64], right_count: usize, rec
 }
 
 // Puts one end's whole claim last, none if it has no keys, and says where the next record goes.
-fn put_whole(keys: &[u64], count: usize, words: &mut [u64], at: usize, sender: u64) -> usize
-    ensures { λ r. ⌜ logWith (now (words .exit)) r ≡ putWhole (storeWith (now (keys .entry)) count) (logWith (now (words .entry)) at) sender ⌝ }
+fn put_whole<'a>(
+    keys: &'a [u64],
+    sums: &'a [u64],
+    count: usize,
+    words: &mut [u64],
+    at: usize,
+    sender: u64,
+) -> usize
+    ensures { λ r. ⌜ logWith (now (words .exit)) r
+        ≡ putWhole (storeBy (now (keys .entry)) (now (sums .entry)) count) (logWith (now (words .entry)) at) sender ⌝ }
 {
     if count == 0 {
         return at;
     }
-    let made = make_in(keys, count, 0, count - 1);
+    let made = make_in(keys, sums, count, 0, count - 1);
     let claim = made.claim;
     put_record(words, at, sender, claim)
 }
@@ -85,121 +109,182 @@ fn put_whole(keys: &[u64], count: usize, words: &mut [u64], at: usize, sender: u
 // One delivery: the record at `head` goes to the other end, whose reply's claims are put last.
 fn deliver(
     left: &mut [u64; Store::LIMIT],
-    left_count: usize,
+    left_sums: &mut [u64; Store::LIMIT],
     right: &mut [u64; Store::LIMIT],
-    right_count: usize,
+    right_sums: &mut [u64; Store::LIMIT],
     words: &mut [u64],
     head: usize,
-    tail: usize,
+    at: Reached,
 ) -> Reached
-    requires { ⌜ (head < tail) × (tail ≤ recordsIn (now words)) ⌝ }
-    ensures { λ r. ⌜ Stepped r (now (left .exit)) (now (right .exit)) (now (words .exit))
-        (step (coreOf (storeWith (now (left .entry)) «left_count») (storeWith (now (right .entry)) «right_count») (logWith (now (words .entry)) tail) head)) ⌝ }
+    requires { ⌜ (head < at .tail) × (at .tail ≤ recordsIn (now words)) ⌝ }
+    ensures { λ r. ⌜ Stepped r (now (left .exit)) (now («left_sums» .exit)) (now (right .exit)) (now («right_sums» .exit)) (now (words .exit))
+        (step (coreBy (now (left .entry)) (now («left_sums» .entry)) (now (right .entry)) (now («right_sums» .entry)) (now (words .entry)) head at)) ⌝ }
 {
-    let at = head * RECORD;
-    let sender = words[at];
-    let claim = claim_at(words, at + 1);
+    let place = head * RECORD;
+    let sender = words[place];
+    let claim = claim_at(words, place + 1);
     if sender == 0 {
-        let told = reply_in(right, right_count, claim);
+        let told = reply_in(right, right_sums, at.right.count, at.right.mark, claim);
         let answer = told.answer;
-        let end = put_answer(words, tail, 1, answer);
-        return Reached {
-            left: left_count,
-            right: told.count,
-            tail: end,
-        };
+        let mut then = at;
+        then.tail = put_answer(words, at.tail, 1, answer);
+        then.right.count = told.count;
+        then.right.mark = told.mark;
+        return then;
     }
-    let told = reply_in(left, left_count, claim);
+    let told = reply_in(left, left_sums, at.left.count, at.left.mark, claim);
     let answer = told.answer;
-    let end = put_answer(words, tail, 0, answer);
-    Reached {
-        left: told.count,
-        right: right_count,
-        tail: end,
-    }
+    let mut then = at;
+    then.tail = put_answer(words, at.tail, 0, answer);
+    then.left.count = told.count;
+    then.left.mark = told.mark;
+    then
 }
 
 // Deliveries until none waits.
 fn deliver_all(
     left: &mut [u64; Store::LIMIT],
-    left_count: usize,
+    left_sums: &mut [u64; Store::LIMIT],
     right: &mut [u64; Store::LIMIT],
-    right_count: usize,
+    right_sums: &mut [u64; Store::LIMIT],
     words: &mut [u64],
     from: usize,
-    to: usize,
+    at: Reached,
 ) -> Reached
-    requires { ⌜ to ≤ recordsIn (now words) ⌝ }
-    ensures { λ r. ⌜ Stepped r (now (left .exit)) (now (right .exit)) (now (words .exit))
-        (finish (coreOf (storeWith (now (left .entry)) «left_count») (storeWith (now (right .entry)) «right_count») (logWith (now (words .entry)) to) from)) ⌝ }
+    requires { ⌜ at .tail ≤ recordsIn (now words) ⌝ }
+    ensures { λ r. ⌜ Stepped r (now (left .exit)) (now («left_sums» .exit)) (now (right .exit)) (now («right_sums» .exit)) (now (words .exit))
+        (finish (coreBy (now (left .entry)) (now («left_sums» .entry)) (now (right .entry)) (now («right_sums» .entry)) (now (words .entry)) from at)) ⌝ }
 {
     let mut head = from;
-    let mut tail = to;
-    let mut left_held = left_count;
-    let mut right_held = right_count;
-    while head < tail {
-        let reached = deliver(left, left_held, right, right_held, words, head, tail);
-        left_held = reached.left;
-        right_held = reached.right;
-        tail = reached.tail;
+    let mut reached = at;
+    while head < reached.tail {
+        reached = deliver(left, left_sums, right, right_sums, words, head, reached);
         head += 1;
     }
+    reached
+}
+
+// Works the sums of one end out that are left, and says that all are right.
+fn settle(keys: &[u64], sums: &mut [u64; Store::LIMIT], held: Held) -> Held
+    ensures { λ r. ⌜ markedBy (now (keys .entry)) (now (sums .exit)) r ≡ markedAll (finishIn (markedBy (now (keys .entry)) (now (sums .entry)) held)) ⌝ }
+{
+    resum_in(keys, sums, held.mark, held.count);
+    Held {
+        count: held.count,
+        mark: held.count,
+    }
+}
+
+// Deliveries until none waits, and then the sums of both ends.
+fn deliver_half(
+    left: &mut [u64; Store::LIMIT],
+    left_sums: &mut [u64; Store::LIMIT],
+    right: &mut [u64; Store::LIMIT],
+    right_sums: &mut [u64; Store::LIMIT],
+    words: &mut [u64],
+    from: usize,
+    at: Reached,
+) -> Reached
+    requires { ⌜ at .tail ≤ recordsIn (now words) ⌝ }
+    ensures { λ r. ⌜ Stepped r (now (left .exit)) (now («left_sums» .exit)) (now (right .exit)) (now («right_sums» .exit)) (now (words .exit))
+        (settled (finish
+        (coreBy (now (left .entry)) (now («left_sums» .entry)) (now (right .entry)) (now («right_sums» .entry)) (now (words .entry)) from at))) ⌝ }
+{
+    let reached = deliver_all(left, left_sums, right, right_sums, words, from, at);
+    let left_held = reached.left;
+    let right_held = reached.right;
     Reached {
-        left: left_held,
-        right: right_held,
-        tail,
+        left: settle(&left[..], left_sums, left_held),
+        right: settle(&right[..], right_sums, right_held),
+        tail: reached.tail,
     }
 }
 
 // The left end's whole claim, and all that follows from it.
 fn left_half(
     left: &mut [u64; Store::LIMIT],
+    left_sums: &mut [u64; Store::LIMIT],
     left_count: usize,
     right: &mut [u64; Store::LIMIT],
+    right_sums: &mut [u64; Store::LIMIT],
     right_count: usize,
     words: &mut [u64],
 ) -> Reached
-    ensures { λ r. ⌜ Stepped r (now (left .exit)) (now (right .exit)) (now (words .exit))
-        (finish (opened (storeWith (now (left .entry)) «left_count») (storeWith (now (right .entry)) «right_count») (now (words .entry)))) ⌝ }
+    ensures { λ r. ⌜ Stepped r (now (left .exit)) (now («left_sums» .exit)) (now (right .exit)) (now («right_sums» .exit)) (now (words .exit))
+        (settled (finish (opened (storeBy (now (left .entry)) (now («left_sums» .entry)) «left_count»)
+        (storeBy (now (right .entry)) (now («right_sums» .entry)) «right_count») (now (words .entry))))) ⌝ }
 {
-    let end = put_whole(&left[..], left_count, words, 0, 0);
-    deliver_all(left, left_count, right, right_count, words, 0, end)
+    let end = put_whole(&left[..], &left_sums[..], left_count, words, 0, 0);
+    let at = Reached {
+        left: Held {
+            count: left_count,
+            mark: left_count,
+        },
+        right: Held {
+            count: right_count,
+            mark: right_count,
+        },
+        tail: end,
+    };
+    deliver_half(left, left_sums, right, right_sums, words, 0, at)
 }
 
-// The right end's whole claim, put after `done` deliveries, and all that follows from it.
+// The right end's whole claim, put after all that was delivered, and all that follows from it.
 fn right_half(
     left: &mut [u64; Store::LIMIT],
-    left_count: usize,
+    left_sums: &mut [u64; Store::LIMIT],
     right: &mut [u64; Store::LIMIT],
-    right_count: usize,
+    right_sums: &mut [u64; Store::LIMIT],
     words: &mut [u64],
-    done: usize,
+    done: Reached,
 ) -> Reached
-    requires { ⌜ done ≤ recordsIn (now words) ⌝ }
-    ensures { λ r. ⌜ Stepped r (now (left .exit)) (now (right .exit)) (now (words .exit))
-        (finish (reopened
-        (coreOf (storeWith (now (left .entry)) «left_count») (storeWith (now (right .entry)) «right_count») (logWith (now (words .entry)) done) done))) ⌝ }
+    requires { ⌜ done .tail ≤ recordsIn (now words) ⌝ }
+    ensures { λ r. ⌜ Stepped r (now (left .exit)) (now («left_sums» .exit)) (now (right .exit)) (now («right_sums» .exit)) (now (words .exit))
+        (settled (finish (reopened
+        (coreBy (now (left .entry)) (now («left_sums» .entry)) (now (right .entry)) (now («right_sums» .entry)) (now (words .entry)) (done .tail) done)))) ⌝ }
 {
-    let end = put_whole(&right[..], right_count, words, done, 1);
-    deliver_all(left, left_count, right, right_count, words, done, end)
+    let left_held = done.left;
+    let right_held = done.right;
+    let end = put_whole(
+        &right[..],
+        &right_sums[..],
+        right_held.count,
+        words,
+        done.tail,
+        1,
+    );
+    let at = Reached {
+        left: left_held,
+        right: right_held,
+        tail: end,
+    };
+    deliver_half(left, left_sums, right, right_sums, words, done.tail, at)
 }
 
 // Both halves.
 fn both_halves(
     left: &mut [u64; Store::LIMIT],
+    left_sums: &mut [u64; Store::LIMIT],
     left_count: usize,
     right: &mut [u64; Store::LIMIT],
+    right_sums: &mut [u64; Store::LIMIT],
     right_count: usize,
     words: &mut [u64],
 ) -> Reached
-    ensures { λ r. ⌜ Stepped r (now (left .exit)) (now (right .exit)) (now (words .exit))
-        (both (storeWith (now (left .entry)) «left_count») (storeWith (now (right .entry)) «right_count») (now (words .entry))) ⌝ }
+    ensures { λ r. ⌜ Stepped r (now (left .exit)) (now («left_sums» .exit)) (now (right .exit)) (now («right_sums» .exit)) (now (words .exit))
+        (both (storeBy (now (left .entry)) (now («left_sums» .entry)) «left_count»)
+        (storeBy (now (right .entry)) (now («right_sums» .entry)) «right_count») (now (words .entry))) ⌝ }
 {
-    let reached = left_half(left, left_count, right, right_count, words);
-    let left_held = reached.left;
-    let right_held = reached.right;
-    let done = reached.tail;
-    right_half(left, left_held, right, right_held, words, done)
+    let done = left_half(
+        left,
+        left_sums,
+        left_count,
+        right,
+        right_sums,
+        right_count,
+        words,
+    );
+    right_half(left, left_sums, right, right_sums, words, done)
 }
 
 // A round. Asks 1 (left, then right), 8 and 9, of as many records as the words have.
@@ -208,10 +293,10 @@ pub fn round_words(left: Store, right: Store, words: &mut [u64]) -> Met
 {
     let mut l = left;
     let mut r = right;
-    let left_count = l.count;
-    let right_count = r.count;
+    let here = l.count;
+    let there = r.count;
     let records = words.len() / RECORD;
-    let number = asked(&l.keys, left_count, &r.keys, right_count, records);
+    let number = asked(&l.keys, &l.sums, here, &r.keys, &r.sums, there, records);
     if number != 0 {
         return Met {
             number,
@@ -220,9 +305,21 @@ pub fn round_words(left: Store, right: Store, words: &mut [u64]) -> Met
             deliveries: 0,
         };
     }
-    let reached = both_halves(&mut l.keys, left_count, &mut r.keys, right_count, words);
-    l.count = reached.left;
-    r.count = reached.right;
+    let mut left_sums = l.sums;
+    let mut right_sums = r.sums;
+    let reached = both_halves(
+        &mut l.keys,
+        &mut left_sums,
+        here,
+        &mut r.keys,
+        &mut right_sums,
+        there,
+        words,
+    );
+    l.sums = left_sums;
+    l.count = reached.left.count;
+    r.sums = right_sums;
+    r.count = reached.right.count;
     Met {
         number: 0,
         left: l,

@@ -3,6 +3,7 @@
 mod flat;
 mod record;
 
+pub use flat::Held;
 pub use flat::Reached;
 pub use flat::round_words;
 pub use record::RECORD;

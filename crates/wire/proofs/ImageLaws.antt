@@ -25,7 +25,7 @@ use Rattle.wire.specs.Number.{bytes}
 use Rattle.wire.specs.Claim.{countWidth}
 use Rattle.wire.specs.Run.{key}
 use Rattle.wire.specs.Length.{noLength}
-use Rattle.wire.specs.Image.{keySection, claimSection, sections, sectionLength, imageLimit, sectionBytes, imageBytes, nodeBytes, Shaped, countOf, behind}
+use Rattle.wire.specs.Image.{keySection, claimSection, sections, sectionLength, imageLimit, sectionBytes, imageBytes, nodeBytes, countOf, behind}
 use Rattle.wire.specs.Image.{countFits, countsFit, toldLength, question14, parse, nodeFrom, readImageQuestions, used, noImage, readImage}
 use Rattle.wire.specs.Image.{writeImageQuestions, writeImage, imageLent}
 use Rattle.wire.specs.Sizes.{AsTold}
@@ -93,12 +93,12 @@ module _ (n : Node) where
   pub ordered-counts : nodeInOrder n ≡ true → (n .store .count ≤ limit) × (n .count ≤ tableLimit)
   ordered-counts e = let o = nodeInOrder-ordered n e in (inOrder-count (n .store) (o .store), o .count)
 
-  module _ (shaped : Shaped n) (few : n .store .count ≤ limit) (several : n .count ≤ tableLimit) where
+  module _ (long : length (n .store .keys) ≡ limit) (all : length (n .pending) ≡ tableLimit) (few : n .store .count ≤ limit) (several : n .count ≤ tableLimit) where
     pub length-nodeKeys : length (nodeKeys n) ≡ n .store .count
-    length-nodeKeys = length-take-le (n .store .count) (n .store .keys) (rw (shaped .keys) few)
+    length-nodeKeys = length-take-le (n .store .count) (n .store .keys) (rw long few)
 
     pub length-pending : length (pendingOf n) ≡ n .count
-    length-pending = length-take-le (n .count) (n .pending) (rw (shaped .pending) several)
+    length-pending = length-take-le (n .count) (n .pending) (rw all several)
 
     length-keyBytes : length (sectionBytes key (nodeKeys n)) ≡ sectionLength keySection (n .store .count)
     length-keyBytes = rw (length-append, length-bytes, length-writeRun key-faithful, length-nodeKeys)

@@ -11,8 +11,10 @@ use lib.ListN.{length, take, drop, replicate, length-drop}
 use lib.Seq.{drop-drop}
 use Rattle.keys.specs.declared.store.Store.{Store}
 use Rattle.keys.specs.Store.{limit, storeOf, emptyStore}
+use Rattle.keys.specs.Lent.{storeWith, renewedFrom, storeBy}
 use Rattle.keys.specs.Place.{putAt}
 use Rattle.keys.proofs.PlaceLaws.{putAt-four-blocks, putAt-replicate}
+use Rattle.keys.proofs.LentLaws.{resummed-zeros}
 use Rattle.claims.specs.declared.claim.Claim.{Claim}
 use Rattle.claims.specs.Claim.{noClaim}
 use Rattle.rule.specs.declared.node.Node.{Node}
@@ -28,7 +30,7 @@ use Rattle.wire.specs.Number.{bytes, numberAt}
 use Rattle.wire.specs.Claim.{keyWidth, countWidth, claimSize}
 use Rattle.wire.specs.Run.{key, claim, readRun, writeRun}
 use Rattle.wire.specs.Length.{noLength}
-use Rattle.wire.specs.Image.{keySection, sections, sectionLength, imageBytes, nodeBytes, Shaped, countOf, behind, countFits}
+use Rattle.wire.specs.Image.{keySection, sections, sectionLength, imageBytes, nodeBytes, countOf, behind, countFits}
 use Rattle.wire.specs.Image.{countsFit, toldLength}
 use Rattle.wire.specs.Image.{parse, noImage, readImage, imageLength, writeImage, imageLent}
 use Rattle.wire.specs.Sizes.{partOf, sizesOf, AsTold, Readable, HasRoom}
@@ -37,7 +39,7 @@ use Rattle.wire.proofs.NumberLaws.{length-bytes, numberAt-drop}
 use Rattle.wire.proofs.RunLaws.{length-readRun, length-writeRun, key-faithful}
 use Rattle.wire.proofs.ImageLaws.{countFits-missing, countFits-high, countFits-of, whole-told, length-nodeKeys, length-pending, length-nodeBytes}
 use Rattle.wire.proofs.SizesLaws.{partOf-no, partOf-yes, partOf-fits, partOf-count, sizesOf-no, sizesOf-yes, sizesOf-fits, told-room}
-use Rattle.wire.proofs.LentLaws.{readImageIn-part, readImage-no, readImage-lent}
+use Rattle.wire.proofs.LentLaws.{readImageIn-part, readImage-held, readImage-no, readImage-lent}
 use Rattle.wire.proofs.LentLaws.{withinLimits-yes, writeImageIn-0, writeImageIn-writeImage, imageInLent-imageLent}
 
 -- ---- part_at
@@ -185,8 +187,14 @@ module _ (bs : List ℕ) {s : Store} (empty : s ≡ emptyStore) {r : Rest} (read
     pub image-refused : (a .number ≡ 0 → ⊥) → {i : Imaged} → i ≡ noImage (a .number) → i ≡ readImage bs
     image-refused f told = told ∙ readImage-no bs read fresh admitted f
 
-    pub image-read : a .number ≡ 0 → record { number = 0; node = nodeWith ks (a .held) (a .table) (a .count) } ≡ readImage bs
-    image-read z = readImage-lent bs read fresh admitted z
+    pub image-read : a .number ≡ 0 → length ks ≡ limit → (t : Store) → t ≡ renewedFrom 0 (storeBy ks (s .sums) (a .held))
+        → record { number = 0; node = record { store = t; pending = a .table; count = a .count } } ≡ readImage bs
+    unfolding emptyStore
+    image-read z long t anew =
+        let sums = resummed-zeros ks (a .held) long (readImage-held bs read fresh admitted) in
+        let store : t ≡ storeWith ks (a .held) =
+        anew ∙ (ap (λ (x : Store). renewedFrom 0 (storeBy ks (x .sums) (a .held))) empty ∙ (λ i. storeBy ks (sums i) (a .held))) in
+        (λ i. record { number = 0; node = record { store = store i; pending = a .table; count = a .count } }) ∙ readImage-lent bs read fresh admitted z
 
 -- ---- put_image
 
@@ -201,9 +209,8 @@ module _ (keys : List ℕ) (held : ℕ) (table : List Claim) (count : ℕ) (out 
   unfolding imageBytes
   image-put e₁ e₂ e₃ e₄ =
       let n = nodeWith keys held table count in
-      let shaped : Shaped n = record { keys = room .long; pending = all } in
-      let ks = length-nodeKeys n shaped (room .keys) (room .pending) in
-      let cs = length-pending n shaped (room .keys) (room .pending) in
+      let ks = length-nodeKeys n (room .long) all (room .keys) (room .pending) in
+      let cs = length-pending n (room .long) all (room .keys) (room .pending) in
       let h = room .enough in
       let a = bytes countWidth held in
       let b = writeRun key (take held keys) in
@@ -238,7 +245,7 @@ module _ (n : Node) (out : List ℕ) {a : Bool} (asked : a ≡ withinLimits (n .
     added : countWidth + keyWidth * n .store .count + countWidth + claimSize * n .count ≡ length (nodeBytes n)
     added =
         let (long, few, several) = withinLimits-yes (n .store .keys) (n .store .count) (n .count) within in
-        rw (length-nodeBytes n (record { keys = long; pending = all }) few several) (omega arith)
+        rw (length-nodeBytes n long all few several) (omega arith)
 
     pub writeIn-15 : length out < countWidth + keyWidth * n .store .count + countWidth + claimSize * n .count
         → (noLength 15 ≡ writeImageIn n (length out)) × (out ≡ imageInLent n out)
@@ -267,9 +274,12 @@ module _ (n : Node) (out : List ℕ) {a : Bool} (asked : a ≡ nodeInOrder n) wh
   unfolding writeImage imageLent
   writeImage-1 lacks = let e = sym asked ∙ not-true a lacks in (rw e, rw e)
 
+  -- an image has no sums
   pub writeImage-in : not a ≡ false → length (n .store .keys) ≡ limit → {r : Length} {after : List ℕ}
-      → r ≡ writeImageIn n (length out) → after ≡ imageInLent n out
+      → r ≡ writeImageIn (nodeWith (n .store .keys) (n .store .count) (n .pending) (n .count)) (length out)
+      → after ≡ imageInLent (nodeWith (n .store .keys) (n .store .count) (n .pending) (n .count)) out
       → (r ≡ writeImage n (length out)) × (after ≡ imageLent n out)
+  unfolding writeImageIn imageInLent
   writeImage-in has long p q =
       let e = sym asked ∙ not-false a has in
       (p ∙ writeImageIn-writeImage n out long e, q ∙ imageInLent-imageLent n out long e)

@@ -111,7 +111,7 @@ imageBytes-parse bs below whole =
 
 -- no image is longer than the longest (its size: `image-size`)
 pub image-at-most : (n : Node) → Shaped n → nodeInOrder n ≡ true → length (nodeBytes n) ≤ imageLimit
-image-at-most n shaped e = let (few, several) = ordered-counts n e in rw (length-nodeBytes n shaped few several) (omega arith)
+image-at-most n shaped e = let (few, several) = ordered-counts n e in rw (length-nodeBytes n (shaped .store .keys) (shaped .pending) few several) (omega arith)
 
 -- Every image of a node in order is accepted, and read as that node.
 pub image-accepted : (n : Node) → NodeFits n → nodeInOrder n ≡ true → readImage (nodeBytes n) ≡ record { number = 0; node = n }
@@ -119,12 +119,12 @@ image-accepted n fit e =
     let (few, several) = ordered-counts n e in
     let ks = nodeKeys n in
     let cs = pendingOf n in
-    let k : length ks ≤ limit = rw (length-nodeKeys n (fit .shaped) few several) few in
-    let c : length cs ≤ tableLimit = rw (length-pending n (fit .shaped) few several) several in
+    let k : length ks ≤ limit = rw (length-nodeKeys n (fit .shaped .store .keys) (fit .shaped .pending) few several) few in
+    let c : length cs ≤ tableLimit = rw (length-pending n (fit .shaped .store .keys) (fit .shaped .pending) few several) several in
     let parsed =
     parse-imageBytes ks cs k c (each-take _ (n .store .count) (n .store .keys) (fit .keys)) (each-take ClaimFits (n .count) (n .pending) (fit .pending)) in
     let o = nodeInOrder-ordered n e in
-    let same : n ≡ nodeOf ks cs = nodeOf-same n (fit .shaped .keys) (fit .shaped .pending) o in
+    let same : n ≡ nodeOf ks cs = nodeOf-same n (fit .shaped .store) (fit .shaped .pending) o in
     let saved : savedInOrder (nodeFrom (parse (nodeBytes n))) ≡ true = rw (ap nodeFrom parsed, ← same) (saved-savedInOrder n (ordered-saved n o)) in
     let node : nodeFrom (used (parse (nodeBytes n))) ≡ n =
     ap (λ (x : Contents). nodeFrom (used x)) parsed ∙ (ap (nodeOf ks) (telling-all cs (ordered-tells n o)) ∙ sym same) in
@@ -136,8 +136,8 @@ pub image-length-is-told : (n : Node) (rest : List ℕ) → Shaped n → nodeInO
 unfolding imageLength
 image-length-is-told n rest shaped e =
     let (few, several) = ordered-counts n e in
-    let k : length (nodeKeys n) ≤ limit = rw (length-nodeKeys n shaped few several) few in
-    let c : length (pendingOf n) ≤ tableLimit = rw (length-pending n shaped few several) several in
+    let k : length (nodeKeys n) ≤ limit = rw (length-nodeKeys n (shaped .store .keys) (shaped .pending) few several) few in
+    let c : length (pendingOf n) ≤ tableLimit = rw (length-pending n (shaped .store .keys) (shaped .pending) few several) several in
     let long : length (nodeBytes n) ≤ length (nodeBytes n ++ rest) = rw (length-append (nodeBytes n) rest) (omega arith) in
     let counts = front-counts (nodeKeys n) (pendingOf n) k c rest in
     let told = front-length (nodeKeys n) (pendingOf n) k c rest in

@@ -10,11 +10,12 @@ use borrow.Author.Tests.{le-leb, leb-true, eqb-true, eq-eqb}
 use lib.Dec.{leb, eqb, lit<}
 use lib.ListN.{length, take, drop, replicate}
 use lib.Seq.{length-take-le}
-use Rattle.keys.specs.declared.store.Store.{Store}
 use Rattle.keys.specs.Store.{limit, zeros, storeOf, emptyStore}
+use Rattle.keys.specs.Lent.{storeWith}
 use Rattle.keys.specs.Place.{putAt}
 use Rattle.keys.proofs.Tests.{and-left, and-right, eq-or-ne}
 use Rattle.keys.proofs.PlaceLaws.{putAt-replicate}
+use Rattle.keys.proofs.LentLaws.{storeWith-storeOf}
 use Rattle.claims.specs.Question.{firstNo}
 use Rattle.claims.proofs.QuestionLaws.{firstNo-zero, settle-refused, settle-number}
 use Rattle.rule.specs.declared.node.Node.{Node}
@@ -24,7 +25,7 @@ use Rattle.rule.specs.Table.{tableLimit}
 use Rattle.rule.specs.Node.{nodeKeys, nodeOf, telling, savedInOrder, nodeInOrder}
 use Rattle.rule.proofs.NodeLaws.{nodeKeys-nodeOf}
 use Rattle.nodes.specs.Lent.{nodeWith, restOf, admitIn}
-use Rattle.nodes.proofs.LentLaws.{admitIn-saved, admitIn-unsaved}
+use Rattle.nodes.proofs.LentLaws.{held-admitIn, admitIn-saved, admitIn-unsaved}
 use Rattle.wire.specs.Claim.{countWidth}
 use Rattle.wire.specs.Run.{key, claim}
 use Rattle.wire.specs.Sizes.{AsTold}
@@ -56,18 +57,6 @@ module _ (bs : List ℕ) {r : Rest} (e : r ≡ readImageIn bs) where
     passed : question14 bs .yes ≡ true
     passed = firstNo-zero (question14 bs) [] (lit< tt) (sym readImageIn-number ∙ done) .0
 
-    -- the node of both
-    abbrev readNode : Node
-    readNode = nodeWith ks (r .held) (r .table) (r .count)
-
-    readImageIn-node : readNode ≡ nodeFrom (parse bs)
-    unfolding readImageIn readImageInLent nodeOf storeOf emptyStore zeros
-    readImageIn-node =
-        let l = parse bs .keys in
-        let rest : r ≡ restOf (nodeFrom (parse bs)) = e ∙ rw passed in
-        let p : ks ≡ l ++ replicate (limit - length l) 0 = k ∙ rw passed (putAt-replicate l limit 0) in
-        λ i. record { store = record { keys = p i; count = rest i .held }; pending = rest i .table; count = rest i .count }
-
     -- the counts are those that the image tells: so many keys are there, and not too many claims
     told : AsTold bs (countOf bs) (countOf (behind keySection bs))
     told =
@@ -89,6 +78,23 @@ module _ (bs : List ℕ) {r : Rest} (e : r ≡ readImageIn bs) where
 
     readImageIn-few : (r .held ≤ limit) × (r .count ≤ tableLimit)
     readImageIn-few = let (n, m) = counted in let (f, g, room) = told-room told in (rw n f, rw m g)
+
+    -- the node of both
+    abbrev readNode : Node
+    readNode = nodeWith ks (r .held) (r .table) (r .count)
+
+    short : length (parse bs .keys) ≤ limit
+    unfolding parse
+    short = let (f, g, room) = told-room told in rw (length-readRun key (countOf bs) (drop countWidth bs)) f
+
+    readImageIn-node : readNode ≡ nodeFrom (parse bs)
+    unfolding readImageIn readImageInLent nodeOf storeOf emptyStore zeros
+    readImageIn-node =
+        let l = parse bs .keys in
+        let rest : r ≡ restOf (nodeFrom (parse bs)) = e ∙ rw passed in
+        let p : ks ≡ l ++ replicate (limit - length l) 0 = k ∙ rw passed (putAt-replicate l limit 0) in
+        let store : storeWith ks (r .held) ≡ storeOf l = (λ i. storeWith (p i) (rest i .held)) ∙ storeWith-storeOf l short in
+        λ i. record { store = store i; pending = rest i .table; count = rest i .count }
 
     -- what is admitted of these keys and claims: what the image says of itself, by question 1 and without what fails 16
     module _ {a : Rest} (admitted : a ≡ admitIn (take (r .held) ks) r) where
@@ -131,8 +137,9 @@ module _ (bs : List ℕ) {r : Rest} (e : r ≡ readImageIn bs) where
           go true o =
               let keys : ks ≡ storeOf l .keys = ap (λ (n : Node). n .store .keys) readImageIn-node in
               let is = saved-is o in
+              let store : storeWith ks (a .held) ≡ storeOf l = (λ i. storeWith (keys i) (is i .held)) ∙ storeWith-storeOf l short in
               let node : nodeWith ks (a .held) (a .table) (a .count) ≡ nodeFrom (used (parse bs)) =
-              λ i. record { store = record { keys = keys i; count = is i .held }; pending = is i .table; count = is i .count } in
+              λ i. record { store = store i; pending = is i .table; count = is i .count } in
               (λ i. record { number = 0; node = node i }) ∙ rw (passed, o)
           go false o = absurd (let one : a .number ≡ 1 = unsaved-is o in omega arith)
 
@@ -157,6 +164,10 @@ module _ (bs : List ℕ) {r : Rest} (e : r ≡ readImageIn bs) where
     refused-stays : (r .number ≡ 0 → ⊥) → a ≡ r
     unfolding admitIn
     refused-stays f = admitted ∙ settle-refused (r .number) _ (λ n. r) f
+
+    -- as many keys are admitted as were read
+    pub readImage-held : a .held ≤ limit
+    readImage-held = rw (ap (λ (x : Rest). x .held) admitted ∙ held-admitIn (take (r .held) ks) r) (readImageIn-held k)
 
     pub readImage-no : (a .number ≡ 0 → ⊥) → noImage (a .number) ≡ readImage bs
     readImage-no f = ⊎-elim {C = noImage (a .number) ≡ readImage bs}

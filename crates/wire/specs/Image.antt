@@ -6,7 +6,7 @@ use mathlib.Core.List.{List, [], _∷_, _++_}
 use mathlib.Core.Path.{_≡_}
 use lib.Dec.{leb, eqb}
 use lib.ListN.{length, drop}
-use Rattle.keys.specs.Store.{limit}
+use Rattle.keys.specs.Store.{limit, Sized}
 use Rattle.keys.specs.Place.{putAt}
 use Rattle.claims.specs.declared.claim.Claim.{Claim}
 use Rattle.claims.specs.Question.{Question, question, firstNo, settle}
@@ -57,13 +57,13 @@ sectionBytes l xs = bytes countWidth (length xs) ++ writeRun l xs
 unfoldable pub imageBytes : List ℕ → List Claim → List ℕ
 imageBytes ks cs = sectionBytes key ks ++ sectionBytes claim cs
 
--- "Image of a node"
+-- "Image of a node". Of its store's sums: "The image doesn't hold them; reading works them out." (document 02, slip 7)
 abbrev pub nodeBytes : Node → List ℕ
 nodeBytes n = imageBytes (nodeKeys n) (pendingOf n)
 
 -- a node whose arrays are as long as their types say ..
 pub record Shaped (n : Node) : Type 0 where
-  pub keys : length (n .store .keys) ≡ limit
+  pub store : Sized (n .store)
   pub pending : length (n .pending) ≡ tableLimit
 
 -- .. and whose numbers fit their widths: so is every node that the code holds

@@ -234,7 +234,7 @@ fn no_image(number: u8) -> Imaged
     }
 }
 
-// The node of an image. Questions 14 and 1; then pending claims that fail 16 are left out.
+// The node of an image. Questions 14 and 1; then pending claims that fail 16 are left out, and the sums are worked out.
 pub fn read_image(bytes: &[u8]) -> Imaged
     ensures { λ r. ⌜ r ≡ readImage (now (bytes .entry)) ⌝ }
 {
@@ -251,7 +251,7 @@ pub fn read_image(bytes: &[u8]) -> Imaged
     Imaged {
         number: 0,
         node: Node {
-            store,
+            store: store.renewed(0),
             pending,
             count: rest.count,
         },

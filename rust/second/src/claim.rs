@@ -25,15 +25,21 @@ impl Claim {
         Claim { lo, hi, sum, cnt }
     }
 
-    /// The claim of a whole span of keys that rise strictly.
+    /// The claim for positions first to last of keys that rise strictly, with
+    /// the running sums that lie beside them: "a span's sum is then read from
+    /// two of them, or from one where the span begins at position 0" (document
+    /// 02, slip 7).
     ///
-    /// Of one key the sum is that key: the fold says so, as the paper's
-    /// algorithm does and its text doesn't.
-    pub(crate) fn of_span(span: &[u64]) -> Claim {
-        let sum = span.iter().fold(0, |sum, key| sum ^ key);
+    /// Of one key the sum is that key: two neighbours of the running sums
+    /// differ by it, as the paper's algorithm says and its text doesn't.
+    pub(crate) fn of_positions(keys: &[u64], sums: &[u64], first: usize, last: usize) -> Claim {
+        let sum = match first.checked_sub(1) {
+            None => sums[last],
+            Some(before) => sums[last] ^ sums[before],
+        };
         // A span lies in a store, so its length is at most the limit, which
         // 16 bits hold.
-        Claim::new(span[0], span[span.len() - 1], sum, span.len() as u16)
+        Claim::new(keys[first], keys[last], sum, (last - first + 1) as u16)
     }
 
     /// The key that a claim of three says lies between its ends: "sum XOR lo

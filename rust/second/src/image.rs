@@ -63,7 +63,8 @@ pub(crate) fn front_length(bytes: &[u8]) -> Asked<usize> {
 
 /// The node of an image, judged by 14 and 1, without the pending claims that
 /// fail 16: each "is left out once the image has passed 1 as before, and the
-/// rest of the image is used" (document 02, slip 2).
+/// rest of the image is used" (document 02, slip 2). Of the running sums, "The
+/// image doesn't hold them; reading works them out." (document 02, slip 7)
 pub(crate) fn node_of_image(image: &[u8]) -> Asked<Node> {
     ask(14, front_length(image)? == image.len())?;
     // Asked just now, so that both counts are there; the bytes after the

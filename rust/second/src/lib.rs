@@ -1,9 +1,10 @@
-//! Document 01 and slips 1, 2, 4, 5 and 6 of document 02 in plain Rust, written
+//! Document 01 and slips 1, 2 and 4 to 7 of document 02 in plain Rust, written
 //! from these and the paper alone; slip 3 changed nothing that is seen. Four
 //! host calls are beyond document 01: [`host::enter`], [`host::count`], for the
 //! wall sheet of slip 4 [`host::sheet`], with the program [`wallsheet()`], and
 //! for what a new kiosk costs, slip 5, [`host::opening_cost`]. Slip 6 moved
-//! the limit, which is [`RawStore::LIMIT`] throughout.
+//! the limit, which is [`RawStore::LIMIT`] throughout. Slip 7 put running sums
+//! beside the keys, [`RawStore::sums`], from which claims read theirs.
 //!
 //! This is the second program of document 01 ("the rest, with random stores,
 //! run against a second program"): it shares no code, table or constant with

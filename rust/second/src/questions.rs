@@ -30,12 +30,36 @@ pub(crate) fn ask(number: u8, yes: bool) -> Asked {
 // ---- the seventeen ----
 
 /// 1, of a store: the count is at most the limit, "the keys below the count
-/// rise strictly and every place from the count on is 0".
+/// rise strictly and every place from the count on is 0". It "is in order only
+/// if these numbers are right too", the running sums (document 02, slip 7).
 pub fn q1_store_in_order(store: &RawStore) -> bool {
     store.count <= RawStore::LIMIT && {
         let (keys, unused) = store.keys.split_at(store.count);
-        keys_in_order(keys) && unused.iter().all(|&place| place == 0)
+        let (sums, unused_sums) = store.sums.split_at(store.count);
+        keys_in_order(keys) && all_zero(unused) && sums_right(keys, sums) && all_zero(unused_sums)
     }
+}
+
+/// Whether unused places hold 0, of the keys or of the sums. All are looked at,
+/// several at once.
+fn all_zero(places: &[u64]) -> bool {
+    places.iter().fold(0, |bits, place| bits | place) == 0
+}
+
+/// Whether each of as many sums as keys is "the XOR of all keys up to and with
+/// that place" (document 02, slip 7): the first is the first key, and each one
+/// after it is the sum before it XOR its own key.
+fn sums_right(keys: &[u64], sums: &[u64]) -> bool {
+    let (Some((key, keys)), Some((sum, sums_after))) = (keys.split_first(), sums.split_first())
+    else {
+        return true;
+    };
+    // None of these waits for another, so that several are looked at at once.
+    let after = keys.iter().zip(sums_after).zip(sums);
+    let wrong = after.fold(0, |wrong, ((key, sum), before)| {
+        wrong | (key ^ sum ^ before)
+    });
+    sum == key && wrong == 0
 }
 
 /// 1, of a node: its store is in order and so is its table, with zeros in
@@ -65,9 +89,10 @@ fn table_in_order(keys: &[u64], pending: &[Claim], asked: impl Fn(&Claim) -> Ask
         })
 }
 
-/// 1, of the contents of an image, which has no unused places. Its counts
-/// are at most the limit and 64 by question 14. Pending claims that fail 16 are
-/// there still: 1 is asked "as before" (document 02, slip 2).
+/// 1, of the contents of an image, which has no unused places, and no sums:
+/// "The image doesn't hold them" (document 02, slip 7). Its counts are at most
+/// the limit and 64 by question 14. Pending claims that fail 16 are there
+/// still: 1 is asked "as before" (document 02, slip 2).
 pub(crate) fn contents_in_order(keys: &[u64], pending: &[Claim]) -> bool {
     keys_in_order(keys) && table_in_order(keys, pending, of_saved_claim)
 }

@@ -5,13 +5,17 @@ use std::fmt;
 use crate::claim::Claim;
 use crate::questions;
 
-/// A store as it is given to a call: as many places as the limit says, and a
-/// count, of any content.
+/// A store as it is given to a call: as many places as the limit says, with a
+/// running sum beside each, and a count, of any content.
 #[derive(Clone, PartialEq, Eq)]
 pub struct RawStore {
     /// The places. Boxed, so that a store passes from call to call without
     /// their bytes being copied.
     pub keys: Box<[u64; RawStore::LIMIT]>,
+    /// "one number for each place: the XOR of all keys up to and with that
+    /// place, and 0 in unused places" (document 02, slip 7), if the store is in
+    /// order.
+    pub sums: Box<[u64; RawStore::LIMIT]>,
     /// How many places are in use, if the store is in order.
     pub count: usize,
 }
@@ -26,15 +30,18 @@ impl RawStore {
     /// slip 6).
     pub const LIMIT: usize = 2_048;
 
-    /// "The empty store is" as many "zeros with count 0".
+    /// "The empty store is" as many "zeros with count 0". No place of it is in
+    /// use, so its sums are zeros as well.
     pub fn empty() -> RawStore {
         RawStore {
             keys: Box::new([0; RawStore::LIMIT]),
+            sums: Box::new([0; RawStore::LIMIT]),
             count: 0,
         }
     }
 
-    /// These keys as they stand, not sorted, in the first places, zeros after.
+    /// These keys as they stand, not sorted, in the first places, zeros after,
+    /// and their running sums: in order exactly when the keys rise strictly.
     ///
     /// # Panics
     /// If there are more keys than places.
@@ -42,6 +49,7 @@ impl RawStore {
         let mut store = RawStore::empty();
         store.keys[..keys.len()].copy_from_slice(keys);
         store.count = keys.len();
+        store.resum();
         store
     }
 
@@ -49,48 +57,100 @@ impl RawStore {
     pub fn held(&self) -> &[u64] {
         &self.keys[..self.count.min(RawStore::LIMIT)]
     }
+
+    /// The sums that are right beside these keys and this count, whether or not
+    /// the keys are in order: those of the keys held, zeros after (document 02,
+    /// slip 7).
+    pub fn right_sums(&self) -> Box<[u64; RawStore::LIMIT]> {
+        let mut sums = Box::new([0; RawStore::LIMIT]);
+        for (place, sum) in sums.iter_mut().zip(running_sums(self.held())) {
+            *place = sum;
+        }
+        sums
+    }
+
+    /// Makes the sums right for these keys and this count.
+    pub fn resum(&mut self) {
+        self.sums = self.right_sums();
+    }
+
+    /// The places whose sum isn't the right one, each with what is there.
+    fn wrong_sums(&self) -> Vec<(usize, u64)> {
+        let right = self.right_sums();
+        let sums = self.sums.iter().copied().enumerate();
+        sums.filter(|&(place, sum)| sum != right[place]).collect()
+    }
 }
 
 /// The places up to the last that is in use or isn't zero, since the zeros
-/// behind it tell a reader nothing.
+/// behind it tell a reader nothing. Of the sums those that aren't right, since
+/// the others follow from the keys.
 impl fmt::Debug for RawStore {
     fn fmt(&self, out: &mut fmt::Formatter<'_>) -> fmt::Result {
         let told = self.keys.iter().rposition(|&key| key != 0);
         let told = told.map_or(0, |last| last + 1).max(self.held().len());
-        out.debug_struct("RawStore")
+        let mut store = out.debug_struct("RawStore");
+        store
             .field("count", &self.count)
-            .field("keys", &&self.keys[..told])
-            .finish()
+            .field("keys", &&self.keys[..told]);
+        let wrong_sums = self.wrong_sums();
+        if !wrong_sums.is_empty() {
+            store.field("wrong_sums", &wrong_sums);
+        }
+        store.finish()
     }
 }
 
-/// A store in order: its keys and nothing else, rising strictly.
+/// For each of these keys in turn "the XOR of all keys up to and with that
+/// place" (document 02, slip 7).
+fn running_sums(keys: &[u64]) -> impl Iterator<Item = u64> {
+    keys.iter().scan(0, |sum, key| {
+        *sum ^= key;
+        Some(*sum)
+    })
+}
+
+/// A store in order: its keys, rising strictly, and as many running sums.
 #[derive(Clone, Debug)]
 pub(crate) struct Store {
     keys: Vec<u64>,
+    sums: Vec<u64>,
 }
 
 impl Store {
     /// The store of a raw one that question 1 was answered yes for.
     pub(crate) fn from_raw(raw: RawStore) -> Store {
-        let mut keys = (raw.keys as Box<[u64]>).into_vec();
         // The places cut off are zeros, so nothing is lost by this.
-        keys.truncate(raw.count);
-        Store { keys }
+        let in_use = |places: Box<[u64]>| {
+            let mut places = places.into_vec();
+            places.truncate(raw.count);
+            places
+        };
+        Store {
+            keys: in_use(raw.keys),
+            sums: in_use(raw.sums),
+        }
     }
 
-    /// Keys that rise strictly, no more of them than the limit.
+    /// Keys that rise strictly, no more of them than the limit, from where no
+    /// sums come with them: "reading works them out" (document 02, slip 7).
     pub(crate) fn from_keys(keys: Vec<u64>) -> Store {
         debug_assert!(questions::keys_in_order(&keys));
-        Store { keys }
+        // All the places there can be, so that nothing is moved when more come.
+        let mut sums = Vec::with_capacity(RawStore::LIMIT);
+        sums.extend(running_sums(&keys));
+        Store { keys, sums }
     }
 
     pub(crate) fn into_raw(self) -> RawStore {
         let count = self.keys.len();
-        let mut keys = self.keys;
-        keys.resize(RawStore::LIMIT, 0);
+        let all_places = |mut places: Vec<u64>| {
+            places.resize(RawStore::LIMIT, 0);
+            places.try_into().expect("resized to as many places")
+        };
         RawStore {
-            keys: keys.try_into().expect("resized to as many places"),
+            keys: all_places(self.keys),
+            sums: all_places(self.sums),
             count,
         }
     }
@@ -106,8 +166,20 @@ impl Store {
             Ok(at) => at,
             Err(at) => {
                 self.keys.insert(at, key);
+                self.sum_up(at, key);
                 at
             }
+        }
+    }
+
+    /// Brings the sums up to date with a key entered at this position: one more
+    /// there, and the key in all after it.
+    fn sum_up(&mut self, at: usize, key: u64) {
+        let before = at.checked_sub(1).map_or(0, |before| self.sums[before]);
+        self.sums.insert(at, before);
+        // None of these waits for another, so that several are done at once.
+        for sum in &mut self.sums[at..] {
+            *sum ^= key;
         }
     }
 
@@ -124,7 +196,7 @@ impl Store {
 
     /// The claim for positions first to last.
     pub(crate) fn claim(&self, first: usize, last: usize) -> Claim {
-        Claim::of_span(&self.keys[first..=last])
+        Claim::of_positions(&self.keys, &self.sums, first, last)
     }
 
     /// "whole claim (position 0 to the last; none if empty)"
@@ -250,7 +322,7 @@ pub fn make(store: &RawStore, first: usize, last: usize) -> Made {
     match questions::of_make(store, first, last) {
         Ok(()) => Made {
             number: 0,
-            claim: Claim::of_span(&store.keys[first..=last]),
+            claim: Claim::of_positions(&store.keys[..], &store.sums[..], first, last),
         },
         Err(number) => Made {
             number,

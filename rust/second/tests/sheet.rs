@@ -273,7 +273,9 @@ fn a_sheet_needs_its_own_length() {
 
 // ---- refusals ----
 
-/// Stores out of order: in a place not in use, in the count, in the keys.
+/// Stores out of order: in a place not in use, in the count, in the keys. The
+/// sums are those of the keys as they stand, but in two: in a place in use, in
+/// one not in use (document 02, slip 7).
 fn out_of_order() -> Vec<RawStore> {
     let mut unused = RawStore::of(&[1, 2]);
     unused.keys[LIMIT - 1] = 1;
@@ -287,7 +289,14 @@ fn out_of_order() -> Vec<RawStore> {
     zeros.count = 2;
     let descending = RawStore::of(&[2, 1]);
     let twice = RawStore::of(&[1, 1]);
-    vec![unused, fewer, more, most, zeros, descending, twice]
+    let mut bad = vec![unused, fewer, more, most, zeros, descending, twice];
+    bad.iter_mut().for_each(RawStore::resum);
+    for place in [1, 2] {
+        let mut sums = RawStore::of(&[1, 2]);
+        sums.sums[place] ^= 1;
+        bad.push(sums);
+    }
+    bad
 }
 
 /// 1, then 15.

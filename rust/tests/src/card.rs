@@ -10,8 +10,12 @@ use crate::left_out;
 use crate::middle::{self, ADDED};
 use crate::opening;
 use crate::sheet;
+use crate::sums;
 
 const LIMIT: usize = RawStore::LIMIT;
+
+/// The words of a store: its count, then its keys, then as many sums.
+const STORE: usize = 1 + 2 * LIMIT;
 
 const NUMBER: usize = 0;
 const COUNT: usize = 1;
@@ -20,11 +24,11 @@ const SECOND: usize = 3;
 const CLAIMS: usize = 4;
 const SENDER: usize = 8;
 const LEFT: usize = 20;
-const RIGHT: usize = LEFT + 1 + LIMIT;
+const RIGHT: usize = LEFT + STORE;
 const TABLE: usize = RIGHT + 1;
 pub const PAST_STORE: usize = RIGHT;
 pub const PAST_NODE: usize = TABLE + 4 * PENDING;
-pub const PAST_BOTH: usize = RIGHT + 1 + LIMIT;
+pub const PAST_BOTH: usize = RIGHT + STORE;
 
 /// The records that a round can fill: two for each key of the greatest union.
 pub const RECORDS: usize = 2 * LIMIT;
@@ -90,6 +94,30 @@ impl Case {
         assert!(!by_16_alone || self.number == 1, "such a node gets 1");
         self.on(left_out::NODE, by_16_alone)
     }
+
+    /// Remembers how sums are wrong, where nothing else given is out of order.
+    fn on_sums(mut self, ways: Vec<&'static str>) -> Case {
+        assert!(ways.is_empty() || self.number == 1, "1 where {ways:?}");
+        self.ways.extend(ways);
+        self
+    }
+
+    /// The reply to a call that is refused: "A refusal returns its number, the
+    /// given store or node, and zeros for any claim or count." What is lent
+    /// stays as it is.
+    pub fn refused_by(&self, number: u8) -> Card {
+        let mut card = self.given.clone();
+        card.answer(number, 0);
+        let told = match self.call {
+            Call::Make => CLAIMS..CLAIMS + 4,
+            Call::Reply => CLAIMS + 4..CLAIMS + 12,
+            Call::RoundRecord => CLAIMS..SENDER + 1,
+            Call::ReadFrame => CLAIMS..CLAIMS + 16,
+            _ => CLAIMS..CLAIMS,
+        };
+        card.words[told].fill(0);
+        card
+    }
 }
 
 fn words_of(claim: &Claim) -> [u64; 4] {
@@ -115,14 +143,21 @@ impl Card {
     }
 
     fn put_store(&mut self, at: usize, store: &RawStore) {
-        self.words[at] = store.count as u64;
-        self.words[at + 1..][..LIMIT].copy_from_slice(&store.keys[..]);
+        let (count, places) = self.words[at..at + STORE].split_at_mut(1);
+        let (keys, sums) = places.split_at_mut(LIMIT);
+        count[0] = store.count as u64;
+        keys.copy_from_slice(&store.keys[..]);
+        sums.copy_from_slice(&store.sums[..]);
     }
 
     fn store(&self, at: usize) -> RawStore {
-        let keys = self.words[at + 1..][..LIMIT].to_vec();
+        let places = |from: usize| {
+            let places = self.words[from..from + LIMIT].to_vec();
+            places.try_into().expect("as many places")
+        };
         RawStore {
-            keys: keys.try_into().expect("as many places"),
+            keys: places(at + 1),
+            sums: places(at + 1 + LIMIT),
             count: self.words[at] as usize,
         }
     }
@@ -211,12 +246,14 @@ pub fn enter_case(store: RawStore, key: u64, noise: Noise) -> Case {
     let mut given = Card::noise(RIGHT, 0, noise);
     given.words[FIRST] = key;
     given.put_store(LEFT, &store);
+    let sums = sums::ways(&store);
     case(Call::Enter, given, |card| {
         let entered = enter(store, key);
         card.answer(entered.number, 0);
         card.put_store(LEFT, &entered.store);
         entered.number
     })
+    .on_sums(sums)
 }
 
 pub fn make_case(store: &RawStore, first: usize, last: usize, noise: Noise) -> Case {
@@ -230,6 +267,7 @@ pub fn make_case(store: &RawStore, first: usize, last: usize, noise: Noise) -> C
         card.put_claim(CLAIMS, &made.claim);
         made.number
     })
+    .on_sums(sums::ways(store))
 }
 
 pub fn reply_case(store: RawStore, claim: Claim, noise: Noise) -> Case {
@@ -237,6 +275,7 @@ pub fn reply_case(store: RawStore, claim: Claim, noise: Noise) -> Case {
     given.put_claim(CLAIMS, &claim);
     given.put_store(LEFT, &store);
     let middle = middle::learn(&mut store.held().to_vec(), &claim);
+    let sums = sums::ways(&store);
     let mut kind = None;
     case(Call::Reply, given, |card| {
         let replied = reply(store, claim);
@@ -261,6 +300,7 @@ pub fn reply_case(store: RawStore, claim: Claim, noise: Noise) -> Case {
     .on("one", matches!(kind, Some(Reply::One(_))))
     .on("two", matches!(kind, Some(Reply::Two(..))))
     .on_hearing(middle)
+    .on_sums(sums)
 }
 
 pub fn judge_case(claim: Claim, noise: Noise) -> Case {
@@ -282,6 +322,7 @@ pub fn take_case(node: RawNode, claim: Claim, noise: Noise) -> Case {
     let middle = middle::learn(&mut node.store.held().to_vec(), &claim);
     let added = middle.iter().any(|way| ADDED.contains(way));
     let by_16_alone = left_out::is_node_by_16_alone(&node);
+    let sums = sums::ways_of_node(&node);
     let mut kept = false;
     let case = case(Call::Take, given, |card| {
         let taken = take(node, claim);
@@ -298,6 +339,7 @@ pub fn take_case(node: RawNode, claim: Claim, noise: Noise) -> Case {
         .on("a dropped one's middle key added", taken && !kept && added)
         .on_hearing(middle)
         .on_node(by_16_alone)
+        .on_sums(sums)
 }
 
 /// `lent` words are lent, and some that are not come after them.
@@ -308,6 +350,7 @@ pub fn beat_case(node: RawNode, lent: usize, noise: Noise) -> Case {
     let pending = node.pending_count;
     let threes = middle::ways_of_beat(&node);
     let by_16_alone = left_out::is_node_by_16_alone(&node);
+    let sums = sums::ways_of_node(&node);
     let mut rest = (0, 0);
     let case = case(Call::Beat, given, |card| {
         let end = PAST_NODE + lent;
@@ -325,6 +368,7 @@ pub fn beat_case(node: RawNode, lent: usize, noise: Noise) -> Case {
         .on("a full table", beaten && pending == PENDING)
         .on_all(threes)
         .on_node(by_16_alone)
+        .on_sums(sums)
 }
 
 /// As a round on deliveries writes them to flat words, five to a record.
@@ -334,6 +378,7 @@ pub fn round_case(left: RawStore, right: RawStore, lent: usize, noise: Noise) ->
     given.put_store(LEFT, &left);
     given.put_store(RIGHT, &right);
     let mut keys = [&left, &right].map(|store| store.held().to_vec());
+    let sums = sums::ways_of_round([&left, &right]);
     let mut threes = Vec::new();
     let mut told = (0, 0, false);
     let case = case(Call::Round, given, |card| {
@@ -363,6 +408,7 @@ pub fn round_case(left: RawStore, right: RawStore, lent: usize, noise: Noise) ->
         .on("met", run && met)
         .on("not met yet", run && !met)
         .on_all(threes)
+        .on_sums(sums)
 }
 
 /// A round over records of zeros, as many as a round can fill, and the one at
@@ -376,6 +422,7 @@ pub fn record_case(
     let mut given = Card::noise(PAST_BOTH, 0, noise);
     given.put_store(LEFT, &left);
     given.put_store(RIGHT, &right);
+    let sums = sums::ways_of_round([&left, &right]);
     let mut records = vec![Delivery::default(); RECORDS];
     let met = round(left, right, &mut records);
     let deliveries = met.deliveries;
@@ -398,6 +445,7 @@ pub fn record_case(
         .on("the last of many", many && at == last)
         .on("just past the deliveries", run && at == deliveries)
         .on("past the records", run && at >= RECORDS)
+        .on_sums(sums)
 }
 
 /// The first `lent` of some bytes as a frame.
@@ -466,6 +514,7 @@ pub fn write_image_case(node: &RawNode, lent: usize, noise: Noise) -> Case {
         written.number
     })
     .on_node(left_out::is_node_by_16_alone(node))
+    .on_sums(sums::ways_of_node(node))
 }
 
 /// The sheet of a store to the first `lent` of a buffer, which goes on behind
@@ -479,7 +528,8 @@ pub fn write_sheet_case(store: &RawStore, lent: usize, noise: Noise) -> Case {
         let written = write_sheet(store, &mut card.bytes[..lent]);
         card.answer(written.number, written.length);
         written.number
-    });
+    })
+    .on_sums(sums::ways(store));
     let (text, rest) = case.expected.bytes.split_at(case.expected.count());
     assert!(case.given.bytes.ends_with(rest), "the rest stays");
     if case.number == 1 {
@@ -525,7 +575,9 @@ pub fn ordered_case(node: &RawNode, noise: Noise) -> Case {
     given.put_node(node);
     let yes = questions::q1_node_in_order(node);
     let by_16_alone = left_out::is_node_by_16_alone(node);
-    assert!(!by_16_alone || !yes, "such a node is out of order");
+    let sums = sums::ways_of_node(node);
+    let broken = by_16_alone || !sums.is_empty();
+    assert!(!broken || !yes, "such a node is out of order");
     case(Call::Ordered, given, |card| {
         card.answer(0, usize::from(yes));
         0
@@ -533,6 +585,7 @@ pub fn ordered_case(node: &RawNode, noise: Noise) -> Case {
     .on("in order", yes)
     .on("out of order", !yes)
     .on(left_out::NODE, by_16_alone)
+    .on_all(sums)
 }
 
 pub fn empty_case(noise: Noise) -> Case {

@@ -136,8 +136,22 @@ impl Rng {
         store
     }
 
-    /// Breaks the order of a store in one of many ways; seldom it holds.
+    /// Breaks the order of a store in one of many ways; seldom it holds. Nearly
+    /// as often as the keys or the count only the sums are wrong. Where the keys
+    /// or the count are, the sums are mostly those of the keys as they stand.
     pub fn bend_store(&mut self, store: &mut RawStore, density: Density) {
+        if self.below(16) < 7 {
+            self.bend_sums(store);
+            return;
+        }
+        self.bend_keys(store, density);
+        if !self.one_in(4) {
+            store.resum();
+        }
+    }
+
+    /// Makes the keys or the count of a store others than they are.
+    fn bend_keys(&mut self, store: &mut RawStore, density: Density) {
         let count = store.count.min(LIMIT);
         let held = count.max(1);
         match self.below(9) {
@@ -330,7 +344,7 @@ impl Rng {
         let held = count.max(1);
         let at = self.below(held);
         let density = self.density();
-        match self.below(14) {
+        match self.below(18) {
             0 => self.bend_store(&mut node.store, density),
             1 => node.pending_count = count.wrapping_sub(1),
             2 => node.pending_count = node.pending_count.wrapping_add(1),
@@ -354,7 +368,8 @@ impl Rng {
             // An end isn't held.
             8 => node.pending[at].hi = self.key(density),
             9 => node.pending[at].lo = self.key(density),
-            10..=12 => self.make_faulty(node),
+            10..=13 => self.make_faulty(node),
+            14..=16 => self.bend_sums(&mut node.store),
             _ => node.pending[self.below(PENDING)] = Claim::new(self.next(), self.next(), 1, 3),
         }
     }

@@ -9,6 +9,7 @@ use second::{RawStore, SHEET_MOST};
 
 use crate::draw::{Density, Rng};
 use crate::drill::MOST_BYTES;
+use crate::sums;
 
 /// "lines of exactly 62 characters and a line feed"
 pub const WIDTH: usize = 62;
@@ -144,8 +145,9 @@ pub const TOO_MANY: &str = "1, the count is too high";
 pub const EQUAL: &str = "1, two keys are equal";
 pub const FALLING: &str = "1, keys fall";
 pub const PAST: &str = "1, something past the count";
+pub const SUMS: &str = "1, the sums are wrong";
 
-pub const OUT_OF_ORDER: [&str; 4] = [TOO_MANY, EQUAL, FALLING, PAST];
+pub const OUT_OF_ORDER: [&str; 5] = [TOO_MANY, EQUAL, FALLING, PAST, SUMS];
 
 /// A store is out of order, and what is lent is too short as well.
 pub const BEFORE_15: &str = "1 before 15";
@@ -208,6 +210,7 @@ pub fn way_out_of_order(store: &RawStore) -> Option<&'static str> {
         (EQUAL, held.windows(2).any(|two| two[0] == two[1])),
         (FALLING, held.windows(2).any(|two| two[0] > two[1])),
         (PAST, past.iter().any(|&place| place != 0)),
+        (SUMS, !sums::are_right(store)),
     ];
     let mut reasons = reasons.into_iter().filter(|(_, holds)| *holds);
     match (reasons.next(), reasons.next()) {

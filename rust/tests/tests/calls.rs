@@ -9,6 +9,7 @@ use tests::draw::{Density, Rng, frame_of, image_of};
 use tests::drill::{Call, Card, Drill, MOST_BYTES, MOST_WORDS, request_bytes};
 use tests::left_out;
 use tests::middle::{self, OUTCOMES, REFUSED};
+use tests::sums;
 
 const LIMIT: usize = RawStore::LIMIT;
 
@@ -18,8 +19,12 @@ const OFTEN: usize = 100;
 /// How often each way that a middle key goes must have been: there are many.
 const OFTEN_EACH: usize = 30;
 
-fn run(cases: u64, numbers: &[u8], ways: &[&str], draw: impl Fn(&mut Rng) -> Case) {
-    run_each(&[], cases, numbers, ways, draw);
+/// How often sums must have been wrong in each way: there are many, and in few
+/// stores.
+const OFTEN_WRONG: usize = 5;
+
+fn run(cases: u64, numbers: &[u8], ways: &[&str], draw: impl Fn(&mut Rng) -> Case) -> Seen {
+    run_each(&[], cases, numbers, ways, draw)
 }
 
 /// Runs cases that go each of some more ways, if not as often.
@@ -29,11 +34,21 @@ fn run_each(
     numbers: &[u8],
     ways: &[&str],
     draw: impl Fn(&mut Rng) -> Case,
-) {
-    let seen: Seen = compare(cases, draw);
+) -> Seen {
+    let seen = compare(cases, draw);
     if !one_seed() {
         seen.expect(numbers, ways, OFTEN);
         seen.expect_ways(each, OFTEN_EACH);
+    }
+    seen
+}
+
+/// Fails unless stores were seen whose sums alone are out of order, in each way
+/// that they can be (document 02, slip 7).
+fn expect_wrong_sums(seen: &Seen) {
+    if !one_seed() {
+        seen.expect_ways(&[sums::ALONE], OFTEN);
+        seen.expect_ways(&sums::KINDS, OFTEN_WRONG);
     }
 }
 
@@ -45,7 +60,7 @@ fn noise(rng: &mut Rng) -> impl FnMut() -> u64 + use<> {
 
 #[test]
 fn enters() {
-    run(4_000, &[0, 1, 6], &["held already"], |rng| {
+    let seen = run(4_000, &[0, 1, 6], &["held already"], |rng| {
         let density = rng.density();
         let store = rng.store(density);
         let (store, key) = match rng.below(6) {
@@ -65,11 +80,12 @@ fn enters() {
         let entered = case.number == 0;
         case.on("held already", held && entered)
     });
+    expect_wrong_sums(&seen);
 }
 
 #[test]
 fn makes() {
-    run(4_000, &[0, 1, 7], &["one key", "all keys"], |rng| {
+    let seen = run(4_000, &[0, 1, 7], &["one key", "all keys"], |rng| {
         let density = rng.density();
         let store = rng.store(density);
         let count = store.held().len();
@@ -91,6 +107,7 @@ fn makes() {
             made && first == 0 && last + 1 == count && count > 2,
         )
     });
+    expect_wrong_sums(&seen);
 }
 
 #[test]
@@ -104,7 +121,8 @@ fn replies() {
     ];
     let mut each = [OUTCOMES.concat(), REFUSED.concat()].concat();
     each.extend([middle::LAST_PLACE, middle::BEFORE_6]);
-    run_each(&each, 13_000, &[0, 1, 2, 3, 4, 5, 6, 16], &ways, |rng| {
+    let numbers = [0, 1, 2, 3, 4, 5, 6, 16];
+    let seen = run_each(&each, 13_000, &numbers, &ways, |rng| {
         if rng.one_in(4) {
             let (keys, claim) = rng.three();
             return reply_case(RawStore::of(&keys), claim, &mut noise(rng));
@@ -124,6 +142,7 @@ fn replies() {
         }
         reply_case(store, claim, &mut noise(rng))
     });
+    expect_wrong_sums(&seen);
 }
 
 #[test]
@@ -154,7 +173,8 @@ fn takes() {
         middle::BEFORE_6,
         left_out::NODE,
     ]);
-    run_each(&each, 11_000, &[0, 1, 2, 3, 4, 5, 6, 16], &ways, |rng| {
+    let numbers = [0, 1, 2, 3, 4, 5, 6, 16];
+    let seen = run_each(&each, 11_000, &numbers, &ways, |rng| {
         if rng.one_in(4) {
             return take_of_three(rng);
         }
@@ -167,6 +187,7 @@ fn takes() {
         let claim = claim_for_table(rng, &node, density);
         take_case(node, claim, &mut noise(rng))
     });
+    expect_wrong_sums(&seen);
 }
 
 /// A claim for a node: pending, beside those that are, refused, or any.
@@ -230,7 +251,7 @@ fn beats() {
         middle::HELPED,
         left_out::NODE,
     ];
-    run(6_000, &[0, 1, 15], &ways, |rng| {
+    let seen = run(6_000, &[0, 1, 15], &ways, |rng| {
         let node = rng.node();
         let lent = match rng.below(8) {
             0 => rng.below(4 * 129),
@@ -240,6 +261,7 @@ fn beats() {
         };
         beat_case(node, lent, &mut noise(rng))
     });
+    expect_wrong_sums(&seen);
 }
 
 /// The keys of two stores for a round, alike and nearly full more often than
@@ -266,13 +288,15 @@ fn pair_for_round(rng: &mut Rng) -> (Vec<u64>, Vec<u64>) {
     (left, right)
 }
 
-/// Their stores, once in eight out of order.
+/// Their stores, once in eight out of order: the left one, the right one, or
+/// both.
 fn stores_for_round(rng: &mut Rng, left: &[u64], right: &[u64]) -> [RawStore; 2] {
     let mut stores = [RawStore::of(left), RawStore::of(right)];
     if rng.one_in(8) {
         let density = rng.density();
-        let at = rng.below(2);
-        rng.bend_store(&mut stores[at], density);
+        for &at in rng.pick(&[&[0][..], &[1], &[0, 1], &[0, 1]]) {
+            rng.bend_store(&mut stores[at], density);
+        }
     }
     stores
 }
@@ -289,8 +313,9 @@ fn rounds() {
         "two full stores alike",
     ];
     // What is claimed in a round is true of its sender: no other outcome.
-    let each = [middle::ADDED, middle::OTHERS].concat();
-    run_each(&each, 7_000, &[0, 1, 8, 9], &ways, |rng| {
+    let mut each = [middle::ADDED, middle::OTHERS].concat();
+    each.extend(sums::SIDES);
+    let seen = run_each(&each, 7_000, &[0, 1, 8, 9], &ways, |rng| {
         let (left, right) = pair_for_round(rng);
         let union = questions::union_count(&left, &right);
         let full = left.len() == LIMIT && left == right;
@@ -313,6 +338,7 @@ fn rounds() {
         )
         .on("two full stores alike", run && full)
     });
+    expect_wrong_sums(&seen);
 }
 
 /// `rounds::round_record`, which lends records to `rounds::round` and reads one
@@ -326,7 +352,7 @@ fn rounds_round_record() {
         "just past the deliveries",
         "past the records",
     ];
-    run(4_000, &[0, 1, 8], &ways, |rng| {
+    let seen = run_each(&sums::SIDES, 4_000, &[0, 1, 8], &ways, |rng| {
         let (left, right) = pair_for_round(rng);
         let [left, right] = stores_for_round(rng, &left, &right);
         let mut noise = noise(rng);
@@ -339,6 +365,7 @@ fn rounds_round_record() {
         };
         record_case(left, right, at, &mut noise)
     });
+    expect_wrong_sums(&seen);
 }
 
 /// `rounds::round_record` at every place of a round of few keys, and at the
@@ -480,7 +507,7 @@ fn reads_images_of_too_many() {
 #[test]
 fn writes_images() {
     let ways = ["exactly enough", left_out::NODE];
-    run(6_000, &[0, 1, 15], &ways, |rng| {
+    let seen = run(6_000, &[0, 1, 15], &ways, |rng| {
         let node = rng.node();
         let need = 4 + 8 * node.store.held().len() + 26 * node.table().len();
         let lent = match rng.below(8) {
@@ -494,6 +521,7 @@ fn writes_images() {
         let written = case.number == 0;
         case.on("exactly enough", written && lent == need)
     });
+    expect_wrong_sums(&seen);
 }
 
 #[test]
@@ -517,13 +545,14 @@ fn tells_lengths_of_images() {
 #[test]
 fn tells_order() {
     let ways = ["in order", "out of order", left_out::NODE];
-    run(6_000, &[0], &ways, |rng| {
+    let seen = run(6_000, &[0], &ways, |rng| {
         let mut node = rng.node_in_order();
         for _ in 0..rng.pick(&[0, 1, 1, 1, 2]) {
             rng.bend_node(&mut node);
         }
         ordered_case(&node, &mut noise(rng))
     });
+    expect_wrong_sums(&seen);
 }
 
 #[test]

@@ -18,6 +18,7 @@ use tests::cases::{for_seeds, one_seed};
 use tests::draw::{Density, Rng};
 use tests::drill::{Card, Drill};
 use tests::middle::{ADDED, ASKED_FULL, HELPED, LAST_PLACE, MATCHED, NO_SPACE, OTHERS};
+use tests::sums;
 
 const LIMIT: usize = RawStore::LIMIT;
 
@@ -241,6 +242,7 @@ impl World {
             let keys = &kiosk.store.keys[..kiosk.store.count];
             assert!(keys.windows(2).all(|two| two[0] < two[1]), "a store rises");
             assert!(questions::q1_node_in_order(kiosk), "a node is in order");
+            assert!(sums::are_right(&kiosk.store), "its sums are right");
             held.extend(keys.iter().copied());
         }
         assert_eq!(held, self.entered, "held exactly when entered");

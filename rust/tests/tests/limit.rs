@@ -60,6 +60,7 @@ fn stores_hold_so_many_keys() {
     for (count, number) in [(LIMIT - 1, 1), (LIMIT, 0), (LIMIT + 1, 1)] {
         let mut given = store(LIMIT);
         given.count = count;
+        given.resum();
         let case = enter_case(given, 4, &mut noise);
         expect(&mut drill, case, number, &format!("a count of {count}"));
     }

@@ -21,6 +21,7 @@ use tests::left_out;
 use tests::middle::three;
 use tests::program::printed_for;
 use tests::sheet::*;
+use tests::sums;
 
 const LIMIT: usize = RawStore::LIMIT;
 
@@ -274,6 +275,7 @@ fn sheets_of_any_store() {
         seen.expect_ways(&DIGITS, OFTEN);
         seen.expect_ways(&OUT_OF_ORDER, OFTEN);
         seen.expect_ways(&[BEFORE_15], OFTEN);
+        seen.expect_ways(&sums::KINDS, OFTEN / 4);
     }
 }
 
@@ -321,7 +323,21 @@ fn with_something_past(count: usize) -> Vec<RawStore> {
     (count.max(1)..LIMIT).map(with).collect()
 }
 
-/// All of them, and stores whose count is one off.
+/// A bit of one sum wrong, for places in use and others: the first ones, those
+/// around the count, the last.
+fn with_a_wrong_sum(count: usize) -> Vec<RawStore> {
+    let store = RawStore::of(&keys_drawn(count));
+    let places = [0, 1, count.saturating_sub(1), count, count + 1, LIMIT - 1];
+    let with = |at: usize| {
+        let mut store = store.clone();
+        store.sums[at] ^= 1 << (at % 64);
+        store
+    };
+    places.map(|at| with(at.min(LIMIT - 1))).to_vec()
+}
+
+/// All of them, and stores whose count is one off. Where the keys or the count
+/// are wrong, the sums are those of the keys as they stand.
 fn out_of_order() -> Vec<RawStore> {
     let mut stores = counted_too_high();
     stores.extend(not_rising(LINE_KEYS, 1));
@@ -338,6 +354,8 @@ fn out_of_order() -> Vec<RawStore> {
             ..store.clone()
         }));
     }
+    stores.iter_mut().for_each(RawStore::resum);
+    stores.extend(COUNTS.into_iter().flat_map(with_a_wrong_sum));
     stores
 }
 

@@ -11,11 +11,13 @@ fn the_limit() {
     assert_eq!(LIMIT, 2_048);
 }
 
-/// "The empty store is" as many "zeros with count 0".
+/// "The empty store is" as many "zeros with count 0", and its running sums are
+/// "0 in unused places" (document 02, slip 7).
 #[test]
 fn the_empty_store_is_zeros_with_count_0() {
     let empty = RawStore::empty();
     assert_eq!((empty.count, empty.keys.as_slice()), (0, &[0; LIMIT][..]));
+    assert_eq!(empty.sums.as_slice(), &[0; LIMIT]);
     assert!(questions::q1_store_in_order(&empty));
 }
 
@@ -30,7 +32,8 @@ fn a_key_is_any_64_bit_number() {
     assert_eq!(store, RawStore::of(&[0, 5, 6, 7, MAX]));
 }
 
-/// Stores out of order, each by one thing.
+/// Stores out of order, each by one thing, a key or the count: the sums are
+/// those of the keys as they stand. Wrong sums are in `tests/sums`.
 fn out_of_order() -> Vec<RawStore> {
     let good = RawStore::of(&[0, 3, 8]);
     let mut bad = vec![
@@ -67,6 +70,7 @@ fn out_of_order() -> Vec<RawStore> {
     let mut store = full(1);
     store.count = LIMIT - 1;
     bad.push(store);
+    bad.iter_mut().for_each(RawStore::resum);
     bad
 }
 

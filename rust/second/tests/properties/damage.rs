@@ -177,7 +177,8 @@ fn any_bytes_are_answered() {
     });
 }
 
-/// Puts a count, a key or a claim anywhere in a node, or nothing.
+/// Puts a count, a key or a claim anywhere in a node, or nothing. The sums are
+/// then those of the keys as they stand, or one of them is put there.
 fn bend(node: &mut RawNode, density: usize, rng: &mut Rng) {
     for _ in 0..rng.below(3) {
         match rng.below(6) {
@@ -189,6 +190,10 @@ fn bend(node: &mut RawNode, density: usize, rng: &mut Rng) {
             _ => node.pending[rng.below(64)] = rng.claim(&[], density),
         }
     }
+    node.store.resum();
+    if rng.one_in(6) {
+        node.store.sums[rng.below(LIMIT)] = rng.key(density);
+    }
 }
 
 /// A store of any content is entered into, made a claim of and replied by.
@@ -198,6 +203,10 @@ fn store_is_answered(store: &RawStore, density: usize, rng: &mut Rng, ways: &Way
     assert_eq!(entered.number, number(questions::of_enter(store, key)));
     assert!(entered.number == 0 || entered.store == *store);
     ways.saw(format!("enter {}", entered.number));
+    if store.sums != store.right_sums() {
+        assert_eq!(entered.number, 1);
+        ways.saw("sums wrong");
+    }
     let last = rng.below(20);
     let made = make(store, 0, last);
     assert_eq!(made.number, number(questions::of_make(store, 0, last)));
@@ -243,6 +252,6 @@ fn stores_and_nodes_of_any_content_are_answered() {
         store_is_answered(&node.store, density, rng, &ways);
         node_is_answered(&node, density, rng);
     });
-    ways.all_of(&["enter 0", "enter 1", "enter 6"]);
+    ways.all_of(&["enter 0", "enter 1", "enter 6", "sums wrong"]);
     ways.all_of(&["round 0", "round 1", "round 8"]);
 }

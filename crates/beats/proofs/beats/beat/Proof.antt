@@ -1,19 +1,17 @@
 -- `beats::beats::beat` meets its contract. Assumes nothing.
-use mathlib.Core.Path.{_≡_}
 use borrow.Author.Needs.{needs}
-use lib.ListN.{length}
-use Rattle.keys.specs.Store.{limit}
+use Rattle.keys.specs.Store.{Sized}
 use Rattle.beats.proofs.BeatsPaths.{beat-1, beat-ordered}
 use Rattle.beats.proofs.beats.beat.Statement.{statement}
 use Rattle.beats.proofs.beats.beat.Tie as tie
 
 -- where the node was found in order
 abbrev tested : tie.After-beat-in → tie.Else1
-tested c = c .before .before .before .before .before .before
+tested c = c .before .before .before .before .before .before .before .before
 
 -- its store has all its places
-long : (s : tie.Start) → length (s .args .node .store .keys) ≡ limit
-long s = search needs
+sized : (s : tie.Start) → Sized (s .args .node .store)
+sized s = search needs
 
 ordered-requires : tie.Need-ordered-requires
 ordered-requires c κs = search needs
@@ -31,7 +29,7 @@ returns-2 : tie.Need-returns-2
 returns-2 c =
     let beat = c .before .before .before in
     let test = tested beat in
-    beat-ordered _ _ (test .before .ordered .ensures) (test .if1 .left) (long (test .before .before .before)) (beat .beat-in .ensures)
+    beat-ordered _ _ (test .before .ordered .ensures) (test .if1 .left) (sized (test .before .before .before)) (beat .beat-in .ensures)
 
 pub beat-spec : {M : Type 1} → statement M
 beat-spec = tie.close (tie.spec ordered-requires returns beat-in-requires same-length returns-2)

@@ -1,17 +1,17 @@
 -- `beats::beats::serve_table` meets its contract. The invariant: what is left of the table computes what comes out. Assumes nothing.
 use borrow.Author.Needs.{needs}
 use Prim.Native.Nat.{_-_}
-use Rattle.keys.specs.Lent.{storeWith}
+use Rattle.keys.specs.Lent.{storeBy}
 use Rattle.rule.specs.Node.{blanks}
 use Rattle.beats.proofs.BeatsPaths.{Left, left-all, left-stays, left-leaves, left-none}
 use Rattle.beats.proofs.beats.serve_table.Statement.{statement}
 use Rattle.beats.proofs.beats.serve_table.Tie as tie
 
 abbrev Inv-loop : tie.InvT-loop
-Inv-loop keys count pending lent₀ at table kept₀ n₀ written₀ i₀ lent kept n written i = Left (storeWith keys count) table pending at lent₀ i written lent n kept
+Inv-loop keys sums count pending lent₀ at table kept₀ n₀ written₀ i₀ lent kept n written i = Left (storeBy keys sums count) table pending at lent₀ i written lent n kept
 
 abbrev μ-loop : tie.MeasureT-loop
-μ-loop keys count pending lent₀ at table kept₀ n₀ written₀ i₀ lent kept n written i = pending - i
+μ-loop keys sums count pending lent₀ at table kept₀ n₀ written₀ i₀ lent kept n written i = pending - i
 
 loop-holds : tie.Need-loop-holds Inv-loop μ-loop
 unfolding blanks

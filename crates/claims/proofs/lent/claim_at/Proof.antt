@@ -1,46 +1,46 @@
 -- `claims::lent::claim_at` meets its contract. Assumes nothing.
-use mathlib.Core.Path.{_∙_}
 use borrow.Author.Needs.{needs}
-use denote.Ref.{now}
-use Rattle.claims.proofs.LentPaths.{part-span}
+use Rattle.claims.proofs.LentPaths.{claim-summed}
 use Rattle.claims.proofs.lent.claim_at.Statement.{statement}
 use Rattle.claims.proofs.lent.claim_at.Tie as tie
 
-add-end : tie.Need-add-end
-add-end c = search needs
+mul-lo : tie.Need-mul-lo
+mul-lo c = search needs
 
-mul-xor-all : tie.Need-mul-xor-all
-mul-xor-all c = search needs
+shared-slice-read-lo : tie.Need-shared-slice-read-lo
+shared-slice-read-lo c = search needs
 
-sub-xor-all : tie.Need-sub-xor-all
-sub-xor-all c = search needs
+mul-hi : tie.Need-mul-hi
+mul-hi c = search needs
 
-part-xor-all-start : tie.Need-part-xor-all-start
-part-xor-all-start c = search needs
+shared-slice-read-hi : tie.Need-shared-slice-read-hi
+shared-slice-read-hi c = search needs
 
-part-xor-all-end : tie.Need-part-xor-all-end
-part-xor-all-end c = search needs
+span-sum-requires : tie.Need-span-sum-requires
+span-sum-requires c κs = search needs
 
-xor-all-requires : tie.Need-xor-all-requires
-xor-all-requires c κs = search needs
+sub-cnt : tie.Need-sub-cnt
+sub-cnt c = search needs
 
-claim-with-requires : tie.Need-claim-with-requires
-claim-with-requires c κs =
-    let s = c .before .before .before in
-    (s .pre, c .xor-all .ensures ∙ part-span (now (s .args .keys)) (s .args .first) (s .args .last) (s .pre .rise))
+add-cnt : tie.Need-add-cnt
+add-cnt c = search needs
+
+cast-cnt : tie.Need-cast-cnt
+cast-cnt c = search needs
 
 returns : tie.Need-returns
-returns c = c .claim-with .ensures
+returns c = search claim-summed
 
 pub claim-at-spec : {M : Type 1} → statement M
 claim-at-spec =
     tie.close
     (tie.spec
-    add-end
-    mul-xor-all
-    sub-xor-all
-    part-xor-all-start
-    part-xor-all-end
-    xor-all-requires
-    claim-with-requires
+    mul-lo
+    shared-slice-read-lo
+    mul-hi
+    shared-slice-read-hi
+    span-sum-requires
+    sub-cnt
+    add-cnt
+    cast-cnt
     returns)

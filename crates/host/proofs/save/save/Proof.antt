@@ -1,6 +1,7 @@
 -- `save::save` meets its contract: one law for each way. Assumes nothing.
 use borrow.Author.Needs.{needs}
 use Rattle.rule.proofs.NodeLaws.{length-mapped}
+use Rattle.keys.proofs.LentLaws.{sized-storeWith}
 use Rattle.wire.specs.Image.{Shaped}
 use Rattle.host.specs.Known.{nodeHeld}
 use Rattle.host.proofs.SavePaths.{written-most, saved-refused, saved-15, saved-0}
@@ -15,7 +16,7 @@ abbrev asked : tie.After-write-image-in → tie.Else1
 asked w = w .before .before .before .before
 
 shaped : (e : tie.Else1) → Shaped (nodeHeld (given e .args .keys .now) (given e .args .node))
-shaped e = record { keys = given e .pre .long; pending = search length-mapped }
+shaped e = record { store = sized-storeWith _ _ (given e .pre .long); pending = search length-mapped }
 
 minus-requires : tie.Need-minus-requires
 minus-requires c κs = search needs

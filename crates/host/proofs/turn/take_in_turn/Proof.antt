@@ -7,6 +7,7 @@ use mathlib.Core.Path.{_≡_, refl, sym, _∙_}
 use borrow.Author.Needs.{needs}
 use lib.ListN.{length, take, drop}
 use lib.Seq.{getD-take, length-take-le}
+use Rattle.keys.proofs.LentLaws.{sized-storeWith}
 use Rattle.claims.specs.declared.claim.Claim.{Claim}
 use Rattle.claims.specs.Claim.{noClaim}
 use Rattle.rule.specs.declared.node.Node.{Node}
@@ -63,7 +64,7 @@ places-next : (c : tie.After-struct-known Inv-loop μ-loop) → length (c .befor
 places-next c = search length-mapped
 
 loop-holds : tie.Need-loop-holds Inv-loop μ-loop
-loop-holds c = (search needs, record { keys = c .pre .long; pending = search length-mapped }, c .pre .ordered, refl, refl)
+loop-holds c = (search needs, record { store = sized-storeWith _ _ (c .pre .long); pending = search length-mapped }, c .pre .ordered, refl, refl)
 
 mul-take-in : tie.Need-mul-take-in Inv-loop μ-loop
 mul-take-in c = search needs
@@ -91,7 +92,7 @@ loop-again c =
     let t = turn (c .before .before) in
     let before = tested (c .before .before) .before .loop .inv in (
       search needs,
-      record { keys = turn-long t; pending = places-next (c .before) },
+      record { store = sized-storeWith _ _ (turn-long t); pending = places-next (c .before) },
       turn-ordered t,
       before .3 ∙ turn-done t (c .if1 .left),
       c .if1 .left,
@@ -102,7 +103,7 @@ returns-2 c =
     let l = c .before in
     let (h, shaped, ordered, until, none) = l .loop .inv in
     let past : length (given (l .before)) ≤ l .loop .i = rw (counted (l .before)) (omega arith) in
-    record { taken = sym (until ∙ takenUntil-end (takenWith (l .loop .keys) (l .loop .taken)) (given (l .before)) _ past none); long = shaped .keys }
+    record { taken = sym (until ∙ takenUntil-end (takenWith (l .loop .keys) (l .loop .taken)) (given (l .before)) _ past none); long = shaped .store .keys }
 
 pub take-in-turn-spec : {M : Type 1} → statement M
 take-in-turn-spec =

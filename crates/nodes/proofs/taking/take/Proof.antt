@@ -14,8 +14,12 @@ returns c = search taken-1
 take-in-requires : tie.Need-take-in-requires
 take-in-requires c κs = search needs
 
+renewed-requires : tie.Need-renewed-requires
+renewed-requires c κs = search needs
+
 returns-2 : tie.Need-returns-2
-returns-2 c = search (taken-in, length-mapped)
+returns-2 c = search (needs, taken-in, length-mapped)
 
 pub take-spec : {M : Type 1} → statement M
-take-spec = tie.close (tie.spec ordered-requires returns take-in-requires returns-2)
+take-spec =
+    tie.close (tie.spec ordered-requires returns take-in-requires renewed-requires returns-2)

@@ -4,8 +4,8 @@ use Rattle.sheet.proofs.CallPaths.{unordered-told, unordered-lent, held
 use Rattle.sheet.proofs.call.write_sheet.Statement.{statement}
 use Rattle.sheet.proofs.call.write_sheet.Tie as tie
 
-ordered-in-requires : tie.Need-ordered-in-requires
-ordered-in-requires c κs = search needs
+summed-in-requires : tie.Need-summed-in-requires
+summed-in-requires c κs = search needs
 
 returns : tie.Need-returns
 returns c = search (unordered-told, unordered-lent)
@@ -26,7 +26,7 @@ pub write-sheet-spec : {M : Type 1} → statement M
 write-sheet-spec =
     tie.close
     (tie.spec
-    ordered-in-requires
+    summed-in-requires
     returns
     slice-aggregate-write-sheet-in
     write-sheet-in-requires

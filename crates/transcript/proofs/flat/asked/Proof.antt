@@ -4,14 +4,14 @@ use Rattle.transcript.proofs.FlatPaths.{found-long, found-rising, found
 use Rattle.transcript.proofs.flat.asked.Statement.{statement}
 use Rattle.transcript.proofs.flat.asked.Tie as tie
 
-ordered-in-requires : tie.Need-ordered-in-requires
-ordered-in-requires c κs = search needs
+summed-in-requires : tie.Need-summed-in-requires
+summed-in-requires c κs = search needs
 
 returns : tie.Need-returns
 returns c = search asked-left
 
-ordered-in-requires-2 : tie.Need-ordered-in-requires-2
-ordered-in-requires-2 c κs = search needs
+summed-in-requires-2 : tie.Need-summed-in-requires-2
+summed-in-requires-2 c κs = search needs
 
 returns-2 : tie.Need-returns-2
 returns-2 c = search asked-right
@@ -41,9 +41,9 @@ pub asked-spec : {M : Type 1} → statement M
 asked-spec =
     tie.close
     (tie.spec
-    ordered-in-requires
+    summed-in-requires
     returns
-    ordered-in-requires-2
+    summed-in-requires-2
     returns-2
     slice-aggregate-union-count
     slice-aggregate-union-count-2

@@ -4,8 +4,8 @@ use Rattle.transcript.proofs.FlatPaths.{step-right, step-left}
 use Rattle.transcript.proofs.flat.deliver.Statement.{statement}
 use Rattle.transcript.proofs.flat.deliver.Tie as tie
 
-mul-at : tie.Need-mul-at
-mul-at c = search needs
+mul-place : tie.Need-mul-place
+mul-place c = search needs
 
 mul-sender : tie.Need-mul-sender
 mul-sender c = search needs
@@ -47,7 +47,7 @@ pub deliver-spec : {M : Type 1} → statement M
 deliver-spec =
     tie.close
     (tie.spec
-    mul-at
+    mul-place
     mul-sender
     slice-read-sender
     add-claim-at

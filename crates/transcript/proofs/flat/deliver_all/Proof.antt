@@ -3,25 +3,20 @@ use mathlib.Core.Path.{_≡_}
 use Prim.Native.Nat.{_≤_, _-_}
 use borrow.Author.Needs.{needs}
 use lib.ListN.{length}
-use Rattle.keys.specs.Lent.{storeWith}
 use Rattle.rule.specs.Call.{recordsIn}
-use Rattle.transcript.specs.Core.{logWith, coreOf, finish}
+use Rattle.transcript.specs.Core.{coreBy, finish}
 use Rattle.transcript.proofs.FlatPaths.{turn-less, turn-fits, turn-same, turn-on, stopped}
 use Rattle.transcript.proofs.flat.deliver_all.Statement.{statement}
 use Rattle.transcript.proofs.flat.deliver_all.Tie as tie
-use Rattle.transcript.proofs.flat.deliver_all.Reads as reads
-use Rattle.transcript.proofs.flat.deliver_all.Lts as lts
-use Rattle.transcript.proofs.flat.deliver.Reads as deliver-reads
 
 abbrev Inv-loop : tie.InvT-loop
-Inv-loop left₀ left-count right₀ right-count words₀ from to head₀ tail₀ left-held₀ right-held₀ left right words head tail left-held right-held =
-    (tail ≤ recordsIn words)
+Inv-loop left₀ left-sums₀ right₀ right-sums₀ words₀ from head₀ reached₀ left left-sums right right-sums words head reached =
+    (reached .tail ≤ recordsIn words)
     × (length words ≡ length words₀)
-    × (finish (coreOf (storeWith left₀ left-count) (storeWith right₀ right-count) (logWith words₀ to) from)
-    ≡ finish (coreOf (storeWith left left-held) (storeWith right right-held) (logWith words tail) head))
+    × (finish (coreBy left₀ left-sums₀ right₀ right-sums₀ words₀ from reached₀) ≡ finish (coreBy left left-sums right right-sums words head reached))
 
 abbrev μ-loop : tie.MeasureT-loop
-μ-loop left₀ left-count right₀ right-count words₀ from to head₀ tail₀ left-held₀ right-held₀ left right words head tail left-held right-held =
+μ-loop left₀ left-sums₀ right₀ right-sums₀ words₀ from head₀ reached₀ left left-sums right right-sums words head reached =
     recordsIn words - head
 
 loop-holds : tie.Need-loop-holds Inv-loop μ-loop

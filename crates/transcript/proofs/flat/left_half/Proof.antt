@@ -7,8 +7,8 @@ use Rattle.transcript.proofs.flat.left_half.Tie as tie
 put-whole-requires : tie.Need-put-whole-requires
 put-whole-requires c κs = search needs
 
-deliver-all-requires : tie.Need-deliver-all-requires
-deliver-all-requires c κs = search (needs, whole-fits)
+deliver-half-requires : tie.Need-deliver-half-requires
+deliver-half-requires c κs = search (needs, whole-fits)
 
 same-length : tie.Need-same-length
 same-length c = search needs
@@ -17,4 +17,4 @@ returns : tie.Need-returns
 returns c = search left-half
 
 pub left-half-spec : {M : Type 1} → statement M
-left-half-spec = tie.close (tie.spec put-whole-requires deliver-all-requires same-length returns)
+left-half-spec = tie.close (tie.spec put-whole-requires deliver-half-requires same-length returns)

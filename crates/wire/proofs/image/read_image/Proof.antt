@@ -22,8 +22,11 @@ no-image-requires c κs = search needs
 returns : tie.Need-returns
 returns c = search image-refused
 
+renewed-requires : tie.Need-renewed-requires
+renewed-requires c κs = search needs
+
 returns-2 : tie.Need-returns-2
-returns-2 c = search image-read
+returns-2 c = search (needs, image-read)
 
 pub read-image-spec : {M : Type 1} → statement M
 read-image-spec =
@@ -35,4 +38,5 @@ read-image-spec =
     admit-in-requires
     no-image-requires
     returns
+    renewed-requires
     returns-2)
