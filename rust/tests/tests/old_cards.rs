@@ -15,8 +15,10 @@ use cards::{Card, cards_of, faulty_cards, keys_in, sound_cards};
 use minutefrost::{BEAT_FRAMES, IMAGE_MOST, Refusal, SHEET_MOST, frames};
 use second::{Claim, RawStore, host};
 use tests::OLD_LIMIT;
+use tests::card::{Case, read_image_case, write_image_case};
 use tests::draw::{claim_of, claims_in, frame_of, image_of};
-use tests::sheet;
+use tests::drill::{self, Drill};
+use tests::{sheet, sums};
 
 /// What a call leaves: its answer, the image it wrote, and the buffer for
 /// frames.
@@ -82,9 +84,9 @@ fn images_hold_what_they_held() -> Result<(), Refusal> {
 const OLD_IMAGE_MOST: usize = 9_860;
 
 /// "Images saved under the old limit mean the same" (document 02, slip 6). Of a
-/// kiosk that was full there are two cards of each state, one of them as long as
-/// an image could be. They are read as just the keys and claims that stand in
-/// their bytes; only that there is room again is new.
+/// kiosk that was full there are two cards of each state until then, one of them
+/// as long as an image could be. They are read as just the keys and claims that
+/// stand in their bytes; only that there is room again is new.
 #[test]
 fn full_cards_mean_the_same_and_have_room() -> Result<(), Refusal> {
     let full = |card: &Card| card.holds.0 == OLD_LIMIT;
@@ -106,6 +108,59 @@ fn full_cards_mean_the_same_and_have_room() -> Result<(), Refusal> {
         assert_eq!(keys_in(&taken), keys, "{}", card.name);
     }
     Ok(())
+}
+
+/// Of a state since slip 6 the same two cards are of stores that hold all they
+/// can now. A key that they lack is refused, entered or heard; one that they
+/// have is not, and the card stays as it is.
+#[test]
+fn full_cards_stay_full() -> Result<(), Refusal> {
+    let full = |card: &Card| card.holds.0 == RawStore::LIMIT;
+    let cards: Vec<Card> = sound_cards().into_iter().filter(full).collect();
+    let longest = cards.iter().filter(|card| card.image.len() == IMAGE_MOST);
+    let states = longest.count();
+    assert!(states > 0 && cards.len() == 2 * states);
+    for card in cards {
+        let keys = keys_in(&card.image);
+        let (held, new) = (keys[keys.len() / 2], keys[keys.len() / 2] + 1);
+        assert!(keys.binary_search(&new).is_err(), "{}", card.name);
+        let heard = take(&card.image, &frame_of(&[claim_of(&[new])]));
+        for grown in [enter(&card.image, new), heard] {
+            assert_eq!(grown.map_err(|no| no.number()), Err(6), "{}", card.name);
+        }
+        assert!(enter(&card.image, held)? == card.image, "{}", card.name);
+    }
+    Ok(())
+}
+
+/// Fills the places of a request that mean nothing to its call.
+const NOISE: u64 = 0x2D3C_4B5A_6978_8796;
+
+/// The drill's reply, which is what the second program expects, to a call that
+/// passes its questions.
+fn ask(drill: &mut Drill, case: &Case, told: &str) -> drill::Card {
+    let reply = drill.ask(case.call, &case.given);
+    assert_eq!((case.differs(&reply), reply.number()), (None, 0), "{told}");
+    reply
+}
+
+/// "The image doesn't hold them; reading works them out" (document 02, slip 7):
+/// beside the keys of a card stand their running sums, whichever state wrote
+/// it, and the node is written as the card's own bytes.
+#[test]
+fn reading_works_running_sums_out() {
+    let mut drill = Drill::start();
+    for card in sound_cards() {
+        let (length, keys) = (card.image.len(), keys_in(&card.image));
+        let read = read_image_case(card.image.clone(), length, &mut || NOISE);
+        let node = ask(&mut drill, &read, &card.name).node();
+        let right = node.store.sums[..] == sums::right_beside(&keys);
+        assert!(right && node.store.held() == keys, "{}", card.name);
+        let write = write_image_case(&node, length, &mut || NOISE);
+        let written = ask(&mut drill, &write, &card.name);
+        assert_eq!(written.count(), length, "{}", card.name);
+        assert!(written.bytes.starts_with(&card.image), "{}", card.name);
+    }
 }
 
 /// The wall sheet of an image, by both programs; past it nothing is written.
