@@ -21,7 +21,7 @@ use crate::library::{Host, PLACES, Search, TimedRound, own};
 use crate::round;
 use crate::search;
 use crate::timing::{Compared, compare, compare_beyond};
-use crate::{RULE, TABLE, differences};
+use crate::{LIMIT, RULE, TABLE, differences, with_comma};
 
 const CELLS: &str = "now, ns | before, ns | ratio | spread";
 
@@ -64,6 +64,8 @@ pub fn print(before: &Path) -> io::Result<()> {
     }
     let hosts = loaded(before, Host::of)?;
     let rows = rows_of_both(hosts[0]);
+    print_full(&hosts);
+    print_growth(&hosts);
     print_host(&hosts, &rows);
     let rounds = loaded(before, TimedRound::of)?;
     print_rounds(&rounds, &rows);
@@ -71,16 +73,23 @@ pub fn print(before: &Path) -> io::Result<()> {
     Ok(())
 }
 
-/// The unions and differences whose images both take: a store of the other
-/// checkout may hold fewer keys, and then its calls refuse them by 14.
+/// Whether both take images of so many keys: a store of the other checkout may
+/// hold fewer, and then its calls refuse them by 14.
+fn both_take(hosts: Two<Host>, union: usize) -> bool {
+    let case = &cases::heard(union, 0, 0)[0];
+    hosts
+        .iter()
+        .all(|host| host.take_frame(&case.image, &[], &mut []) != -14)
+}
+
+/// The unions and differences whose images both take.
 fn rows_of_both(hosts: Two<Host>) -> Vec<Row> {
-    let takes = |union| {
-        let case = &cases::heard(union, 0, 0)[0];
-        hosts
-            .iter()
-            .all(|host| host.take_frame(&case.image, &[], &mut []) != -14)
-    };
-    differences().filter(|(union, _)| takes(*union)).collect()
+    let taken = |(union, _): &Row| both_take(hosts, *union);
+    differences().filter(taken).collect()
+}
+
+fn all_have_enter_and_count(places: &[Two<Host>]) -> bool {
+    places.iter().flatten().all(Host::has_enter_and_count)
 }
 
 /// Of how many cases both give other bytes.
@@ -155,19 +164,77 @@ fn print_searches(places: &[Two<Search>]) {
     println!();
 }
 
+/// A call at all places, and of how many cases both give other bytes.
+fn told(places: &[Two<Host>], cases: &[Case], call: Called) -> (Compared, String) {
+    let [now, before] = places[0];
+    let times = at_all_places(places, |both| in_turns(cases, call, both));
+    (times, unlike(cases, left(call, now), left(call, before)))
+}
+
+/// Beats of the largest image, whose pending claims span nearly all keys.
+fn print_full(places: &[Two<Host>]) {
+    if !both_take(places[0], LIMIT) {
+        return;
+    }
+    let span = with_comma(cases::SPAN);
+    println!("| Full image, {TABLE} claims of {span} keys each | {CELLS} | {UNLIKE} |");
+    println!("|---|{RULE}|{UNLIKE_RULE}|");
+    let [_, beat, ..] = CALLS;
+    for replied in cases::REPLIES {
+        let (done, sent, _) = replied;
+        let (times, unlike) = told(places, &cases::full(replied), beat);
+        println!("| beat: {TABLE} {done}, {sent} | {times} | {unlike} |");
+    }
+    println!();
+}
+
+/// The keys held in rows that are told by what each adds to the one before.
+const GROWN: [usize; 4] = [256, 512, 1_024, LIMIT];
+
+/// How a beat's time grows with the keys held, beside that of `enter` of a key
+/// that is held, for which the image is read and written again and no more.
+fn print_growth(places: &[Two<Host>]) {
+    if !all_have_enter_and_count(places) {
+        return;
+    }
+    let columns = "beat now | enter now | beat before | enter before";
+    println!("| Keys, {TABLE} pending; ns | {columns} | a key more: {columns} |");
+    println!("|---:|{RULE}|{RULE}|");
+    let [_, beat, enter, _] = CALLS;
+    let mut fewer: Option<(usize, [f64; 4])> = None;
+    for keys in GROWN.into_iter().filter(|keys| both_take(places[0], *keys)) {
+        let cases = cases::heard(keys, 0, TABLE);
+        let timed = |call| at_all_places(places, |both| in_turns(&cases, call, both));
+        let [beat, enter] = [beat, enter].map(timed);
+        let times = [beat.time(), enter.time(), beat.base(), enter.base()];
+        let more = [0, 1, 2, 3].map(|at| {
+            fewer.map_or(String::new(), |(fewer, before)| {
+                let more = (times[at] - before[at]) / (keys - fewer) as f64;
+                format!("{more:.2}")
+            })
+        });
+        let times_told = times.map(|time| format!("{time:.0}"));
+        println!(
+            "| {keys} | {} | {} |",
+            times_told.join(" | "),
+            more.join(" | ")
+        );
+        fewer = Some((keys, times));
+    }
+    println!();
+}
+
 fn print_host(places: &[Two<Host>], rows: &[Row]) {
     println!("| Union | Differing | Pending | Call | {CELLS} | {UNLIKE} |");
     println!("|---:|---:|---:|---|{RULE}|{UNLIKE_RULE}|");
-    let [now, before] = places[0];
-    let all = places.iter().flatten().all(Host::has_enter_and_count);
+    let all = all_have_enter_and_count(places);
     let calls = if all { 4 } else { 2 };
     for &(union, differing) in rows {
         for pending in [0, TABLE] {
             let cases = cases::heard(union, differing, pending);
             let pending = cases[0].pending;
             for call in &CALLS[..calls] {
-                let times = at_all_places(places, |both| in_turns(&cases, *call, both));
-                let unlike = unlike(&cases, left(*call, now), left(*call, before));
+                let (times, unlike) = told(places, &cases, *call);
                 let name = call.0;
                 println!("| {union} | {differing} | {pending} | {name} | {times} | {unlike} |");
             }

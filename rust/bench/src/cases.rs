@@ -1,7 +1,7 @@
 //! What is timed: images and frames of a kiosk that hears another one.
 
 use minutefrost::{BEAT_FRAMES, IMAGE_MOST, SHEET_MOST};
-use second::{Claim, RawNode, RawStore};
+use second::{Claim, PENDING, RawNode, RawStore};
 
 /// Each time is of so many cases in turn, alike but for their keys. A program
 /// that met the same one over and over would learn where its searches go,
@@ -87,24 +87,39 @@ impl Pair {
     }
 }
 
-/// How far apart the ends of each claim of [`full`] are: most keys lie between
-/// them, and 64 such spans begin at different ones.
-const APART: usize = RawStore::LIMIT - 124;
+/// How many keys each claim of [`full`] spans: nearly all, and as many such
+/// spans as a table has places begin at different ones.
+pub const SPAN: usize = RawStore::LIMIT - PENDING;
 
-/// A cnt above the number of keys in such a span.
-pub const ABOVE: u16 = APART as u16 + 100;
+/// The greatest cnt, above the number of keys in such a span.
+const ABOVE: u16 = RawStore::LIMIT as u16;
 
-/// All the keys that fit and 64 pending claims of about as many, all with this
-/// cnt: below the number of keys there, a beat helps; above, asks.
-pub fn full(cnt: u16, variant: u64) -> RawNode {
-    let Pair { hearer, .. } = Pair::new(RawStore::LIMIT, 0, variant);
-    let pending: Vec<Claim> = (0..64)
-        .map(|at| {
-            let (lo, hi) = (hearer[at], hearer[at + APART]);
-            Claim::new(lo, hi, lo ^ hi, cnt)
-        })
-        .collect();
-    RawNode::of(RawStore::of(&hearer), &pending)
+/// What a beat does with each claim of a full table and what it sends for them
+/// all, and the claim for that, from the one of its span.
+pub type Replied = (&'static str, &'static str, fn(Claim) -> Claim);
+
+/// A cnt below the number of keys there is helped, one above it asked about.
+pub const REPLIES: [Replied; 3] = [
+    ("matched", "1 claim sent", |own| own),
+    ("helped", "129 claims sent", |own| of_ends(own, 2)),
+    ("asked about", "65 claims sent", |own| of_ends(own, ABOVE)),
+];
+
+/// Another claim of a span, with the sum of its ends alone.
+fn of_ends(Claim { lo, hi, .. }: Claim, cnt: u16) -> Claim {
+    Claim::new(lo, hi, lo ^ hi, cnt)
+}
+
+/// All the keys that fit, and a full table of claims of nearly as many, to each
+/// of which a beat replies in the same way.
+pub fn full((_, _, claimed): Replied) -> Vec<Case> {
+    all(|variant| {
+        let Pair { hearer, .. } = Pair::new(RawStore::LIMIT, 0, variant);
+        let store = RawStore::of(&hearer);
+        let own = |at| second::make(&store, at, at + SPAN - 1).claim;
+        let pending: Vec<Claim> = (0..PENDING).map(own).map(claimed).collect();
+        beaten(RawNode::of(store, &pending))
+    })
 }
 
 pub fn image(node: &RawNode) -> Vec<u8> {
@@ -129,6 +144,16 @@ pub struct Case {
     pub frame: Vec<u8>,
     pub key: u64,
     pub pending: usize,
+}
+
+/// A node to beat.
+pub fn beaten(node: RawNode) -> Case {
+    Case {
+        image: image(&node),
+        frame: Vec::new(),
+        key: 0,
+        pending: node.pending_count,
+    }
 }
 
 /// As many cases as there are variants.

@@ -21,9 +21,9 @@ use std::iter;
 use std::path::Path;
 use std::process::ExitCode;
 
-use cases::{Buffers, Case, Pair, VARIANTS};
+use cases::{Buffers, Case, Pair, VARIANTS, beaten};
 use minutefrost::Refusal;
-use second::{Claim, RawNode, RawStore};
+use second::{Claim, RawStore};
 use timing::{Compared, compare};
 
 /// The most keys of a store.
@@ -181,14 +181,7 @@ fn print_full() {
         "image read and judged, nothing written",
         count(&heard),
     );
-    print_row("beat", "64 matched, 1 claim sent", beat(&heard));
-    let full = |cnt| cases::all(|variant| beaten(cases::full(cnt, variant)));
-    print_row("beat", "64 helped, 129 claims sent", beat(&full(2)));
-    print_row(
-        "beat",
-        "64 asked about, 65 claims sent",
-        beat(&full(cases::ABOVE)),
-    );
+    print_full_beats(&heard);
     println!();
 }
 
@@ -211,6 +204,21 @@ fn print_full_frames(heard: &[Case]) {
         &format!("{all_but_eight} keys, none pending: 4 claims with 8 new keys"),
         take_frame(&cases::all(eight_new)),
     );
+}
+
+/// Its beats: of claims that span any number of keys, and of long ones.
+fn print_full_beats(heard: &[Case]) {
+    print_row(
+        "beat",
+        "64 matched, spans of any length, 1 claim sent",
+        beat(heard),
+    );
+    let span = with_comma(cases::SPAN);
+    for replied in cases::REPLIES {
+        let (done, sent, _) = replied;
+        let what = format!("{TABLE} {done}, spans of {span} keys, {sent}");
+        print_row("beat", &what, beat(&cases::full(replied)));
+    }
 }
 
 fn print_row(call: &str, what: &str, times: Compared) {
@@ -258,16 +266,6 @@ fn eight_new(variant: u64) -> Case {
     Case {
         frame: cases::frame(&claims),
         ..beaten(node)
-    }
-}
-
-/// A node to beat.
-fn beaten(node: RawNode) -> Case {
-    Case {
-        image: cases::image(&node),
-        frame: Vec::new(),
-        key: 0,
-        pending: node.pending_count,
     }
 }
 
