@@ -60,7 +60,7 @@ abbrev pub allZero : List ℕ → Bool
 allZero [] = true
 allZero (x ∷ xs) = eqb x 0 && allZero xs
 
--- are two lists of keys the same?
+-- are two lists of keys, or of sums, the same?
 abbrev pub sameKeys : List ℕ → List ℕ → Bool
 sameKeys [] [] = true
 sameKeys [] (k ∷ ks) = false
