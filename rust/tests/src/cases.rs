@@ -6,6 +6,17 @@ use std::fmt::Write;
 use crate::card::Case;
 use crate::draw::Rng;
 use crate::drill::{Card, Drill};
+use crate::sums;
+
+/// How often a number or a way must have been seen.
+const OFTEN: usize = 100;
+
+/// How often each way that a middle key goes must have been: there are many.
+const OFTEN_EACH: usize = 30;
+
+/// How often sums must have been wrong in each way: there are many, and in few
+/// stores.
+const OFTEN_WRONG: usize = 5;
 
 /// How often each number was answered and each way was gone.
 #[derive(Default)]
@@ -152,4 +163,41 @@ fn difference(given: &Card, reply: &Card, expected: &Card) -> String {
         .unwrap();
     }
     told
+}
+
+/// Runs cases, in which each of these numbers and ways must have been seen often
+/// and no other number.
+pub fn run(cases: u64, numbers: &[u8], ways: &[&str], draw: impl Fn(&mut Rng) -> Case) -> Seen {
+    run_each(&[], cases, numbers, ways, draw)
+}
+
+/// Runs cases that go each of some more ways, if not as often.
+pub fn run_each(
+    each: &[&str],
+    cases: u64,
+    numbers: &[u8],
+    ways: &[&str],
+    draw: impl Fn(&mut Rng) -> Case,
+) -> Seen {
+    let seen = compare(cases, draw);
+    if !one_seed() {
+        seen.expect(numbers, ways, OFTEN);
+        seen.expect_ways(each, OFTEN_EACH);
+    }
+    seen
+}
+
+/// Fails unless stores were seen whose sums alone are out of order, in each way
+/// that they can be (document 02, slip 7).
+pub fn expect_wrong_sums(seen: &Seen) {
+    if !one_seed() {
+        seen.expect_ways(&[sums::ALONE], OFTEN);
+        seen.expect_ways(&sums::KINDS, OFTEN_WRONG);
+    }
+}
+
+/// What fills the places that mean nothing to a call.
+pub fn noise(rng: &mut Rng) -> impl FnMut() -> u64 + use<> {
+    let mut rng = Rng(rng.next());
+    move || rng.next()
 }

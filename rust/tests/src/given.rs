@@ -42,7 +42,7 @@ pub fn calls_on(store: &RawStore) -> Vec<Case> {
 }
 
 /// Fills the places that mean nothing to a call.
-fn noise() -> u64 {
+pub fn noise() -> u64 {
     0x5A5A_0101_F0F0_3C3C
 }
 

@@ -10,7 +10,7 @@ mod rehearse;
 
 use second::{REHEARSAL_RECORDS, RawStore, opening_cost, questions};
 use tests::card::{Case, FALSE_MATCH, opening_cost_case, record_case, round_case};
-use tests::cases::{compare, digit, one_seed};
+use tests::cases::{compare, digit, noise, one_seed};
 use tests::draw::{Rng, image_of};
 use tests::drill::Drill;
 use tests::opening::*;
@@ -22,12 +22,6 @@ const OFTEN: usize = 40;
 
 /// How often where cases aren't drawn but told one by one.
 const OFTEN_TOLD: usize = 10;
-
-/// What fills the places that mean nothing to a call.
-fn noise(rng: &mut Rng) -> impl FnMut() -> u64 + use<> {
-    let mut rng = Rng(rng.next());
-    move || rng.next()
-}
 
 // ---- the call ----
 

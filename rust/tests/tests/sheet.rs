@@ -14,7 +14,7 @@ use archive::{Asked, sheet_by};
 use minutefrost::IMAGE_MOST;
 use second::{Claim, PENDING, RawNode, RawStore, SHEET_MOST, read_image};
 use tests::card::write_sheet_case;
-use tests::cases::{Seen, compare, digit, for_seeds, one_seed};
+use tests::cases::{Seen, compare, digit, for_seeds, noise, one_seed};
 use tests::draw::{Density, Rng, claim_of, image_of};
 use tests::drill::{Drill, MOST_BYTES};
 use tests::left_out;
@@ -249,12 +249,6 @@ fn sheets_of_every_number_of_digits() {
         seen.expect(&[0], &["key 0", "the largest key"], LINE_KEYS);
         seen.expect_ways(&DIGITS, LINE_KEYS);
     }
-}
-
-/// What fills the places that mean nothing to a call.
-fn noise(rng: &mut Rng) -> impl FnMut() -> u64 + use<> {
-    let mut rng = Rng(rng.next());
-    move || rng.next()
 }
 
 /// Stores drawn, once in five bent.

@@ -13,7 +13,7 @@ use tests::card::*;
 use tests::cases::{Seen, compare, digit, for_seeds, one_seed};
 use tests::draw::{Rng, claim_of, image_of};
 use tests::drill::{Call, Card, Drill};
-use tests::given::{CALLS, calls_on};
+use tests::given::{CALLS, calls_on, noise};
 use tests::opening;
 use tests::sums::*;
 
@@ -24,11 +24,6 @@ const OFTEN: usize = 10;
 
 /// How often where each of many stores is given to many calls.
 const OFTEN_GIVEN: usize = 100;
-
-/// Fills the places that mean nothing to a call.
-fn noise() -> u64 {
-    0x5A5A_0101_F0F0_3C3C
-}
 
 /// Makes calls by the drill: its replies are what the second program expects.
 fn ask_all(drill: &mut Drill, cases: &[Case]) -> Vec<Card> {
