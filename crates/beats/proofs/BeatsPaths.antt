@@ -1,5 +1,5 @@
 -- The beat (src/beats.rt): one law for each way that the code goes, over the definitions of specs/Lent. What these mean is in LentLaws. In order:
--- `write_answer`, the loop of `serve_table`, `write_whole`, `beat_in`, `beat`. Assumes nothing.
+-- `write_answer`, `serve_claim`, the loop of `serve_table`, `write_whole`, `beat_in`, `beat`. Assumes nothing.
 use mathlib.Core.Path.{_≡_, refl, sym, _∙_, ap}
 use mathlib.Core.Bool.{Bool, true, false, cond, not}
 use mathlib.Core.List.{List, [], _∷_, _++_}
@@ -7,7 +7,8 @@ use Prim.Native.Nat.{ℕ, _+_, _*_, _-_, _/_, _≤_, _<_}
 use native.Mathlib.Nat.{add-zero}
 use native.Mathlib.Numerals.{add-one}
 use native.Mathlib.Omega.{arith}
-use borrow.Author.Tests.{le-leb, lt-leb, eq-eqb, ne-eqb, not-true, not-false}
+use borrow.Author.Tests.{le-leb, lt-leb, eq-eqb, ne-eqb, eqb-false, not-true, not-false}
+use lib.Dec.{eqb}
 use lib.ListN.{length, take, drop, getD, set, length-append, drop-of-length-le}
 use lib.Seq.{sets, drop-cons, length-take-le, getD-take}
 use Rattle.keys.specs.Lent.{storeBy}
@@ -18,29 +19,33 @@ use Rattle.claims.specs.declared.claim.Claim.{Claim}
 use Rattle.claims.specs.declared.answer.Answer.{Answer}
 use Rattle.claims.specs.declared.answer.Made.{Made}
 use Rattle.claims.specs.Claim.{noClaim}
-use Rattle.claims.specs.Reply.{claimsOf}
+use Rattle.claims.specs.Reply.{claimsOf, matches}
 use Rattle.claims.specs.Lent.{makeIn, answerIn}
 use Rattle.claims.specs.Words.{claimWidth, putClaim}
 use Rattle.rule.specs.declared.node.Node.{Node}
 use Rattle.rule.specs.declared.answer.Beaten.{Beaten}
-use Rattle.rule.specs.Table.{tableLimit, beatLimit, remains, Served}
+use Rattle.rule.specs.Table.{tableLimit, beatReplies, beatLimit, remains, Served}
 use Rattle.rule.specs.Node.{blanks, nodeInOrder}
 use Rattle.rule.specs.Call.{beaten, beatenLent}
 use Rattle.rule.proofs.TableLaws.{length-claimsOf}
 use Rattle.rule.proofs.NodeLaws.{length-blanks, drop-blanks, nodeInOrder-ordered}
 use Rattle.nodes.specs.Lent.{nodeBy}
+use Rattle.beats.specs.declared.beats.Turn.{Turn}
 use Rattle.beats.specs.declared.beats.Kept.{Kept}
-use Rattle.beats.specs.Lent.{serveIn, wholeIn, sendingIn, wroteAt, Wrote, keptWith, ServedAt}
+use Rattle.beats.specs.Lent.{serveIn, wholeIn, sendingIn, wroteAt, Wrote, sentFor, stays, leftAfter, Turned, keptWith, ServedAt}
 use Rattle.beats.specs.Lent.{beatenWith, unbeaten, beatIn, beatInLent, BeatsIn}
-use Rattle.beats.proofs.LentLaws.{putClaim-wroteAt, wroteAt-append, length-wroteAt, length-wholeIn, length-keptIn}
+use Rattle.beats.proofs.LentLaws.{putClaim-wroteAt, wroteAt-append, length-wroteAt, length-wholeIn, turnOf, serveBy-none, serveBy-turn}
 use Rattle.beats.proofs.LentLaws.{beatIn-beaten, beatInLent-beatenLent}
 
 -- ---- `write_answer`
 
+wrote-nothing : (at : ℕ) (lent : List ℕ) → Wrote at [] lent at lent
+wrote-nothing at lent = record { place = sym (add-zero at); words = sym (putAt-nil lent (claimWidth * at)) }
+
 -- by what the answer is found to be
 module _ (a b : Answer) (is : a ≡ b) (at : ℕ) (lent : List ℕ) where
   pub wrote-none : claimsOf b ≡ [] → Wrote at (claimsOf a) lent at lent
-  wrote-none e = rw (is, e) (record { place = sym (add-zero at); words = sym (putAt-nil lent (claimWidth * at)) })
+  wrote-none e = rw (is, e) (wrote-nothing at lent)
 
   module _ (room : claimWidth * (at + 2) ≤ length lent) where
     pub wrote-one : (c : Claim) → claimsOf b ≡ c ∷ [] → (after : List ℕ) → after ≡ putClaim lent (claimWidth * at) c → Wrote at (claimsOf a) lent (at + 1) after
@@ -57,6 +62,36 @@ module _ (a b : Answer) (is : a ≡ b) (at : ℕ) (lent : List ℕ) where
           words = second ∙ (ap (λ (l : List ℕ). wroteAt (at + 1) (d ∷ []) l) first ∙ sym (wroteAt-append at (c ∷ []) (d ∷ []) lent (omega arith)));
         })
 
+-- ---- `serve_claim`
+
+-- two claims at most, and for each reply that is used up
+sentFor-few : (n : ℕ) (a : Answer) {left : ℕ} → left ≡ leftAfter n a → length (sentFor n a) + 2 * left ≤ 2 * n
+sentFor-few n a e = rw e (go (matches a) (eqb n 0) refl)
+  where
+    go : (s t : Bool) → eqb n 0 ≡ t → length (cond s [] (cond t [] (claimsOf a))) + 2 * cond s n (cond t n (n - 1)) ≤ 2 * n
+    go true t f = omega arith
+    go false true f = omega arith
+    go false false f = let some : n ≡ 0 → ⊥ = eqb-false n 0 f in omega (arith, length-claimsOf a)
+
+module _ (at n : ℕ) (a : Answer) (lent : List ℕ) {matched : Bool} (told : matched ≡ matches a) where
+  pub turn-matched : matched ≡ true → Turned at n a lent (record { stays = false; left = n; written = at }) lent
+  turn-matched e = record { wrote = rw (← told, e) (wrote-nothing at lent); stayed = rw (← told, e); left = rw (← told, e) }
+
+  pub turn-waits : matched ≡ false → n ≡ 0 → Turned at n a lent (record { stays = true; left = n; written = at }) lent
+  turn-waits e f = record {
+    wrote = rw (← told, e, eq-eqb n 0 f) (wrote-nothing at lent);
+    stayed = rw (← told, e, eq-eqb n 0 f);
+    left = rw (← told, e, eq-eqb n 0 f);
+  }
+
+  pub turn-told : matched ≡ false → (n ≡ 0 → ⊥) → {stays : Bool} → stays ≡ remains a → {next : ℕ} {after : List ℕ} → Wrote at (claimsOf a) lent next after
+      → Turned at n a lent (record { stays = stays; left = n - 1; written = next }) after
+  turn-told e f s w = record {
+    wrote = rw (← told, e, ne-eqb n 0 f) w;
+    stayed = rw (← told, e, ne-eqb n 0 f) s;
+    left = rw (← told, e, ne-eqb n 0 f);
+  }
+
 -- ---- `serve_table`
 
 -- a table written over blanks
@@ -68,21 +103,25 @@ sets-blanks t h =
 -- A store serves the first `pending` claims of a table, and writes what is sent from the place `at` on.
 module _ (s : Store) (table : List Claim) (pending at : ℕ) (lent₀ : List ℕ) where
   -- the claims that are left from i on, served
-  abbrev rest : ℕ → Served
-  rest i = serveIn s (drop i (take pending table))
+  abbrev rest : ℕ → ℕ → Served
+  rest left i = serveIn s left (drop i (take pending table))
 
-  -- Before claim i, with n claims kept and the place `next` to write to: what is left computes what comes out, and there are words for it.
-  pub record Left (i next : ℕ) (lent : List ℕ) (n : ℕ) (kept : List Claim) : Type 0 where
+  -- all of them, with the replies of a beat
+  abbrev every : Served
+  every = rest beatReplies 0
+
+  -- Before claim i, with so many replies left, n claims kept and the place `next` to write to: what is left computes what comes out, and there are words for it.
+  pub record Left (i left next : ℕ) (lent : List ℕ) (n : ℕ) (kept : List Claim) : Type 0 where
     pub passed : i ≤ pending
     pub few : n ≤ i
     pub long : length lent ≡ length lent₀
-    pub room : claimWidth * (next + 2 * (pending - i)) ≤ length lent
-    pub words : wroteAt next (rest i .sent) lent ≡ wroteAt at (rest 0 .sent) lent₀
-    pub written : next + length (rest i .sent) ≡ at + length (rest 0 .sent)
-    pub places : sets kept n (rest i .kept) ≡ sets (blanks tableLimit) 0 (rest 0 .kept)
-    pub stayed : n + length (rest i .kept) ≡ length (rest 0 .kept)
+    pub room : claimWidth * (next + 2 * left) ≤ length lent
+    pub words : wroteAt next (rest left i .sent) lent ≡ wroteAt at (every .sent) lent₀
+    pub written : next + length (rest left i .sent) ≡ at + length (every .sent)
+    pub places : sets kept n (rest left i .kept) ≡ sets (blanks tableLimit) 0 (every .kept)
+    pub stayed : n + length (rest left i .kept) ≡ length (every .kept)
 
-  pub left-all : claimWidth * (at + 2 * pending) ≤ length lent₀ → Left 0 at lent₀ 0 (blanks tableLimit)
+  pub left-all : claimWidth * (at + 2 * beatReplies) ≤ length lent₀ → Left 0 beatReplies at lent₀ 0 (blanks tableLimit)
   left-all h = record {
     passed = omega arith;
     few = omega arith;
@@ -94,79 +133,82 @@ module _ (s : Store) (table : List Claim) (pending at : ℕ) (lent₀ : List ℕ
     stayed = omega arith;
   }
 
-  module _ (full : length table ≡ tableLimit) (small : pending ≤ tableLimit) {i next : ℕ} {lent : List ℕ} {n : ℕ} {kept : List Claim}
-      (left : Left i next lent n kept) where
+  module _ (full : length table ≡ tableLimit) (small : pending ≤ tableLimit) {i left next : ℕ} {lent : List ℕ} {n : ℕ} {kept : List Claim}
+      (before : Left i left next lent n kept) where
     all : length (take pending table) ≡ pending
     all = length-take-le pending table (omega arith)
 
-    -- a turn: claim i gets its answer, whose claims are written
-    module _ (inside : i < pending) {a : Answer} (answered : a ≡ answerIn s (getD table i noClaim)) {next′ : ℕ} {lent′ : List ℕ}
-        (wrote : Wrote next (claimsOf a) lent next′ lent′) where
+    -- a turn: claim i gets its answer, and is served by it
+    module _ (inside : i < pending) {a : Answer} (answered : a ≡ answerIn s (getD table i noClaim)) {turn : Turn} {lent′ : List ℕ}
+        (turned : Turned next left a lent turn lent′) where
       abbrev c : Claim
       c = getD table i noClaim
 
-      more : rest i ≡ record {
-        sent = claimsOf a ++ rest (i + 1) .sent;
-        kept = cond (remains a) (c ∷ rest (i + 1) .kept) (rest (i + 1) .kept);
-      }
+      -- the claims behind it, served with the replies that are left then
+      abbrev behind : Served
+      behind = rest (turn .left) (i + 1)
+
+      more : rest left i ≡ turnOf left a c behind
       more =
           let got : getD (take pending table) i noClaim ≡ c = getD-take pending table i noClaim inside in
           let e : drop i (take pending table) ≡ c ∷ drop (i + 1) (take pending table)
           = rw (add-one i, ← got) (drop-cons (take pending table) i noClaim (omega (arith, all))) in
-          rw (e, answered)
+          rw (e, turned .left, answered) (serveBy-turn (answerIn s) left c (drop (i + 1) (take pending table)))
 
-      sent-is : rest i .sent ≡ claimsOf a ++ rest (i + 1) .sent
+      sent-is : rest left i .sent ≡ sentFor left a ++ behind .sent
       sent-is = ap (λ (x : Served). x .sent) more
 
-      -- whichever way claim i goes
-      on : {n′ : ℕ} {kept′ : List Claim} → n′ ≤ i + 1 → sets kept′ n′ (rest (i + 1) .kept) ≡ sets kept n (rest i .kept)
-          → n′ + length (rest (i + 1) .kept) ≡ n + length (rest i .kept) → Left (i + 1) next′ lent′ n′ kept′
+      -- whether it stays or leaves
+      on : {n′ : ℕ} {kept′ : List Claim} → n′ ≤ i + 1 → sets kept′ n′ (behind .kept) ≡ sets kept n (rest left i .kept)
+          → n′ + length (behind .kept) ≡ n + length (rest left i .kept) → Left (i + 1) (turn .left) (turn .written) lent′ n′ kept′
       on m t k =
-          let two : length (claimsOf a) ≤ 2 = length-claimsOf a in
-          let fits : claimWidth * (next + length (claimsOf a)) ≤ length lent = omega (arith, left .room) in
-          let same : length lent′ ≡ length lent = ap length (wrote .words) ∙ length-wroteAt next (claimsOf a) lent fits in
+          let few : length (sentFor left a) + 2 * turn .left ≤ 2 * left = sentFor-few left a (turned .left) in
+          let fits : claimWidth * (next + length (sentFor left a)) ≤ length lent = omega (arith, before .room) in
+          let wrote = turned .wrote in
+          let same : length lent′ ≡ length lent = ap length (wrote .words) ∙ length-wroteAt next (sentFor left a) lent fits in
           let place = wrote .place in
           record {
             passed = omega arith;
             few = m;
-            long = same ∙ left .long;
-            room = omega (arith, left .room);
+            long = same ∙ before .long;
+            room = omega (arith, before .room);
             words = rw (wrote .place, wrote .words)
-                (sym (wroteAt-append next (claimsOf a) (rest (i + 1) .sent) lent fits)
+                (sym (wroteAt-append next (sentFor left a) (behind .sent) lent fits)
                 ∙ (ap (λ (cs : List Claim). wroteAt next cs lent) (sym sent-is)
-                ∙ left .words));
-            written = omega (arith, left .written, ap length sent-is, length-append (claimsOf a) (rest (i + 1) .sent));
-            places = t ∙ left .places;
-            stayed = k ∙ left .stayed;
+                ∙ before .words));
+            written = omega (arith, before .written, ap length sent-is, length-append (sentFor left a) (behind .sent));
+            places = t ∙ before .places;
+            stayed = k ∙ before .stayed;
           }
 
-      module _ {stays : Bool} (told : stays ≡ remains a) where
-        kept-is : {t : Bool} → stays ≡ t → rest i .kept ≡ cond t (c ∷ rest (i + 1) .kept) (rest (i + 1) .kept)
-        kept-is e = ap (λ (x : Served). x .kept) more ∙ ap (λ (b : Bool). cond b (c ∷ rest (i + 1) .kept) (rest (i + 1) .kept)) (sym told ∙ e)
+      kept-is : {t : Bool} → turn .stays ≡ t → rest left i .kept ≡ cond t (c ∷ behind .kept) (behind .kept)
+      kept-is e = ap (λ (x : Served). x .kept) more ∙ ap (λ (b : Bool). cond b (c ∷ behind .kept) (behind .kept)) (sym (turned .stayed) ∙ e)
 
-        pub left-stays : stays ≡ true → Left (i + 1) next′ lent′ (n + 1) (set kept n c)
-        left-stays e =
-            let k = kept-is e in
-            on (omega (arith, left .few)) (rw (add-one n) (ap (λ (l : List Claim). sets kept n l) (sym k))) (omega (arith, ap length k))
+      pub left-stays : turn .stays ≡ true → Left (i + 1) (turn .left) (turn .written) lent′ (n + 1) (set kept n c)
+      left-stays e =
+          let k = kept-is e in
+          on (omega (arith, before .few)) (rw (add-one n) (ap (λ (l : List Claim). sets kept n l) (sym k))) (omega (arith, ap length k))
 
-        pub left-leaves : stays ≡ false → Left (i + 1) next′ lent′ n kept
-        left-leaves e =
-            let k = kept-is e in
-            on (omega (arith, left .few)) (ap (λ (l : List Claim). sets kept n l) (sym k)) (omega (arith, ap length k))
+      pub left-leaves : turn .stays ≡ false → Left (i + 1) (turn .left) (turn .written) lent′ n kept
+      left-leaves e =
+          let k = kept-is e in
+          on (omega (arith, before .few)) (ap (λ (l : List Claim). sets kept n l) (sym k)) (omega (arith, ap length k))
 
     -- the end
-    pub left-none : pending ≤ i → ServedAt at (serveIn s (take pending table)) lent₀ (record { number = 0; table = kept; count = n; written = next }) lent
+    pub left-none : pending ≤ i → ServedAt at (serveIn s beatReplies (take pending table)) lent₀ (record { number = 0; table = kept; count = n; written = next }) lent
     unfolding keptWith
     left-none h =
         let past : length (take pending table) ≤ i = omega (arith, all) in
-        let none : drop i (take pending table) ≡ [] = drop-of-length-le (take pending table) past in
-        let places : kept ≡ rest 0 .kept ++ blanks (tableLimit - length (rest 0 .kept))
-        = (rw none at (left .places)) ∙ sets-blanks (rest 0 .kept) (omega (arith, length-keptIn s (take pending table), all)) in
-        let count-is : n ≡ length (rest 0 .kept) = omega (arith, rw none at (left .stayed)) in
-        let written-is : next ≡ at + length (rest 0 .sent) = omega (arith, rw none at (left .written)) in
+        let none : rest left i ≡ record { sent = []; kept = [] } = rw (drop-of-length-le (take pending table) past) (serveBy-none (answerIn s) left) in
+        let no-more : rest left i .sent ≡ [] = ap (λ (x : Served). x .sent) none in
+        let none-kept : rest left i .kept ≡ [] = ap (λ (x : Served). x .kept) none in
+        let count-is : n ≡ length (every .kept) = omega (arith, before .stayed, ap length none-kept) in
+        let written-is : next ≡ at + length (every .sent) = omega (arith, before .written, ap length no-more) in
+        let places : kept ≡ every .kept ++ blanks (tableLimit - length (every .kept))
+        = ap (λ (l : List Claim). sets kept n l) (sym none-kept) ∙ (before .places ∙ sets-blanks (every .kept) (omega (arith, before .few, before .passed))) in
         record {
           result = λ j. record { number = 0; table = places j; count = count-is j; written = written-is j };
-          words = sym (putAt-nil lent (claimWidth * next)) ∙ (rw none at (left .words));
+          words = sym (putAt-nil lent (claimWidth * next)) ∙ (ap (λ (cs : List Claim). wroteAt next cs lent) (sym no-more) ∙ before .words);
         }
 
 -- ---- `write_whole`
@@ -206,13 +248,13 @@ module _ (keys sums : List ℕ) (held : ℕ) (table : List Claim) (count : ℕ) 
     s = storeBy keys sums held
 
     abbrev served : Served
-    served = serveIn s (take count table)
+    served = serveIn s beatReplies (take count table)
 
     whole-fits : claimWidth * (0 + length (wholeIn s)) ≤ length lent
     whole-fits = omega (arith, length-wholeIn s)
 
-    -- there are words for the table, after the whole claim
-    pub beat-room : claimWidth * (at + 2 * count) ≤ length half
+    -- there are words for the replies, after the whole claim
+    pub beat-room : claimWidth * (at + 2 * beatReplies) ≤ length half
     beat-room =
         let same : length half ≡ length lent = ap length (whole .words) ∙ length-wroteAt 0 (wholeIn s) lent whole-fits in
         omega (arith, whole .place, length-wholeIn s)

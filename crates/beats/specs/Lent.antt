@@ -2,38 +2,36 @@
 -- carries it out. No store is copied for a claim, and it is no rule of document 01. Question 1 is not its own; where the table cannot be read it says 1.
 -- Whatever can be refused is asked before the first write, so a number other than 0 means that node and words are what they were (`beatIn-kept`,
 -- `beatInLent-kept` of proofs/LentLaws). What it means where the node is in order is said by laws (proofs/LentLaws), by Table and Call of `rule`.
--- In order: the table served; claims in lent words; the beat. Assumes nothing.
+-- In order: the table served; claims in lent words; one pending claim's turn; a table's; the beat. Assumes nothing.
 use mathlib.Core.Path.{_≡_}
 use Prim.Native.Nat.{ℕ, _+_, _*_, _-_, _/_}
-use mathlib.Core.Bool.{cond}
+use mathlib.Core.Bool.{Bool, true, false, cond}
 use mathlib.Core.List.{List, [], _∷_, _++_}
 use lib.Dec.{leb, eqb}
 use lib.ListN.{length}
 use Rattle.keys.specs.declared.store.Store.{Store}
 use Rattle.keys.specs.Place.{putAt}
 use Rattle.claims.specs.declared.claim.Claim.{Claim}
+use Rattle.claims.specs.declared.answer.Answer.{Answer}
 use Rattle.claims.specs.Question.{Question, firstNo, settle, question}
-use Rattle.claims.specs.Reply.{claimsOf}
+use Rattle.claims.specs.Reply.{claimsOf, matches}
 use Rattle.claims.specs.Lent.{makeIn, answerIn}
 use Rattle.claims.specs.Words.{claimWidth}
 use Rattle.rule.specs.declared.node.Node.{Node}
 use Rattle.rule.specs.declared.answer.Beaten.{Beaten}
-use Rattle.rule.specs.Table.{tableLimit, beatLimit, Served, remains}
+use Rattle.rule.specs.Table.{tableLimit, beatReplies, beatLimit, Served, serveBy, remains}
 use Rattle.rule.specs.Node.{blanks, pendingOf}
 use Rattle.rule.specs.Question.{question15}
 use Rattle.rule.specs.Call.{claimWords}
 use Rattle.nodes.specs.Lent.{nodeBy}
+use Rattle.beats.specs.declared.beats.Turn.{Turn}
 use Rattle.beats.specs.declared.beats.Kept.{Kept}
 
 -- ---- the table served
 
--- what a store answers to the claims of a table, and which of them stay: it adds none of their ends
-abbrev pub serveIn : Store → List Claim → Served
-serveIn s [] = record { sent = []; kept = [] }
-serveIn s (c ∷ cs) = record {
-  sent = claimsOf (answerIn s c) ++ serveIn s cs .sent;
-  kept = cond (remains (answerIn s c)) (c ∷ serveIn s cs .kept) (serveIn s cs .kept);
-}
+-- what a store sends for the claims of a table with n replies, and which of them stay: it adds none of their ends
+abbrev pub serveIn : Store → ℕ → List Claim → Served
+serveIn s n t = serveBy (answerIn s) n t
 
 -- the whole claim of a store, none where the count is 0
 unfoldable pub wholeIn : Store → List Claim
@@ -41,7 +39,7 @@ wholeIn s = cond (eqb (s .count) 0) [] (makeIn s 0 (s .count - 1) .claim ∷ [])
 
 -- what is written: the whole claim, then the claims of the answers
 abbrev pub sendingIn : Store → List Claim → List Claim
-sendingIn s t = wholeIn s ++ serveIn s t .sent
+sendingIn s t = wholeIn s ++ serveIn s beatReplies t .sent
 
 -- ---- claims in lent words
 
@@ -53,6 +51,30 @@ wroteAt at cs lent = putAt lent (claimWidth * at) (claimWords cs)
 pub record Wrote (at : ℕ) (cs : List Claim) (lent : List ℕ) (next : ℕ) (after : List ℕ) : Type 0 where
   pub place : next ≡ at + length cs
   pub words : after ≡ wroteAt at cs lent
+
+-- ---- one pending claim's turn
+
+-- With n replies left, by its answer: what is the case for a match, for a claim that has to wait, and for one that is replied to
+abbrev pub inTurn : {A : Type 0} → ℕ → Answer → A → A → A → A
+inTurn n a matched waits told = cond (matches a) matched (cond (eqb n 0) waits told)
+
+-- the claims that are sent for it, does it stay, and how many replies are left then
+abbrev pub sentFor : ℕ → Answer → List Claim
+sentFor n a = inTurn n a [] [] (claimsOf a)
+
+abbrev pub stays : ℕ → Answer → Bool
+stays n a = inTurn n a false true (remains a)
+
+abbrev pub leftAfter : ℕ → Answer → ℕ
+leftAfter n a = inTurn n a n n (n - 1)
+
+-- what is sent for it is written from the place `at` on: `turn` is what comes of it, `after` the words then
+pub record Turned (at n : ℕ) (a : Answer) (lent : List ℕ) (turn : Turn) (after : List ℕ) : Type 0 where
+  pub wrote : Wrote at (sentFor n a) lent (turn .written) after
+  pub stayed : turn .stays ≡ stays n a
+  pub left : turn .left ≡ leftAfter n a
+
+-- ---- a table's turn
 
 -- what is kept of a served table, then zeros; how many claims that is; and the place after those sent, if they are written from the place `at` on
 unfoldable pub keptWith : ℕ → Served → Kept
@@ -80,7 +102,7 @@ beatInQuestions n lent = question 1 (leb (n .count) tableLimit) ∷ question15 (
 unfoldable pub beatIn : Node → List ℕ → Beaten
 beatIn n lent =
     settle (firstNo (beatInQuestions n lent))
-    (beatenWith (n .store .keys) (n .store .sums) (n .store .count) (keptWith (length (wholeIn (n .store))) (serveIn (n .store) (pendingOf n))))
+    (beatenWith (n .store .keys) (n .store .sums) (n .store .count) (keptWith (length (wholeIn (n .store))) (serveIn (n .store) beatReplies (pendingOf n))))
     (unbeaten n)
 
 -- .. and what the lent words hold afterwards

@@ -11,12 +11,12 @@ ghost use mathlib.Core.Path.{_≡_};
 ghost use Prim.Native.Nat.{_+_, _*_, _≤_};
 ghost use lib.ListN.{length, take};
 ghost use Rattle.keys.specs.Lent.{storeBy};
-ghost use Rattle.claims.specs.Reply.{claimsOf};
+ghost use Rattle.claims.specs.Reply.{claimsOf, matches};
 ghost use Rattle.claims.specs.Words.{claimWidth};
-ghost use Rattle.rule.specs.Table.{tableLimit, remains};
+ghost use Rattle.rule.specs.Table.{tableLimit, beatReplies, remains};
 ghost use Rattle.rule.specs.Call.{beaten, beatenLent};
 ghost use Rattle.nodes.specs.Lent.{nodeBy};
-ghost use Rattle.beats.specs.Lent.{serveIn, wholeIn, Wrote, ServedAt, beatenWith, BeatsIn};
+ghost use Rattle.beats.specs.Lent.{serveIn, wholeIn, Wrote, Turned, ServedAt, beatenWith, BeatsIn};
 
 // Writes the claims that an answer carries, and returns the place after them.
 fn write_answer(lent: &mut [u64], at: usize, answer: Answer) -> usize
@@ -42,7 +42,20 @@ fn write_answer(lent: &mut [u64], at: usize, answer: Answer) -> usize
     }
 }
 
-// Whether a claim stays pending: only one that was asked about does.
+// Whether an answer is a match.
+fn matches(answer: Answer) -> bool
+    ensures { λ r. ⌜ r ≡ matches answer ⌝ }
+{
+    match answer {
+        Answer::Refused(..) => false,
+        Answer::Match => true,
+        Answer::Ask(..) => false,
+        Answer::One(..) => false,
+        Answer::Two(..) => false,
+    }
+}
+
+// Whether a claim that is replied to stays pending: only one that was asked about does.
 fn remains(answer: Answer) -> bool
     ensures { λ r. ⌜ r ≡ remains answer ⌝ }
 {
@@ -55,6 +68,42 @@ fn remains(answer: Answer) -> bool
     }
 }
 
+// What comes of one pending claim: whether it stays, how many replies are left then, and the place after what was written.
+struct Turn {
+    stays: bool,
+    left: usize,
+    written: usize,
+}
+
+// Serves one pending claim with so many replies left, and writes the claims of its answer from a place on: a match leaves and does not count; where no
+// reply is left, any other claim stays and sends nothing.
+fn serve_claim(lent: &mut [u64], at: usize, left: usize, answer: Answer) -> Turn
+    requires { ⌜ claimWidth * (at + 2 * left) ≤ length (now lent) ⌝ }
+    ensures { λ r. ⌜ Turned at left answer (now (lent .entry)) r (now (lent .exit)) ⌝ }
+{
+    if matches(answer) {
+        return Turn {
+            stays: false,
+            left,
+            written: at,
+        };
+    }
+    if left == 0 {
+        return Turn {
+            stays: true,
+            left,
+            written: at,
+        };
+    }
+    let written = write_answer(lent, at, answer);
+    let fewer = left - 1;
+    Turn {
+        stays: remains(answer),
+        left: fewer,
+        written,
+    }
+}
+
 // A table once it is served: the claims that stay, then zeros; how many stay; the place after what was written. Or the number of the first question
 // answered no, and the table as it was.
 pub struct Kept {
@@ -64,7 +113,7 @@ pub struct Kept {
     pub written: usize,
 }
 
-// Serves the pending claims in table order, and writes the claims of their answers from a place on.
+// Serves the pending claims in table order, of which so many are replied to as a beat allows, and writes the claims of their answers from a place on.
 fn serve_table<'a>(
     keys: &'a [u64],
     sums: &'a [u64],
@@ -74,19 +123,22 @@ fn serve_table<'a>(
     lent: &mut [u64],
     at: usize,
 ) -> Kept
-    requires { ⌜ (pending ≤ tableLimit) × (claimWidth * (at + 2 * pending) ≤ length (now lent)) ⌝ }
-    ensures { λ r. ⌜ ServedAt at (serveIn (storeBy (now (keys .entry)) (now (sums .entry)) count) (take pending table)) (now (lent .entry)) r (now (lent .exit)) ⌝ }
+    requires { ⌜ (pending ≤ tableLimit) × (claimWidth * (at + 2 * beatReplies) ≤ length (now lent)) ⌝ }
+    ensures { λ r. ⌜ ServedAt at (serveIn (storeBy (now (keys .entry)) (now (sums .entry)) count) beatReplies (take pending table)) (now (lent .entry)) r (now (lent .exit)) ⌝ }
 {
     let mut kept = [Claim::NONE; Node::TABLE];
     let mut n = 0;
+    let mut left = Node::REPLIES;
     let mut written = at;
     let mut i = 0;
     while i < pending {
         let claim = table[i];
         i += 1;
         let answer = answer_in(keys, sums, count, claim);
-        written = write_answer(lent, written, answer);
-        if remains(answer) {
+        let turn = serve_claim(lent, written, left, answer);
+        left = turn.left;
+        written = turn.written;
+        if turn.stays {
             kept[n] = claim;
             n += 1;
         }

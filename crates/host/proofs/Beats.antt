@@ -65,7 +65,7 @@ module _ (n : Node) (ordered : nodeInOrder n ≡ true) where
   nodeServed-ordered = ordered-nodeInOrder (nodeServed n) (ordered-beaten n o (length-pendingOf n o))
 
   sent-count : length sent ≤ beatLimit
-  sent-count = length-sending (nodeKeys n) (pendingOf n) (length-pendingOf n o)
+  sent-count = length-sending (nodeKeys n) (pendingOf n)
 
   pub length-framesSent : length (framesSent n) ≤ framesLimit
   length-framesSent = rw (length-framesBytes sent) (framesLength-limit (length sent) sent-count)

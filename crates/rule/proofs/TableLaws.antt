@@ -2,8 +2,9 @@
 -- tables stay so when a claim is put in, the last is dropped and some leave; how many claims there are; what a beat sends and keeps.
 -- Not here: the node around the table (NodeLaws). Assumes nothing.
 use Prim.Native.Nat.{ℕ, zero, suc, _*_, _≤_, _<_}
-use mathlib.Core.Bool.{Bool, true, false, cond, _&&_, false≢true}
-use mathlib.Core.List.{List, [], _∷_, _++_, List·Memᴰ, List·Memᴰ·head, List·Memᴰ·tail, List·Memᴰ·not-nil, List·Memᴰ·append-cases, Memᴰ·append-left}
+use mathlib.Core.Bool.{Bool, true, false, cond, not, _&&_, false≢true}
+use mathlib.Core.List.{List, [], _∷_, _++_, List·Memᴰ, List·Memᴰ·head, List·Memᴰ·tail, List·Memᴰ·not-nil, List·Memᴰ·append-cases}
+use mathlib.Core.List.{Memᴰ·append-left, Memᴰ·append-right, append-nil}
 use mathlib.Core.Logic.{_⊎_, inl, inr, ⊎-elim}
 use mathlib.Core.Path.{_≡_, refl, sym, ap, _∙_, subst}
 use native.Mathlib.Omega.{arith}
@@ -14,10 +15,10 @@ use Rattle.claims.specs.declared.claim.Claim.{Claim}
 use Rattle.claims.specs.declared.answer.Answer.{Answer}
 use Rattle.claims.specs.declared.answer.Answer.the-variants.{Refused, Match, Ask, One, Two}
 use Rattle.claims.specs.Claim.{wholeClaim}
-use Rattle.claims.specs.Reply.{same, answer, claimsOf}
+use Rattle.claims.specs.Reply.{same, answer, claimsOf, matches}
 use Rattle.claims.proofs.ClaimLaws.{claim-ext, claim-same}
-use Rattle.rule.specs.Table.{tableLimit, ranking, wordsBefore, before, climbsFrom, climbs, those, insertClaim, tableWith, remains, serve, sending}
-use Rattle.rule.specs.Table.{beatLimit}
+use Rattle.rule.specs.Table.{tableLimit, ranking, wordsBefore, before, climbsFrom, climbs, those, insertClaim, tableWith, remains}
+use Rattle.rule.specs.Table.{beatReplies, unmatched, repliesTo, asking, serve, sending, beatLimit}
 
 -- ---- words compared
 
@@ -127,36 +128,41 @@ climbs-take (suc n) (c ∷ cs) h = climbsFrom-take n c cs h
 pub climbs-tableWith : (c : Claim) (t : List Claim) → climbs t ≡ true → climbs (tableWith c t) ≡ true
 climbs-tableWith c t h = climbs-take tableLimit (insertClaim c t) (climbs-insertClaim c t h)
 
-climbsFrom-those : (keeps : Claim → Bool) (b : Claim) (t : List Claim) → climbsFrom b t ≡ true → climbsFrom b (those keeps t) ≡ true
-climbsFrom-those keeps b [] h = refl
-climbsFrom-those keeps b (c ∷ cs) h = go (keeps c) (λ d. climbsFrom-those keeps d cs)
+-- .. where some leave, and those behind them stay
+climbsFrom-those : (keeps : Claim → Bool) (b : Claim) (t u : List Claim) → climbsFrom b (t ++ u) ≡ true → climbsFrom b (those keeps t ++ u) ≡ true
+climbsFrom-those keeps b [] u h = h
+climbsFrom-those keeps b (c ∷ cs) u h = go (keeps c) (λ d. climbsFrom-those keeps d cs u)
   where
     p : before b c ≡ true
-    p = and-left (before b c) (climbsFrom c cs) h
+    p = and-left (before b c) (climbsFrom c (cs ++ u)) h
 
-    q : climbsFrom c cs ≡ true
-    q = and-right (before b c) (climbsFrom c cs) h
+    q : climbsFrom c (cs ++ u) ≡ true
+    q = and-right (before b c) (climbsFrom c (cs ++ u)) h
 
-    go : (t : Bool) → ((d : Claim) → climbsFrom d cs ≡ true → climbsFrom d (those keeps cs) ≡ true) →
-        climbsFrom b (cond t (c ∷ those keeps cs) (those keeps cs)) ≡ true
-    go true below = and-both (before b c) (climbsFrom c (those keeps cs)) p (below c q)
-    go false below = below b (climbsFrom-lower b c cs p q)
+    go : (t : Bool) → ((d : Claim) → climbsFrom d (cs ++ u) ≡ true → climbsFrom d (those keeps cs ++ u) ≡ true) →
+        climbsFrom b (cond t (c ∷ those keeps cs) (those keeps cs) ++ u) ≡ true
+    go true below = and-both (before b c) (climbsFrom c (those keeps cs ++ u)) p (below c q)
+    go false below = below b (climbsFrom-lower b c (cs ++ u) p q)
 
-pub climbs-those : (keeps : Claim → Bool) (t : List Claim) → climbs t ≡ true → climbs (those keeps t) ≡ true
-climbs-those keeps [] h = refl
-climbs-those keeps (c ∷ cs) h = go (keeps c) (climbs-those keeps cs (climbsFrom-climbs c cs h))
+climbs-those-front : (keeps : Claim → Bool) (t u : List Claim) → climbs (t ++ u) ≡ true → climbs (those keeps t ++ u) ≡ true
+climbs-those-front keeps [] u h = h
+climbs-those-front keeps (c ∷ cs) u h = go (keeps c) (climbs-those-front keeps cs u (climbsFrom-climbs c (cs ++ u) h))
   where
-    go : (t : Bool) → climbs (those keeps cs) ≡ true → climbs (cond t (c ∷ those keeps cs) (those keeps cs)) ≡ true
-    go true below = climbsFrom-those keeps c cs h
+    go : (t : Bool) → climbs (those keeps cs ++ u) ≡ true → climbs (cond t (c ∷ those keeps cs) (those keeps cs) ++ u) ≡ true
+    go true below = climbsFrom-those keeps c cs u h
     go false below = below
 
--- what a beat keeps
-kept-those : (l : List ℕ) (t : List Claim) → serve l t .kept ≡ those (λ (c : Claim). remains (answer c l)) t
-kept-those l [] = refl
-kept-those l (c ∷ cs) = rw (kept-those l cs)
+pub climbs-those : (keeps : Claim → Bool) (t : List Claim) → climbs t ≡ true → climbs (those keeps t) ≡ true
+climbs-those keeps t h =
+    rw (← append-nil (those keeps t)) (climbs-those-front keeps t [] (rw (append-nil t) h))
 
+-- what a beat keeps
 pub climbs-kept : (l : List ℕ) (t : List Claim) → climbs t ≡ true → climbs (serve l t .kept) ≡ true
-climbs-kept l t h = rw (kept-those l t) (climbs-those (λ (c : Claim). remains (answer c l)) t h)
+climbs-kept l t h =
+    let answers : Claim → Answer = λ (c : Claim). answer c l in
+    let left : List Claim = unmatched answers t in
+    climbs-those-front (λ (c : Claim). remains (answers c)) (take beatReplies left) (drop beatReplies left)
+    (rw (take-append-drop beatReplies left) (climbs-those (λ (c : Claim). not (matches (answers c))) t h))
 
 -- ---- members
 
@@ -174,10 +180,15 @@ insertClaim-mem c (b ∷ bs) d m = go (before b c) (same b c) m (insertClaim-mem
     go false false (List·Memᴰ·head e) below = inl e
     go false false (List·Memᴰ·tail n) below = inr n
 
+-- of the first n, and of those behind them
+take-mem : (n : ℕ) (t : List Claim) (d : Claim) → List·Memᴰ d (take n t) → List·Memᴰ d t
+take-mem n t d m = subst (λ (x : List Claim). List·Memᴰ d x) (take-append-drop n t) (Memᴰ·append-left (drop n t) m)
+
+drop-mem : (n : ℕ) (t : List Claim) (d : Claim) → List·Memᴰ d (drop n t) → List·Memᴰ d t
+drop-mem n t d m = subst (λ (x : List Claim). List·Memᴰ d x) (take-append-drop n t) (Memᴰ·append-right (take n t) m)
+
 pub tableWith-mem : (c : Claim) (t : List Claim) (d : Claim) → List·Memᴰ d (tableWith c t) → (d ≡ c) ⊎ List·Memᴰ d t
-tableWith-mem c t d m =
-    insertClaim-mem c t d
-    (subst (λ (x : List Claim). List·Memᴰ d x) (take-append-drop tableLimit (insertClaim c t)) (Memᴰ·append-left (drop tableLimit (insertClaim c t)) m))
+tableWith-mem c t d m = insertClaim-mem c t d (take-mem tableLimit (insertClaim c t) d m)
 
 pub those-mem : (keeps : Claim → Bool) (t : List Claim) (d : Claim) → List·Memᴰ d (those keeps t) → List·Memᴰ d t × (keeps d ≡ true)
 those-mem keeps [] d m = absurd (List·Memᴰ·not-nil m)
@@ -205,18 +216,39 @@ pub those-all : (keeps : Claim → Bool) (t : List Claim) → ((c : Claim) → L
 those-all keeps [] f = refl
 those-all keeps (c ∷ cs) f = rw (f c (List·Memᴰ·head refl), those-all keeps cs (λ d m. f d (List·Memᴰ·tail m)))
 
+-- a claim of the replies to some is one of the answer to one of them
+repliesTo-mem : (answers : Claim → Answer) (t : List Claim) (d : Claim) → List·Memᴰ d (repliesTo answers t)
+    → (c : Claim) × List·Memᴰ c t × List·Memᴰ d (claimsOf (answers c))
+repliesTo-mem answers [] d m = absurd (List·Memᴰ·not-nil m)
+repliesTo-mem answers (c ∷ cs) d m =
+    ⊎-elim
+    {C = (b : Claim) × List·Memᴰ b (c ∷ cs) × List·Memᴰ d (claimsOf (answers b))}
+    (λ (n : List·Memᴰ d (claimsOf (answers c))). (c, List·Memᴰ·head refl, n))
+    (λ (n : List·Memᴰ d (repliesTo answers cs)). let (b, i, o) = repliesTo-mem answers cs d n in (b, List·Memᴰ·tail i, o))
+    (List·Memᴰ·append-cases (claimsOf (answers c)) m)
+
+unmatched-mem : (answers : Claim → Answer) (t : List Claim) (d : Claim) → List·Memᴰ d (unmatched answers t) → List·Memᴰ d t
+unmatched-mem answers t d m = those-mem (λ (c : Claim). not (matches (answers c))) t d m .0
+
 pub kept-mem : (l : List ℕ) (t : List Claim) (d : Claim) → List·Memᴰ d (serve l t .kept) → List·Memᴰ d t
-kept-mem l t d m = those-mem (λ (c : Claim). remains (answer c l)) t d (rw (kept-those l t) at m) .0
+kept-mem l t d m =
+    let answers : Claim → Answer = λ (c : Claim). answer c l in
+    let left : List Claim = unmatched answers t in
+    let front : List Claim = take beatReplies left in
+    unmatched-mem answers t d
+    (⊎-elim
+    {C = List·Memᴰ d left}
+    (λ (n : List·Memᴰ d (asking answers front)). take-mem beatReplies left d (those-mem (λ (c : Claim). remains (answers c)) front d n .0))
+    (λ (n : List·Memᴰ d (drop beatReplies left)). drop-mem beatReplies left d n)
+    (List·Memᴰ·append-cases (asking answers front) m))
 
 -- a claim that is sent for the table is a claim of the answer to some pending claim
 pub sent-mem : (l : List ℕ) (t : List Claim) (d : Claim) → List·Memᴰ d (serve l t .sent) → (c : Claim) × List·Memᴰ c t × List·Memᴰ d (claimsOf (answer c l))
-sent-mem l [] d m = absurd (List·Memᴰ·not-nil m)
-sent-mem l (c ∷ cs) d m =
-    ⊎-elim
-    {C = (b : Claim) × List·Memᴰ b (c ∷ cs) × List·Memᴰ d (claimsOf (answer b l))}
-    (λ (n : List·Memᴰ d (claimsOf (answer c l))). (c, List·Memᴰ·head refl, n))
-    (λ (n : List·Memᴰ d (serve l cs .sent)). let (b, i, o) = sent-mem l cs d n in (b, List·Memᴰ·tail i, o))
-    (List·Memᴰ·append-cases (claimsOf (answer c l)) m)
+sent-mem l t d m =
+    let answers : Claim → Answer = λ (c : Claim). answer c l in
+    let left : List Claim = unmatched answers t in
+    let (c, i, o) = repliesTo-mem answers (take beatReplies left) d m in
+    (c, unmatched-mem answers t c (take-mem beatReplies left c i), o)
 
 -- ---- how many claims there are
 
@@ -232,7 +264,18 @@ length-those keeps (c ∷ cs) = go (keeps c) (length-those keeps cs)
     go false h = omega arith
 
 pub length-kept : (l : List ℕ) (t : List Claim) → length (serve l t .kept) ≤ length t
-length-kept l t = rw (kept-those l t) (length-those (λ (c : Claim). remains (answer c l)) t)
+length-kept l t =
+    let answers : Claim → Answer = λ (c : Claim). answer c l in
+    let left : List Claim = unmatched answers t in
+    let front : List Claim = take beatReplies left in
+    omega (
+      arith,
+      length-append (asking answers front) (drop beatReplies left),
+      length-those (λ (c : Claim). remains (answers c)) front,
+      length-append front (drop beatReplies left),
+      ap length (take-append-drop beatReplies left),
+      length-those (λ (c : Claim). not (matches (answers c))) t,
+    )
 
 -- an answer carries at most two claims
 pub length-claimsOf : (a : Answer) → length (claimsOf a) ≤ 2
@@ -242,14 +285,21 @@ length-claimsOf (Ask c) = omega arith
 length-claimsOf (One c) = omega arith
 length-claimsOf (Two c d) = omega arith
 
-pub length-sent : (l : List ℕ) (t : List Claim) → length (serve l t .sent) ≤ 2 * length t
-length-sent l [] = omega arith
-length-sent l (c ∷ cs) = rw (length-append (claimsOf (answer c l)) (serve l cs .sent)) (omega (arith, length-claimsOf (answer c l), length-sent l cs))
+length-repliesTo : (answers : Claim → Answer) (t : List Claim) → length (repliesTo answers t) ≤ 2 * length t
+length-repliesTo answers [] = omega arith
+length-repliesTo answers (c ∷ cs) =
+    rw (length-append (claimsOf (answers c)) (repliesTo answers cs)) (omega (arith, length-claimsOf (answers c), length-repliesTo answers cs))
+
+length-sent : (l : List ℕ) (t : List Claim) → length (serve l t .sent) ≤ 2 * beatReplies
+length-sent l t =
+    let answers : Claim → Answer = λ (c : Claim). answer c l in
+    let front : List Claim = take beatReplies (unmatched answers t) in
+    omega (arith, length-repliesTo answers front, length-take beatReplies (unmatched answers t))
 
 length-wholeClaim : (l : List ℕ) → length (wholeClaim l) ≤ 1
 length-wholeClaim [] = omega arith
 length-wholeClaim (k ∷ ks) = omega arith
 
--- so what a beat writes fits the places that question 15 asks for
-pub length-sending : (l : List ℕ) (t : List Claim) → length t ≤ tableLimit → length (sending l t) ≤ beatLimit
-length-sending l t h = omega (arith, length-append (wholeClaim l) (serve l t .sent), length-wholeClaim l, length-sent l t)
+-- so what a beat writes fits the places that question 15 asks for, whatever is pending
+pub length-sending : (l : List ℕ) (t : List Claim) → length (sending l t) ≤ beatLimit
+length-sending l t = omega (arith, length-append (wholeClaim l) (serve l t .sent), length-wholeClaim l, length-sent l t)

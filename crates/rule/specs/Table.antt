@@ -1,14 +1,14 @@
 -- Pending table and beat (document 01, the section of that name; the paper's Algorithm 1, lines 15 to 36): the order of claims, taking one into
 -- the table, serving the table. A table is the list of its claims. Not here: the node that has a table (Node), the calls (Call). Assumes nothing.
 use Prim.Native.Nat.{ℕ, _+_, _*_}
-use mathlib.Core.Bool.{Bool, true, false, cond, _&&_}
+use mathlib.Core.Bool.{Bool, true, false, cond, not, _&&_}
 use mathlib.Core.List.{List, [], _∷_, _++_}
 use lib.Dec.{ltb, eqb}
-use lib.ListN.{take}
+use lib.ListN.{take, drop}
 use Rattle.claims.specs.declared.claim.Claim.{Claim}
 use Rattle.claims.specs.declared.answer.Answer.{Answer}
 use Rattle.claims.specs.Claim.{wholeClaim}
-use Rattle.claims.specs.Reply.{same, answer, caseOf, isAsked, claimsOf}
+use Rattle.claims.specs.Reply.{same, answer, caseOf, isAsked, claimsOf, matches}
 
 -- "up to 64 pending claims"
 abbrev pub tableLimit : ℕ
@@ -61,20 +61,39 @@ pub record Served : Type 0 where
   pub sent : List Claim
   pub kept : List Claim
 
--- One pending claim served, before those that come after it in table order: "a beat still adds no key" (document 02, slip 1), so it is answered by the keys
--- as they are. A claim of three beside just its ends is asked about and stays: as a match it would leave, and its middle key would not be held.
-abbrev pub serving : List ℕ → Claim → Served → Served
-serving l c rest = record { sent = claimsOf (answer c l) ++ rest .sent; kept = cond (remains (answer c l)) (c ∷ rest .kept) (rest .kept) }
+-- the replies that a beat makes at most: to all pending claims
+abbrev pub beatReplies : ℕ
+beatReplies = tableLimit
 
--- "in table order each pending claim's reply claims", by a store with the keys l
+-- the pending claims that don't match, where `answers` tells what each is answered with
+abbrev pub unmatched : (Claim → Answer) → List Claim → List Claim
+unmatched answers t = those (λ (c : Claim). not (matches (answers c))) t
+
+-- the claims of the replies to some pending claims, one reply after the other
+abbrev pub repliesTo : (Claim → Answer) → List Claim → List Claim
+repliesTo answers [] = []
+repliesTo answers (c ∷ cs) = claimsOf (answers c) ++ repliesTo answers cs
+
+-- those of them that remain
+abbrev pub asking : (Claim → Answer) → List Claim → List Claim
+asking answers t = those (λ (c : Claim). remains (answers c)) t
+
+-- the first n claims of which none matches are replied to, and those behind them stay
+abbrev pub serveUnmatched : (Claim → Answer) → ℕ → List Claim → Served
+serveUnmatched answers n t = record { sent = repliesTo answers (take n t); kept = asking answers (take n t) ++ drop n t }
+
+abbrev pub serveBy : (Claim → Answer) → ℕ → List Claim → Served
+serveBy answers n t = serveUnmatched answers n (unmatched answers t)
+
+-- A table served by a store with the keys l: "a beat still adds no key" (document 02, slip 1), so each claim is answered by the keys as they are. A claim of
+-- three beside just its ends is asked about and stays: as a match it would leave, and its middle key would not be held.
 abbrev pub serve : List ℕ → List Claim → Served
-serve l [] = record { sent = []; kept = [] }
-serve l (c ∷ cs) = serving l c (serve l cs)
+serve l t = serveBy (λ (c : Claim). answer c l) beatReplies t
 
 -- what a beat writes: "the whole claim (none if empty), then in table order each pending claim's reply claims"
 abbrev pub sending : List ℕ → List Claim → List Claim
 sending l t = wholeClaim l ++ serve l t .sent
 
--- the claims that a beat may write, whatever is pending: the whole claim, and at most two for each pending one
+-- the claims that a beat may write, whatever is pending: the whole claim, and at most two for each reply
 abbrev pub beatLimit : ℕ
-beatLimit = 1 + 2 * tableLimit
+beatLimit = 1 + 2 * beatReplies

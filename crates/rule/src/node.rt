@@ -12,6 +12,9 @@ pub struct Node {
 impl Node {
     pub const TABLE: usize = 64;
 
-    // The places that a beat needs: the whole claim, and at most two claims for each pending one.
-    pub const BEAT: usize = 1 + 2 * Node::TABLE;
+    // The pending claims that a beat replies to, at most.
+    pub const REPLIES: usize = Node::TABLE;
+
+    // The places that a beat needs: the whole claim, and at most two claims for each reply.
+    pub const BEAT: usize = 1 + 2 * Node::REPLIES;
 }

@@ -8,10 +8,10 @@ use Rattle.beats.proofs.beats.serve_table.Statement.{statement}
 use Rattle.beats.proofs.beats.serve_table.Tie as tie
 
 abbrev Inv-loop : tie.InvT-loop
-Inv-loop keys sums count pending lent₀ at table kept₀ n₀ written₀ i₀ lent kept n written i = Left (storeBy keys sums count) table pending at lent₀ i written lent n kept
+Inv-loop keys sums count pending lent₀ at table kept₀ n₀ left₀ written₀ i₀ lent kept n left written i = Left (storeBy keys sums count) table pending at lent₀ i left written lent n kept
 
 abbrev μ-loop : tie.MeasureT-loop
-μ-loop keys sums count pending lent₀ at table kept₀ n₀ written₀ i₀ lent kept n written i = pending - i
+μ-loop keys sums count pending lent₀ at table kept₀ n₀ left₀ written₀ i₀ lent kept n left written i = pending - i
 
 loop-holds : tie.Need-loop-holds Inv-loop μ-loop
 unfolding blanks
@@ -29,11 +29,8 @@ add-i c = search needs
 answer-in-requires : tie.Need-answer-in-requires Inv-loop μ-loop
 answer-in-requires c κs = search needs
 
-write-answer-requires : tie.Need-write-answer-requires Inv-loop μ-loop
-write-answer-requires c κs = search needs
-
-remains-requires : tie.Need-remains-requires Inv-loop μ-loop
-remains-requires c κs = search needs
+serve-claim-requires : tie.Need-serve-claim-requires Inv-loop μ-loop
+serve-claim-requires c κs = search needs
 
 mul-kept : tie.Need-mul-kept Inv-loop μ-loop
 mul-kept c = search needs
@@ -73,8 +70,7 @@ serve-table-spec =
     array-copy-out-claim
     add-i
     answer-in-requires
-    write-answer-requires
-    remains-requires
+    serve-claim-requires
     mul-kept
     array-set-from-kept
     add-n
