@@ -12,8 +12,8 @@ use Rattle.wire.proofs.FrameTrips.{length-frameBytes}
 use Rattle.text.proofs.GroupsLaws.{flatten-inGroups, inGroups-mem, inGroups-nil, inGroups-turn, take-capped, drop-capped}
 use Rattle.host.specs.Frames.{fours, framesBytes, framesLength, framesLimit}
 
--- the size that document 01 names
-pub frames-size : framesLimit ≡ 3486
+-- the size that document 02, slip 8, names
+pub frames-size : framesLimit ≡ 462
 frames-size = refl
 
 -- ---- four to a frame

@@ -100,7 +100,8 @@ keyEnteredOut image key out = savedOut (enteringQuestions image key) (nodeEntere
 -- ---- a beat: "One takes an image, runs a beat, writes the new image to one buffer and the claims to a second, four to a frame and the rest in a last one,
 -- and returns the length of the frames."
 
--- "its host call 129 claims' worth (3,486 bytes) and" the longest image's "for the image, whatever is pending"
+-- "A beat needs 17 places, and its host call 462 bytes of frames (15)" (document 02, slip 8), and as before the longest image's bytes "for the image, whatever is
+-- pending"
 abbrev pub beatImageQuestions : List ℕ → ℕ → ℕ → List Question
 beatImageQuestions image room framesRoom =
     readImageQuestions image ++ (question15 room imageLimit ∷ question15 framesRoom framesLimit ∷ [])

@@ -29,7 +29,7 @@ framesFor m = groupCount m frameLimit
 abbrev pub framesLength : ℕ → ℕ
 framesLength m = headSize * framesFor m + claimSize * m
 
--- "129 claims' worth (3,486 bytes)"
+-- "its host call 462 bytes of frames" (document 02, slip 8): the frames of as many claims as a beat may send
 abbrev pub framesLimit : ℕ
 framesLimit = framesLength beatLimit
 

@@ -24,7 +24,7 @@ crossing =
     ∷ enters 1 9
     ∷ meets 0 1 (lentRecords 4)
     ∷ enters 0 7
-    ∷ beats 0 (replicate 516 7)
+    ∷ beats 0 (replicate 68 7)
     ∷ delivers 2 To.table (claim 5 9 11 3)
     ∷ makes 2 2 1
     ∷ delivers 2 To.reply (claim 5 5 5 1)
@@ -46,7 +46,7 @@ passedOn =
     ∷ delivers 1 To.reply (claim 1 16 16 4)
     ∷ meets 2 0 (lentRecords 9)
     ∷ delivers 2 To.reply (claim 1 16 17 2)
-    ∷ beats 2 (replicate 515 7)
+    ∷ beats 2 (replicate 67 7)
     ∷ delivers 0 To.reply (claim 8 8 8 1)
     ∷ []
 

@@ -64,9 +64,13 @@ alikeLeft = storeOf (1 ∷ 2 ∷ 5 ∷ 16 ∷ [])
 abbrev pub alikeRight : Store
 alikeRight = storeOf (1 ∷ 3 ∷ 4 ∷ 16 ∷ [])
 
--- a full table: the 64 claims of the two keys 0 and k
+-- claims of the two keys 0 and k, for n numbers k from `from` on
+abbrev pub pairs : ℕ → ℕ → List Claim
+pairs from n = map (λ (k : ℕ). claim 0 k k 2) (upFrom from n)
+
+-- a full table
 abbrev pub fullTable : List Claim
-fullTable = map (λ (k : ℕ). claim 0 k k 2) (upFrom 1 64)
+fullTable = pairs 1 64
 
 abbrev pub fullNode : Node
 fullNode = nodeOf (upFrom 0 65) fullTable
@@ -74,6 +78,18 @@ fullNode = nodeOf (upFrom 0 65) fullTable
 -- a node whose three pending claims are helped, matched and asked about, in this order
 abbrev pub busyNode : Node
 busyNode = nodeOf (1 ∷ 4 ∷ 16 ∷ []) (claim 1 16 19 3 ∷ claim 1 16 21 3 ∷ claim 1 16 20 4 ∷ [])
+
+-- one of whose 13 pending claims the first and the last match; the other eleven can be helped
+abbrev pub crowdedNode : Node
+crowdedNode = nodeOf (upFrom 0 13) (pairs 1 12 ++ (claim 0 2 3 3 ∷ []))
+
+-- one whose eight pending claims are each helped with two
+abbrev pub amplestNode : Node
+amplestNode = nodeOf (upFrom 0 14) (pairs 5 8)
+
+-- nine claims that {0, 16, ..} asks about, told apart by their sums
+abbrev pub nineAsked : List Claim
+nineAsked = map (λ (s : ℕ). claim 0 16 s 4) (upFrom 0 9)
 
 -- a claim of three pending beside just its ends: a store that had no space for the middle key, or an image that the base wrote
 abbrev pub threeNode : Node
@@ -110,20 +126,32 @@ rows =
     -- a 65th claim that comes last in order is dropped, its lo and hi are added all the same; one that comes first pushes the last one out
     ∷ row (take-is (taken fullNode (claim 70 80 (bitXor 70 80) 2))) (take-is (record { number = 0; node = nodeOf (upFrom 0 65 ++ 70 ∷ 80 ∷ []) fullTable }))
     ∷ row (take-is (taken fullNode (claim 9 9 9 1)))
-    (take-is (record { number = 0; node = nodeOf (upFrom 0 65) (claim 9 9 9 1 ∷ map (λ (k : ℕ). claim 0 k k 2) (upFrom 1 63)) }))
+    (take-is (record { number = 0; node = nodeOf (upFrom 0 65) (claim 9 9 9 1 ∷ pairs 1 63) }))
     -- a claim that is pending already changes nothing
     ∷ row (take-is (taken fullNode (claim 0 9 9 2))) (take-is (record { number = 0; node = fullNode }))
     -- taking a claim of three adds its middle key too, where it is pending already as well
     ∷ row (take-is (taken emptyNode (claim 1 16 19 3))) (take-is (record { number = 0; node = nodeOf (1 ∷ 2 ∷ 16 ∷ []) (claim 1 16 19 3 ∷ []) }))
     ∷ row (take-is (taken threeNode (claim 1 16 19 3))) (take-is (record { number = 0; node = nodeOf (1 ∷ 2 ∷ 16 ∷ []) (claim 1 16 19 3 ∷ []) }))
     -- a beat adds no key: such a claim is asked about and stays, and its middle key is not lost
-    ∷ row (beat-is (beaten threeNode (replicate 516 7))) (beat-is (record { number = 0; node = threeNode; written = 2 }))
-    ∷ row (words-are (beatenLent threeNode (replicate 516 7))) (words-are (1 ∷ 16 ∷ 17 ∷ 2 ∷ 1 ∷ 16 ∷ 17 ∷ 2 ∷ replicate 508 7))
+    ∷ row (beat-is (beaten threeNode (replicate 68 7))) (beat-is (record { number = 0; node = threeNode; written = 2 }))
+    ∷ row (words-are (beatenLent threeNode (replicate 68 7))) (words-are (1 ∷ 16 ∷ 17 ∷ 2 ∷ 1 ∷ 16 ∷ 17 ∷ 2 ∷ replicate 60 7))
     -- a beat: the whole claim, then the claims of each reply; the asked claim is kept, the helped one and the matched one are gone
-    ∷ row (beat-is (beaten busyNode (replicate 517 7))) (beat-is (record { number = 0; node = nodeOf (1 ∷ 4 ∷ 16 ∷ []) (claim 1 16 20 4 ∷ []); written = 3 }))
-    ∷ row (words-are (beatenLent busyNode (replicate 517 7))) (words-are (1 ∷ 16 ∷ 21 ∷ 3 ∷ 4 ∷ 4 ∷ 4 ∷ 1 ∷ 1 ∷ 16 ∷ 21 ∷ 3 ∷ replicate 505 7))
-    -- one word too few: 15
-    ∷ row (beat-is (beaten busyNode (replicate 515 7))) (beat-is (record { number = 15; node = busyNode; written = 0 }))
+    ∷ row (beat-is (beaten busyNode (replicate 69 7))) (beat-is (record { number = 0; node = nodeOf (1 ∷ 4 ∷ 16 ∷ []) (claim 1 16 20 4 ∷ []); written = 3 }))
+    ∷ row (words-are (beatenLent busyNode (replicate 69 7))) (words-are (1 ∷ 16 ∷ 21 ∷ 3 ∷ 4 ∷ 4 ∷ 4 ∷ 1 ∷ 1 ∷ 16 ∷ 21 ∷ 3 ∷ replicate 57 7))
+    -- eight replies a beat: of 13 pending claims the first and the last match and leave, though the last comes after eight replies; eight are helped, in table
+    -- order, and three wait
+    ∷ row (beat-is (beaten crowdedNode (replicate 68 7))) (beat-is (record { number = 0; node = nodeOf (upFrom 0 13) (pairs 10 3); written = 14 }))
+    ∷ row (words-are (beatenLent crowdedNode (replicate 68 7)))
+    (words-are (0 ∷ 12 ∷ 12 ∷ 13 ∷ 1 ∷ 1 ∷ 1 ∷ 1 ∷ 1 ∷ 2 ∷ 3 ∷ 2 ∷ 1 ∷ 3 ∷ 0 ∷ 3 ∷ 1 ∷ 3 ∷ 0 ∷ 3 ∷ 4 ∷ 4 ∷ 4 ∷ 1 ∷ 1 ∷ 3 ∷ 0 ∷ 3 ∷ 4 ∷ 5 ∷ 1 ∷ 2
+    ∷ 1 ∷ 4 ∷ 4 ∷ 4 ∷ 5 ∷ 6 ∷ 3 ∷ 2 ∷ 1 ∷ 4 ∷ 4 ∷ 4 ∷ 5 ∷ 7 ∷ 4 ∷ 3 ∷ 1 ∷ 5 ∷ 1 ∷ 5 ∷ 6 ∷ 8 ∷ 9 ∷ 3 ∷ replicate 12 7))
+    -- .. 17 claims at most
+    ∷ row (beat-is (beaten amplestNode (replicate 68 7))) (beat-is (record { number = 0; node = nodeOf (upFrom 0 14) []; written = 17 }))
+    -- .. an asked claim counts though it stays: the ninth sends nothing, and a match behind it leaves
+    ∷ row (beat-is (beaten (nodeOf (0 ∷ upFrom 16 5) (nineAsked ++ (claim 0 20 20 6 ∷ []))) (replicate 68 7)))
+    (beat-is (record { number = 0; node = nodeOf (0 ∷ upFrom 16 5) nineAsked; written = 9 }))
+    -- one word too few: 15, whatever is pending
+    ∷ row (beat-is (beaten busyNode (replicate 67 7))) (beat-is (record { number = 15; node = busyNode; written = 0 }))
+    ∷ row (beat-is (beaten emptyNode (replicate 67 7))) (beat-is (record { number = 15; node = emptyNode; written = 0 }))
     -- the empty node is in order; one with equal or falling keys is not, nor one with a pending claim whose lo or hi its store lacks
     ∷ row (truth-is (nodeInOrder emptyNode)) (truth-is true)
     ∷ row (truth-is (nodeInOrder (nodeOf (5 ∷ 5 ∷ []) []))) (truth-is false)
@@ -136,7 +164,7 @@ rows =
     ∷ row (truth-is (savedInOrder faultyNode)) (truth-is true)
     ∷ row (truth-is (nodeInOrder faultyNode)) (truth-is false)
     ∷ row (take-is (taken faultyNode (claim 1 1 1 1))) (take-is (record { number = 1; node = faultyNode }))
-    ∷ row (beat-is (beaten faultyNode (replicate 516 7))) (beat-is (record { number = 1; node = faultyNode; written = 0 }))
+    ∷ row (beat-is (beaten faultyNode (replicate 68 7))) (beat-is (record { number = 1; node = faultyNode; written = 0 }))
     -- .. and of an image it is left out; a sound claim of three stays, and so does one of four with the same sum
     ∷ row (claims-are (telling (claim 1 16 17 2 ∷ claim 1 16 5 3 ∷ claim 1 16 19 3 ∷ claim 1 16 5 4 ∷ [])))
     (claims-are (claim 1 16 17 2 ∷ claim 1 16 19 3 ∷ claim 1 16 5 4 ∷ []))

@@ -61,11 +61,12 @@ pub record Served : Type 0 where
   pub sent : List Claim
   pub kept : List Claim
 
--- the replies that a beat makes at most: to all pending claims
+-- "the replies to eight pending claims each beat" (document 02, slip 8)
 abbrev pub beatReplies : ℕ
-beatReplies = tableLimit
+beatReplies = 8
 
--- the pending claims that don't match, where `answers` tells what each is answered with
+-- "In table order, a match leaves the table and doesn't count." (document 02, slip 8) The pending claims but for those, where `answers` tells what each is
+-- answered with.
 abbrev pub unmatched : (Claim → Answer) → List Claim → List Claim
 unmatched answers t = those (λ (c : Claim). not (matches (answers c))) t
 
@@ -78,7 +79,7 @@ repliesTo answers (c ∷ cs) = claimsOf (answers c) ++ repliesTo answers cs
 abbrev pub asking : (Claim → Answer) → List Claim → List Claim
 asking answers t = those (λ (c : Claim). remains (answers c)) t
 
--- the first n claims of which none matches are replied to, and those behind them stay
+-- "After eight asked or helped, each remaining claim that doesn't match stays pending and sends nothing." (document 02, slip 8) With n for eight.
 abbrev pub serveUnmatched : (Claim → Answer) → ℕ → List Claim → Served
 serveUnmatched answers n t = record { sent = repliesTo answers (take n t); kept = asking answers (take n t) ++ drop n t }
 
@@ -90,10 +91,10 @@ serveBy answers n t = serveUnmatched answers n (unmatched answers t)
 abbrev pub serve : List ℕ → List Claim → Served
 serve l t = serveBy (λ (c : Claim). answer c l) beatReplies t
 
--- what a beat writes: "the whole claim (none if empty), then in table order each pending claim's reply claims"
+-- what a beat writes: "the whole claim (none if empty), then in table order each pending claim's reply claims", of those that are replied to
 abbrev pub sending : List ℕ → List Claim → List Claim
 sending l t = wholeClaim l ++ serve l t .sent
 
--- the claims that a beat may write, whatever is pending: the whole claim, and at most two for each reply
+-- "A beat needs 17 places" (document 02, slip 8), whatever is pending: for the whole claim, and for the two claims that a reply has at most
 abbrev pub beatLimit : ℕ
 beatLimit = 1 + 2 * beatReplies

@@ -13,7 +13,7 @@ impl Node {
     pub const TABLE: usize = 64;
 
     // The pending claims that a beat replies to, at most.
-    pub const REPLIES: usize = Node::TABLE;
+    pub const REPLIES: usize = 8;
 
     // The places that a beat needs: the whole claim, and at most two claims for each reply.
     pub const BEAT: usize = 1 + 2 * Node::REPLIES;

@@ -1,6 +1,6 @@
 //! What is timed: images and frames of a kiosk that hears another one.
 
-use minutefrost::{BEAT_FRAMES, IMAGE_MOST, SHEET_MOST};
+use minutefrost::{IMAGE_MOST, SHEET_MOST};
 use second::{Claim, PENDING, RawNode, RawStore};
 
 /// Each time is of so many cases in turn, alike but for their keys. A program
@@ -94,15 +94,16 @@ pub const SPAN: usize = RawStore::LIMIT - PENDING;
 /// The greatest cnt, above the number of keys in such a span.
 const ABOVE: u16 = RawStore::LIMIT as u16;
 
-/// What a beat does with each claim of a full table and what it sends for them
-/// all, and the claim for that, from the one of its span.
+/// What each claim of a full table is to a beat and what it sends for those that
+/// it replies to, and the claim for that, from the one of its span.
 pub type Replied = (&'static str, &'static str, fn(Claim) -> Claim);
 
-/// A cnt below the number of keys there is helped, one above it asked about.
+/// A cnt below the number of keys there is to help with, one above it to ask
+/// about. Eight of 64 are replied to.
 pub const REPLIES: [Replied; 3] = [
     ("matched", "1 claim sent", |own| own),
-    ("helped", "129 claims sent", |own| of_ends(own, 2)),
-    ("asked about", "65 claims sent", |own| of_ends(own, ABOVE)),
+    ("to help with", "17 claims sent", |own| of_ends(own, 2)),
+    ("to ask about", "9 claims sent", |own| of_ends(own, ABOVE)),
 ];
 
 /// Another claim of a span, with the sum of its ends alone.
@@ -110,8 +111,8 @@ fn of_ends(Claim { lo, hi, .. }: Claim, cnt: u16) -> Claim {
     Claim::new(lo, hi, lo ^ hi, cnt)
 }
 
-/// All the keys that fit, and a full table of claims of nearly as many, to each
-/// of which a beat replies in the same way.
+/// All the keys that fit, and a full table of claims of nearly as many, each of
+/// the same kind.
 pub fn full((_, _, claimed): Replied) -> Vec<Case> {
     all(|variant| {
         let Pair { hearer, .. } = Pair::new(RawStore::LIMIT, 0, variant);
@@ -176,6 +177,10 @@ pub fn heard(union: usize, differing: usize, pending: usize) -> Vec<Case> {
     })
 }
 
+/// What a beat's frames needed before slip 8 of document 02: so the calls of an
+/// earlier checkout can be made too.
+const FORMER_FRAMES: usize = 3_486;
+
 /// The buffers that a call writes to.
 #[derive(Clone, PartialEq)]
 pub struct Buffers {
@@ -188,7 +193,7 @@ impl Buffers {
     pub fn new() -> Buffers {
         Buffers {
             image: vec![0; IMAGE_MOST],
-            frames: vec![0; BEAT_FRAMES],
+            frames: vec![0; FORMER_FRAMES],
             sheet: vec![0; SHEET_MOST],
         }
     }

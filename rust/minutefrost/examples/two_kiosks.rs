@@ -75,7 +75,7 @@ fn main() -> Result<(), Refusal> {
     for beats in 0.. {
         let [left, right] = [keys(&kiosks[0].image)?, keys(&kiosks[1].image)?];
         let agree = left.clone().eq(right.clone());
-        if agree || beats % 8 == 0 {
+        if agree || beats % 32 == 0 {
             let (left, right) = (left.len(), right.len());
             println!("after {beats} beats: {left} keys and {right} keys");
         }

@@ -55,8 +55,8 @@
 /* The bytes of the longest image: what `out` needs, but for a sheet. */
 #define MINUTEFROST_IMAGE_MOST (2 + 8 * MINUTEFROST_KEYS_MOST + 2 + 26 * 64)
 
-/* The bytes of the most that a beat sends: what `frames` needs. */
-#define MINUTEFROST_BEAT_FRAMES 3486
+/* The bytes of the most that a beat sends, 17 claims: what `frames` needs. */
+#define MINUTEFROST_BEAT_FRAMES 462
 
 /* The bytes of the longest frame. */
 #define MINUTEFROST_FRAME_MOST 108
@@ -88,7 +88,8 @@ int64_t minutefrost_take_frame(const uint8_t *image, size_t image_len,
 /*
  * Beats an image, writes the new image to the front of `out` and the frames to
  * send, end to end, to the front of `frames`, and returns the frames' length.
- * The image's length follows from its counts. Asks 14, 1, 15.
+ * The image's length follows from its counts. Up to eight pending claims are
+ * replied to; the others that don't match wait for a later beat. Asks 14, 1, 15.
  */
 int64_t minutefrost_beat(const uint8_t *image, size_t image_len,
                          uint8_t *out, size_t out_len,

@@ -61,11 +61,18 @@
 //! as many deliveries as [`opening_cost`] tells.
 //!
 //! Of *beats* over a radio it isn't proved. It was seen: in the tests and in the
-//! example `two_kiosks`, where keys are drawn at random from all 64-bit numbers,
-//! kiosks always came to hold the same keys. Where a match is false they may
-//! never do so: {1, 3, 4, 16} and {1, 2, 5, 16} have the same ends, the same
-//! count and the same XOR, and two kiosks that hold them learn nothing from each
-//! other until one of them gets another key.
+//! example `two_kiosks`, where keys are drawn at random from all 64-bit numbers
+//! and all kiosks stay in reach, they always came to hold the same keys. There
+//! are two ways in which they may never do so:
+//!
+//! - Where a match is false: {1, 3, 4, 16} and {1, 2, 5, 16} have the same ends,
+//!   the same count and the same XOR, and two kiosks that hold them learn nothing
+//!   from each other until one of them gets another key.
+//! - Where a kiosk left in the middle of a transfer. A beat replies to eight
+//!   pending claims, those that are asked about stay, and the next beat begins
+//!   with the same ones: eight that nobody in reach can answer keep all behind
+//!   them waiting. The crate's README tells whoever plans the radio what was seen
+//!   and what helps.
 
 #![deny(unsafe_code)]
 #![warn(missing_docs)]
@@ -98,9 +105,9 @@ const PENDING_MOST: usize = 64;
 /// what the buffer for an image needs, however short that image will be.
 pub const IMAGE_MOST: usize = image_length(KEYS_MOST, PENDING_MOST);
 
-/// The bytes of the most that a beat sends, 129 claims in 33 frames: what the
+/// The bytes of the most that a beat sends, 17 claims in five frames: what the
 /// buffer for its frames needs, whatever is pending.
-pub const BEAT_FRAMES: usize = 3_486;
+pub const BEAT_FRAMES: usize = 462;
 
 /// The bytes of the longest frame, of four claims.
 pub const FRAME_MOST: usize = 108;
@@ -193,10 +200,11 @@ pub fn take_frame(image: &[u8], frame: &[u8], out: &mut [u8]) -> Result<usize, R
 /// Beats an image: writes the new image to the front of `out` and the frames
 /// to send to the front of `frames`, and returns both lengths.
 ///
-/// The frames carry the claim of the whole store and the replies to the claims
-/// that were pending. Those replied to for good leave the image; no key is
-/// added. `out` has at least [`IMAGE_MOST`] bytes and `frames` at least
-/// [`BEAT_FRAMES`].
+/// The frames carry the claim of the whole store and the replies to up to eight
+/// pending claims, the first in table order that don't match. Those that match,
+/// wherever they stand, and those that are helped leave the image; those that
+/// are asked about stay, and so do all behind the eight. No key is added. `out`
+/// has at least [`IMAGE_MOST`] bytes and `frames` at least [`BEAT_FRAMES`].
 ///
 /// # Errors
 ///

@@ -412,10 +412,11 @@ fn the_most_that_a_beat_sends_fits() {
     let image = full_image(2);
     let beaten = beat(&image, &mut out, &mut sent).unwrap();
     assert_eq!(beaten.frames, BEAT_FRAMES);
-    assert_eq!(beaten.image, IMAGE_MOST - 64 * 26);
+    // Eight of 64 claims are helped with two each.
+    assert_eq!(beaten.image, IMAGE_MOST - 8 * 26);
     let lengths: Vec<usize> = frames(&sent).map(<[u8]>::len).collect();
-    let mut expected = vec![FRAME_MOST; 33];
-    expected[32] = 30;
+    let mut expected = vec![FRAME_MOST; 5];
+    expected[4] = 30;
     assert_eq!(lengths, expected);
 }
 

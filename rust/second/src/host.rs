@@ -10,14 +10,20 @@
 //! An image with pending claims that fail 16 "is written back without" them
 //! (document 02, slip 2) by each call that writes one.
 
-use crate::frame::{FRAME_CLAIMS, claims_of_frame, put_frame};
+use crate::frame::{FRAME_CLAIMS, FRAME_MOST, claims_of_frame, frame_length, put_frame};
 use crate::image::{IMAGE_MOST, node_of_image, put_image};
+use crate::node::BEAT_PLACES;
 use crate::opening::deliveries;
 use crate::questions::{self, Asked, ask};
 use crate::sheet::{put_sheet, sheet_length};
 
-/// The bytes of a beat's frames: "129 claims' worth (3,486 bytes)".
-pub const BEAT_FRAMES: usize = 3_486;
+/// A beat needs 17 places, "and its host call 462 bytes of frames" (document
+/// 02, slip 8), "whatever is pending".
+pub const BEAT_FRAMES: usize = 462;
+
+// The claims of all places fill four frames, and a last one has one.
+const _: () = assert!(BEAT_PLACES == 4 * FRAME_CLAIMS + 1);
+const _: () = assert!(BEAT_FRAMES == 4 * FRAME_MOST + frame_length(1));
 
 /// A length or a count, or minus the number.
 fn answer(found: Asked<usize>) -> i64 {
@@ -58,7 +64,8 @@ fn try_take_frame(image: &[u8], frame: &[u8], out: &mut [u8]) -> Asked<usize> {
 /// claims to a second, "four to a frame and the rest in a last one", and
 /// returns the length of the frames, or minus the number.
 ///
-/// Asks 14 and 1 of the image, then 15 of both buffers.
+/// Asks 14 and 1 of the image, then 15 of both buffers. Claims that wait for
+/// a later beat (document 02, slip 8) are in the new image.
 pub fn beat(image: &[u8], out: &mut [u8], frames: &mut [u8]) -> i64 {
     answer(try_beat(image, out, frames))
 }

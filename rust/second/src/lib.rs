@@ -1,16 +1,18 @@
-//! Document 01 and slips 1, 2 and 4 to 7 of document 02 in plain Rust, written
+//! Document 01 and slips 1, 2 and 4 to 8 of document 02 in plain Rust, written
 //! from these and the paper alone; slip 3 changed nothing that is seen. Four
 //! host calls are beyond document 01: [`host::enter`], [`host::count`], for the
 //! wall sheet of slip 4 [`host::sheet`], with the program [`wallsheet()`], and
 //! for what a new kiosk costs, slip 5, [`host::opening_cost`]. Slip 6 moved
 //! the limit, which is [`RawStore::LIMIT`] throughout. Slip 7 put running sums
-//! beside the keys, [`RawStore::sums`], from which claims read theirs.
+//! beside the keys, [`RawStore::sums`], from which claims read theirs. Slip 8
+//! lets a [`beat()`] reply to no more than [`BEAT_REPLIES`] pending claims.
 //!
 //! This is the second program of document 01 ("the rest, with random stores,
 //! run against a second program"): it shares no code, table or constant with
 //! the proved one, so that where both agree two readings of the documents do.
 //! "Replies are compared with this rule from now on", the one of the middle
-//! key of three (document 02, slip 1).
+//! key of three (document 02, slip 1), and "The order of serving and the claims
+//! sent are compared with this text from here on", those of a beat (slip 8).
 //!
 //! Every public call takes stores and nodes of any content ([`RawStore`],
 //! [`RawNode`]), puts the questions that concern it in the documents' order
@@ -37,7 +39,7 @@ mod wallsheet;
 pub use claim::Claim;
 pub use frame::{CLAIM_BYTES, FRAME_MOST, FrameRead, MARK, VERSION, read_frame, write_frame};
 pub use image::{IMAGE_MOST, ImageRead, Length, image_length, read_image, write_image};
-pub use node::{BEAT_PLACES, Beaten, PENDING, RawNode, Taken, beat, take};
+pub use node::{BEAT_PLACES, BEAT_REPLIES, Beaten, PENDING, RawNode, Taken, beat, take};
 pub use opening::{OpeningCost, opening_cost};
 pub use rehearse::{REHEARSAL_RECORDS, rehearse};
 pub use round::{Delivery, Rounded, is_false_match, round, round_watched};

@@ -9,9 +9,13 @@ use crate::store::{RawStore, Reply, Store};
 /// "A node is a store and up to 64 pending claims."
 pub const PENDING: usize = 64;
 
-/// "a beat needs 129 places": the whole claim and two for each pending one,
-/// whatever is pending.
-pub const BEAT_PLACES: usize = 129;
+/// "a kiosk its whole claim and the replies to eight pending claims each beat"
+/// (document 02, slip 8).
+pub const BEAT_REPLIES: usize = 8;
+
+/// "A beat needs 17 places" (document 02, slip 8): one for the whole claim and
+/// two for each reply, "whatever is pending".
+pub const BEAT_PLACES: usize = 1 + 2 * BEAT_REPLIES;
 
 /// The flat words of one place of a beat's lent run: lo, hi, sum, cnt.
 const WORDS: usize = 4;
@@ -114,18 +118,32 @@ impl Node {
         }
     }
 
-    /// Beats and returns the claims in the order they are written.
+    /// Beats and returns the claims in the order they are written: "the whole
+    /// claim (none if empty), then in table order" the replies to the first
+    /// eight that don't match. The table is gone through to its end, since a
+    /// match leaves it after the eighth reply as well (document 02, slip 8).
     pub(crate) fn beat(&mut self) -> Vec<Claim> {
         let Node { store, pending } = self;
-        let mut claims = Vec::with_capacity(1 + 2 * pending.len());
+        let mut claims = Vec::with_capacity(BEAT_PLACES);
         claims.extend(store.whole());
-        // "Matched and helped claims leave the table; asked ones remain."
+        let mut replies = 0;
         pending.retain(|claim| {
             // By the keys as they are: "a beat still adds no key" (document
             // 02, slip 1), so three keys beside just the ends are asked about.
             let reply = store.answer(claim);
+            // "a match leaves the table and doesn't count" (slip 8)
+            if reply == Reply::Match {
+                return false;
+            }
+            // "After eight asked or helped, each remaining claim that doesn't
+            // match stays pending and sends nothing." (slip 8)
+            if replies == BEAT_REPLIES {
+                return true;
+            }
+            replies += 1;
             let (count, reply_claims) = reply.claims();
             claims.extend_from_slice(&reply_claims[..count]);
+            // "Matched and helped claims leave the table; asked ones remain."
             matches!(reply, Reply::Ask(_))
         });
         claims

@@ -266,7 +266,8 @@ pub fn of_take(node: &RawNode, claim: &Claim) -> Asked {
     ask(6, q6_missing_fit(node.store.held(), &[claim.lo, claim.hi]))
 }
 
-/// 1, 15: "a beat needs 129 places (15) … whatever is pending".
+/// 1, 15: "A beat needs 17 places" (document 02, slip 8), still "whatever is
+/// pending".
 pub fn of_beat(node: &RawNode, places: usize) -> Asked {
     ask(1, q1_node_in_order(node))?;
     ask(15, q15_outputs_long_enough(&[(places, BEAT_PLACES)]))
@@ -349,7 +350,8 @@ pub fn of_host_take_frame(image: &[u8], frame: &[u8], out: usize) -> Asked {
     ask(15, q15_outputs_long_enough(&[(out, IMAGE_MOST)]))
 }
 
-/// 14, 1, 15.
+/// 14, 1, 15, of as much as the longest image "and its host call 462 bytes of
+/// frames (15)" (document 02, slip 8).
 pub fn of_host_beat(image: &[u8], out: usize, frames: usize) -> Asked {
     of_read_image(image)?;
     let needs = [(out, IMAGE_MOST), (frames, BEAT_FRAMES)];

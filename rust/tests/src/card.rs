@@ -9,6 +9,7 @@ use crate::drill::{Call, Card, MOST_BYTES, MOST_WORDS};
 use crate::left_out;
 use crate::middle::{self, ADDED};
 use crate::opening;
+use crate::replies;
 use crate::sheet;
 use crate::sums;
 
@@ -349,6 +350,7 @@ pub fn beat_case(node: RawNode, lent: usize, noise: Noise) -> Case {
     given.put_node(&node);
     let pending = node.pending_count;
     let threes = middle::ways_of_beat(&node);
+    let turns = replies::ways_of_beat(&node);
     let by_16_alone = left_out::is_node_by_16_alone(&node);
     let sums = sums::ways_of_node(&node);
     let mut rest = (0, 0);
@@ -363,10 +365,11 @@ pub fn beat_case(node: RawNode, lent: usize, noise: Noise) -> Case {
     let (written, left) = rest;
     let beaten = case.number == 0;
     case.on("nothing written", beaten && written == 0)
-        .on("more than half of 129 written", beaten && written > 64)
+        .on(replies::MOST, beaten && written == BEAT_PLACES)
         .on("some asked, some not", beaten && 0 < left && left < pending)
         .on("a full table", beaten && pending == PENDING)
         .on_all(threes)
+        .on_all(turns)
         .on_node(by_16_alone)
         .on_sums(sums)
 }

@@ -3,9 +3,10 @@
 //! ([`draw`]), claims of three and the ways they go ([`middle`]), images that
 //! have some which no store could make ([`left_out`]), wall sheets and the keys
 //! on them ([`sheet`]), what a new kiosk costs and the keys for it
-//! ([`opening`]), running sums and how they can be wrong ([`sums`]), every call
-//! that is given a store ([`given`]), what other programs print ([`program`]),
-//! and runs of many cases with what was seen in them ([`cases`]).
+//! ([`opening`]), running sums and how they can be wrong ([`sums`]), the turns
+//! of pending claims in a beat ([`replies`]), every call that is given a store
+//! ([`given`]), what other programs print ([`program`]), and runs of many cases
+//! with what was seen in them ([`cases`]).
 
 #![forbid(unsafe_code)]
 
@@ -18,6 +19,7 @@ pub mod left_out;
 pub mod middle;
 pub mod opening;
 pub mod program;
+pub mod replies;
 pub mod sheet;
 pub mod sums;
 

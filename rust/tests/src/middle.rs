@@ -6,6 +6,7 @@
 use second::*;
 
 use crate::draw::{Rng, claim_of};
+use crate::replies;
 
 /// What becomes of a claim where both ends are held, where one of them is
 /// missing and where both are.
@@ -141,23 +142,23 @@ pub fn ways_of_round(keys: &mut [Vec<u64>; 2], deliveries: &[Delivery]) -> Vec<&
         .collect()
 }
 
-/// The ways of a beat's claims of three.
+/// The ways of a beat's claims of three, but for those that wait.
 pub fn ways_of_beat(node: &RawNode) -> Vec<&'static str> {
     let held = node.store.held();
     let way = |claim: &Claim| {
         let ends = claim.lo..=claim.hi;
         let own = held.iter().copied().filter(|key| ends.contains(key));
-        match own.collect::<Vec<u64>>().as_slice() {
-            // Of a node out of order.
-            [] | [_] => None,
-            [_, _] if held.len() < RawStore::LIMIT => Some(ASKED),
-            [_, _] => Some(ASKED_FULL),
-            own if claim_of(own) == *claim => Some(MATCHED),
-            _ => Some(HELPED),
+        let own: Vec<u64> = own.collect();
+        match own.len() {
+            2 if held.len() < RawStore::LIMIT => ASKED,
+            2 => ASKED_FULL,
+            _ if claim_of(&own) == *claim => MATCHED,
+            _ => HELPED,
         }
     };
-    let threes = node.table().iter().filter(|claim| claim.cnt == 3);
-    threes.filter_map(way).collect()
+    let served = replies::served(node);
+    let threes = served.iter().filter(|claim| claim.cnt == 3);
+    threes.map(way).collect()
 }
 
 impl Rng {

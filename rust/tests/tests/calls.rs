@@ -9,6 +9,7 @@ use tests::cases::{expect_wrong_sums, noise, run, run_each};
 use tests::draw::{Density, Rng};
 use tests::left_out;
 use tests::middle::{self, OUTCOMES, REFUSED};
+use tests::replies;
 
 const LIMIT: usize = RawStore::LIMIT;
 
@@ -196,22 +197,24 @@ fn take_of_three(rng: &mut Rng) -> Case {
 fn beats() {
     let ways = [
         "nothing written",
-        "more than half of 129 written",
         "some asked, some not",
         "a full table",
         middle::ASKED,
         middle::ASKED_FULL,
         middle::MATCHED,
         middle::HELPED,
+        replies::MATCH_AFTER,
+        replies::ASK_WAITS,
+        replies::HELP_WAITS,
         left_out::NODE,
     ];
     let seen = run(6_000, &[0, 1, 15], &ways, |rng| {
         let node = rng.node();
         let lent = match rng.below(8) {
-            0 => rng.below(4 * 129),
-            1 => 4 * 129 - 1,
-            2 => 4 * 129 + rng.below(5),
-            _ => 4 * 129 + rng.below(40),
+            0 => rng.below(4 * BEAT_PLACES),
+            1 => 4 * BEAT_PLACES - 1,
+            2 => 4 * BEAT_PLACES + rng.below(5),
+            _ => 4 * BEAT_PLACES + rng.below(40),
         };
         beat_case(node, lent, &mut noise(rng))
     });

@@ -18,6 +18,7 @@ use tests::cases::{for_seeds, one_seed};
 use tests::draw::{Density, Rng};
 use tests::drill::{Card, Drill};
 use tests::middle::{ADDED, ASKED_FULL, HELPED, LAST_PLACE, MATCHED, NO_SPACE, OTHERS};
+use tests::replies::{ASK_WAITS, HELP_WAITS};
 use tests::sums;
 
 const LIMIT: usize = RawStore::LIMIT;
@@ -173,7 +174,7 @@ impl World {
 
     fn beat(&mut self, rng: &mut Rng, drill: &mut Drill, told: &mut Told) {
         let at = rng.below(self.kiosks.len());
-        let lent = if rng.one_in(12) { 515 } else { 516 };
+        let lent = 4 * BEAT_PLACES - usize::from(rng.one_in(12));
         let keys = self.kiosks[at].store.clone();
         let case = beat_case(self.kiosks[at].clone(), lent, &mut || 0);
         let reply = ask(drill, &case);
@@ -511,7 +512,7 @@ fn lists_past_the_limit() {
         told.expect(&events, 20);
         let [ends_held, ..] = NO_SPACE;
         told.expect_ways(&["reply", "take"], &[ends_held], 1);
-        told.expect_ways(&["beat"], &[ASKED_FULL], 20);
+        told.expect_ways(&["beat"], &[ASKED_FULL, ASK_WAITS, HELP_WAITS], 20);
     }
 }
 

@@ -16,6 +16,7 @@ use tests::cases::{Seen, for_seeds, one_seed, seeds};
 use tests::draw::{Rng, claims_in, frame_of, image_of};
 use tests::left_out;
 use tests::middle::{self, OUTCOMES};
+use tests::replies;
 use tests::sheet::{self, DIGITS, LAYOUTS, LENT};
 
 /// How often each number and each way must be seen.
@@ -192,7 +193,9 @@ fn beats() {
             panic!("an image beats");
         };
         if answer >= 0 {
-            seen.all(middle::ways_of_beat(&read_image(image).node));
+            let node = read_image(image).node;
+            seen.all(middle::ways_of_beat(&node));
+            seen.all(replies::ways_of_beat(&node));
         }
         seen.all(left_out::ways_of_image(image, number(answer)));
         match answer {
@@ -201,19 +204,18 @@ fn beats() {
             1.. => seen.way("a last frame that isn't full"),
             _ => {}
         }
-        if answer > 1_800 {
-            seen.way("over 1,800 bytes");
-        }
     });
     let ways = [
         "no frame",
         "full frames alone",
         "a last frame that isn't full",
-        "over 1,800 bytes",
         middle::ASKED,
         middle::ASKED_FULL,
         middle::MATCHED,
         middle::HELPED,
+        replies::MATCH_AFTER,
+        replies::ASK_WAITS,
+        replies::HELP_WAITS,
     ];
     if !one_seed() {
         seen.expect(&[0, 1, 14, 15], &ways, OFTEN);

@@ -162,8 +162,8 @@ fn counts_belied() -> Vec<RawNode> {
 }
 
 #[test]
-fn a_beat_needs_129_places_whatever_is_pending() {
-    assert_eq!(BEAT_PLACES, 129);
+fn a_beat_needs_17_places_whatever_is_pending() {
+    assert_eq!(BEAT_PLACES, 17);
     for node in [
         RawNode::empty(),
         RawNode::of(RawStore::of(&[5]), &[]),
@@ -176,7 +176,7 @@ fn a_beat_needs_129_places_whatever_is_pending() {
             assert_eq!(beaten.node, node);
             assert_eq!(run, vec![7; words]);
         }
-        for words in [0, 1, 3, 4, 84].map(|more| BEAT_WORDS + more) {
+        for words in [0, 1, 3, 4, 84, 448].map(|more| BEAT_WORDS + more) {
             let mut run = vec![7; words];
             let beaten = beat(node.clone(), &mut run);
             assert_eq!(beaten.number, 0);
@@ -201,15 +201,39 @@ pub fn beats(node: RawNode) -> (Vec<Claim>, RawNode) {
 }
 
 #[test]
-fn the_longest_beat_writes_129_claims() {
-    let (claims, node) = beats(RawNode::of(full(1), &helped_in_two()));
-    assert_eq!(claims.len(), 129);
+fn the_longest_beat_writes_17_claims() {
+    let table = helped_in_two();
+    let (claims, node) = beats(RawNode::of(full(1), &table));
+    assert_eq!(claims.len(), 17);
     assert_eq!(claims[0], claim_of(full(1).held()));
     assert_eq!(claims[1], claim_of(&[1, 2, 3]));
     assert_eq!(claims[2], claim_of(&[4]));
     assert_eq!(claims[3], claim_of(&[1, 2, 3]));
     assert_eq!(claims[4], claim_of(&[4, 5]));
+    assert_eq!(node, RawNode::of(full(1), &table[8..]));
+}
+
+/// Eight beats reply to a full table, all of it helped with: the 128 claims of
+/// the replies come in table order, as one beat wrote them before slip 8.
+#[test]
+fn eight_beats_reply_to_a_full_table() {
+    let mut node = RawNode::of(full(1), &helped_in_two());
+    let mut replies = Vec::new();
+    for _ in 0..8 {
+        let (claims, beaten) = beats(node);
+        assert_eq!(claims[0], claim_of(full(1).held()));
+        replies.extend_from_slice(&claims[1..]);
+        node = beaten;
+    }
+    assert_eq!(replies.len(), 128);
+    for (two, hi) in replies.chunks(2).zip(5..69) {
+        // Helped with all keys between 0 and hi, the first half and one more.
+        let inner: Vec<u64> = (1..hi).collect();
+        let (lower, upper) = inner.split_at(inner.len() / 2 + 1);
+        assert_eq!(two, [claim_of(lower), claim_of(upper)]);
+    }
     assert_eq!(node, RawNode::of(full(1), &[]));
+    assert_eq!(beats(node).0, [claim_of(full(1).held())]);
 }
 
 #[test]

@@ -86,8 +86,9 @@ fn beating_an_image() {
     write_image(&node, &mut image);
     let mut out = vec![0x55; IMAGE_MOST + 10];
     let mut frames = vec![0x66; host::BEAT_FRAMES + 4];
-    // "129 claims' worth (3,486 bytes)": 32 frames of four and one of one.
-    assert_eq!(host::BEAT_FRAMES, 32 * 108 + 30);
+    // "462 bytes of frames": four frames of four claims and one of one.
+    assert_eq!(host::BEAT_FRAMES, 462);
+    assert_eq!(host::BEAT_FRAMES, 4 * 108 + 30);
     let length = host::beat(&image, &mut out, &mut frames);
     assert_eq!(length, host::BEAT_FRAMES as i64);
     let (frames, kept) = frames.split_at(host::BEAT_FRAMES);
@@ -99,7 +100,8 @@ fn beating_an_image() {
     }
     assert_eq!(frames, expected);
     let length = image_length(&out).length;
-    assert_eq!(length, 4 + 8 * LIMIT);
+    assert_eq!(length, 4 + 8 * LIMIT + 26 * 56);
+    assert_eq!(node.table(), &helped_in_two()[8..]);
     assert_eq!(read_image(&out[..length]).node, node);
     assert!(out[length..].iter().all(|&byte| byte == 0x55));
 }

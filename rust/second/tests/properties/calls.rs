@@ -5,7 +5,7 @@ use std::collections::BTreeSet;
 
 use super::common::*;
 use super::number;
-use super::sets::{learn_of_set, reply_of_set, set, store_of};
+use super::sets::{Table, beat_of_set, learn_of_set, reply_of_set, set, store_of};
 use second::*;
 
 #[test]
@@ -130,24 +130,17 @@ pub fn seen_often(what: &str, times: usize) {
     }
 }
 
-/// Pending claims as sets have them, by rank.
-type Table = BTreeSet<(u16, u64, u64, u64)>;
-
 /// A beat of a node, which writes what one of these keys and this table does;
-/// the node afterwards.
-fn beaten_as_set(node: RawNode, keys: &BTreeSet<u64>, table: &mut Table, more: usize) -> RawNode {
+/// the node afterwards, and how many claims wait in it.
+fn beaten_as_set(
+    node: RawNode,
+    keys: &BTreeSet<u64>,
+    table: &mut Table,
+    more: usize,
+) -> (RawNode, usize) {
     let mut run = vec![7; BEAT_WORDS + more];
     let beaten = beat(node, &mut run);
-    let held: Vec<u64> = keys.iter().copied().collect();
-    let mut expected = Vec::new();
-    if !held.is_empty() {
-        expected.push(claim_of(&held));
-    }
-    table.retain(|&(cnt, lo, hi, sum)| {
-        let (asks, claims) = reply_of_set(keys, c(lo, hi, sum, cnt));
-        expected.extend(claims);
-        asks
-    });
+    let (expected, waiting) = beat_of_set(keys, table);
     assert_eq!((beaten.number, beaten.written), (0, expected.len()));
     let (written, kept) = run.split_at(4 * beaten.written);
     for (words, claim) in written.chunks(4).zip(&expected) {
@@ -155,7 +148,7 @@ fn beaten_as_set(node: RawNode, keys: &BTreeSet<u64>, table: &mut Table, more: u
         assert_eq!(words, [claim.lo, claim.hi, claim.sum, cnt]);
     }
     assert!(kept.iter().all(|&word| word == 7));
-    beaten.node
+    (beaten.node, waiting)
 }
 
 /// Keys and a table that hear a claim; whether it told a middle key.
@@ -170,7 +163,7 @@ fn heard_by_set(keys: &mut BTreeSet<u64>, table: &mut Table, claim: Claim) -> bo
 
 #[test]
 fn taking_and_beating_are_those_of_sets() {
-    let middle_keys = Cell::new(0);
+    let [middle_keys, waiting] = [(); 2].map(|()| Cell::new(0));
     let ways = Ways::default();
     for_seeds(150, |rng| {
         let density = rng.density();
@@ -179,7 +172,9 @@ fn taking_and_beating_are_those_of_sets() {
         let mut node = RawNode::of(store_of(&keys), &[]);
         for _ in 0..120 {
             if rng.one_in(60) {
-                node = beaten_as_set(node, &keys, &mut table, rng.below(9));
+                let (beaten, wait) = beaten_as_set(node, &keys, &mut table, rng.below(9));
+                waiting.set(waiting.get() + wait);
+                node = beaten;
             } else {
                 let held: Vec<u64> = keys.iter().copied().collect();
                 let claim = rng.claim(&held, density);
@@ -202,5 +197,6 @@ fn taking_and_beating_are_those_of_sets() {
         }
     });
     seen_often("middle keys", middle_keys.get());
+    seen_often("claims that waited", waiting.get());
     saw_every_claim(&ways);
 }

@@ -1,4 +1,4 @@
-//! Replies and rounds told by sets of keys.
+//! Replies, beats and rounds told by sets of keys.
 
 use std::collections::BTreeSet;
 
@@ -45,6 +45,36 @@ pub fn reply_of_set(keys: &BTreeSet<u64>, claim: Claim) -> (bool, Vec<Claim>) {
     // a to a + z are z + 1 keys.
     let (lower, upper) = inner.split_at(inner.len() / 2 + 1);
     (false, vec![claim_of(lower), claim_of(upper)])
+}
+
+/// Pending claims as sets have them, by rank.
+pub type Table = BTreeSet<(u16, u64, u64, u64)>;
+
+/// What a beat of these keys and this table writes, word by word, and how many
+/// claims wait for a later one, "After eight asked or helped" (document 02,
+/// slip 8).
+pub fn beat_of_set(keys: &BTreeSet<u64>, table: &mut Table) -> (Vec<Claim>, usize) {
+    let mut claims = Vec::new();
+    if !keys.is_empty() {
+        claims.push(claim_of(&keys.iter().copied().collect::<Vec<_>>()));
+    }
+    let (mut replies, mut waiting) = (0, 0);
+    for rank in table.clone() {
+        let (cnt, lo, hi, sum) = rank;
+        let (asks, reply) = reply_of_set(keys, c(lo, hi, sum, cnt));
+        if reply.is_empty() {
+            table.remove(&rank);
+        } else if replies < 8 {
+            replies += 1;
+            claims.extend(reply);
+            if !asks {
+                table.remove(&rank);
+            }
+        } else {
+            waiting += 1;
+        }
+    }
+    (claims, waiting)
 }
 
 /// The transcript of a round told by sets, with the places of its false

@@ -5,14 +5,14 @@ use std::collections::BTreeSet;
 
 use super::common::*;
 use super::holds;
-use super::sets::{learn_of_set, reply_of_set, round_of_sets};
+use super::sets::{Table, beat_of_set, learn_of_set, reply_of_set, round_of_sets};
 use second::*;
 
 /// A kiosk, and the same told by sets: keys, and claims by rank.
 #[derive(Default)]
 struct Told {
     keys: BTreeSet<u64>,
-    table: BTreeSet<(u16, u64, u64, u64)>,
+    table: Table,
 }
 
 impl Told {
@@ -28,19 +28,10 @@ impl Told {
         }
     }
 
-    fn beat(&mut self) -> Vec<Claim> {
-        let held = self.held();
-        let mut claims: Vec<Claim> = (!held.is_empty())
-            .then(|| claim_of(&held))
-            .into_iter()
-            .collect();
-        let keys = &self.keys;
-        self.table.retain(|&(cnt, lo, hi, sum)| {
-            let (asks, replies) = reply_of_set(keys, c(lo, hi, sum, cnt));
-            claims.extend(replies);
-            asks
-        });
-        claims
+    /// The claims written, and how many pending ones wait (document 02, slip
+    /// 8).
+    fn beat(&mut self) -> (Vec<Claim>, usize) {
+        beat_of_set(&self.keys, &mut self.table)
     }
 }
 
@@ -97,14 +88,28 @@ impl List {
         }
     }
 
-    fn beat(&mut self, at: usize) {
+    /// So many claims delivered to one table.
+    fn flood(&mut self, at: usize, claims: usize, rng: &mut Rng) {
+        for _ in 0..claims {
+            let claim = *rng.pick(&self.made);
+            self.deliver(at, claim, false);
+        }
+    }
+
+    fn beat(&mut self, at: usize, ways: &Ways) {
         let mut run = vec![7; BEAT_WORDS];
         let beaten = beat(self.kiosks[at].clone(), &mut run);
         let words = run[..4 * beaten.written].chunks(4);
         let claims: Vec<Claim> = words
             .map(|it| c(it[0], it[1], it[2], it[3] as u16))
             .collect();
-        assert_eq!((beaten.number, &claims), (0, &self.told[at].beat()));
+        let (expected, waiting) = self.told[at].beat();
+        assert_eq!((beaten.number, &claims), (0, &expected));
+        ways.saw(if waiting > 0 {
+            "some wait"
+        } else {
+            "none waits"
+        });
         self.made.extend(claims);
         self.kiosks[at] = beaten.node;
     }
@@ -139,6 +144,7 @@ impl List {
 
 #[test]
 fn lists_of_events() {
+    let ways = Ways::default();
     for_seeds(60, |rng| {
         let density = rng.density();
         let mut list = List::of_kiosks(3);
@@ -151,11 +157,16 @@ fn lists_of_events() {
                     let claim = *rng.pick(&list.made);
                     list.deliver(at, claim, rng.one_in(2));
                 }
-                9 => list.beat(at),
+                9 => list.beat(at, &ways),
                 10 => list.round(at, (at + 1 + rng.below(2)) % 3),
+                11 if !list.made.is_empty() && rng.one_in(3) => {
+                    list.flood(at, 24, rng);
+                    list.beat(at, &ways);
+                }
                 _ => list.enter(at, rng.next()),
             }
             list.agree();
         }
     });
+    ways.all_of(&["some wait", "none waits"]);
 }

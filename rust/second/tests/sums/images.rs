@@ -32,10 +32,11 @@ fn an_image_byte_by_byte() {
 }
 
 /// "An image may have 18,052 bytes" still (document 02, slip 6), and every one
-/// has 4 bytes, 8 for a key and 26 for a claim.
+/// has 4 bytes, 8 for a key and 26 for a claim. A beat's frames are 462 bytes
+/// since slip 8.
 #[test]
 fn lengths() {
-    assert_eq!((IMAGE_MOST, host::BEAT_FRAMES), (18_052, 3_486));
+    assert_eq!((IMAGE_MOST, host::BEAT_FRAMES), (18_052, 462));
     for_seeds(100, |rng| {
         let node = rng.node();
         let mut out = vec![0x55; IMAGE_MOST];

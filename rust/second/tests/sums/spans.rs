@@ -3,7 +3,7 @@
 //! a loop over the keys.
 
 use super::common::*;
-use super::sets::{reply_of_set, set};
+use super::sets::{beat_of_set, reply_of_set, set};
 use super::{FEW, MAX, drawn};
 use second::*;
 
@@ -92,27 +92,51 @@ fn claims_of_a_full_store() {
     });
 }
 
-/// The claims that a beat writes: the whole one and those of each reply.
+/// The claims that a beat writes: the whole one and those of each reply. Eight
+/// of a table's claims at a time are pending, so that each has its reply
+/// (document 02, slip 8).
 #[test]
 fn claims_of_a_beat() {
     for_seeds(150, |rng| {
         let node = rng.node();
         let keys = set(node.store.held());
-        let mut expected = Vec::new();
+        let mut whole = Vec::new();
         if node.store.count > 0 {
-            expected.push(claim_of(node.store.held()));
+            whole.push(claim_of(node.store.held()));
         }
-        for claim in node.table() {
-            expected.extend(reply_of_set(&keys, *claim).1);
+        beaten(RawNode::of(node.store.clone(), &[]), whole.clone());
+        for eight in node.table().chunks(8) {
+            let replies = eight.iter().flat_map(|claim| reply_of_set(&keys, *claim).1);
+            let expected = whole.iter().copied().chain(replies).collect();
+            beaten(RawNode::of(node.store.clone(), eight), expected);
         }
-        let mut run = vec![7; BEAT_WORDS];
-        let beaten = beat(node.clone(), &mut run);
-        let words = run[..4 * beaten.written].chunks(4);
-        let written: Vec<Claim> = words
-            .map(|it| c(it[0], it[1], it[2], it[3] as u16))
-            .collect();
-        assert_eq!((beaten.number, written), (0, expected));
-        // "A beat adds no key" and no sum changes.
-        assert_eq!(beaten.node.store, node.store);
     });
+}
+
+/// All of a table's claims are pending, and beats follow each other.
+#[test]
+fn claims_of_beats() {
+    for_seeds(150, |rng| {
+        let mut node = rng.node();
+        let keys = set(node.store.held());
+        let mut table = node.table().iter().map(Claim::rank).collect();
+        for _ in 0..8 {
+            let (expected, _) = beat_of_set(&keys, &mut table);
+            node = beaten(node, expected);
+        }
+    });
+}
+
+/// The node after a beat that writes these claims.
+fn beaten(node: RawNode, expected: Vec<Claim>) -> RawNode {
+    let mut run = vec![7; BEAT_WORDS];
+    let beaten = beat(node.clone(), &mut run);
+    let words = run[..4 * beaten.written].chunks(4);
+    let written: Vec<Claim> = words
+        .map(|it| c(it[0], it[1], it[2], it[3] as u16))
+        .collect();
+    assert_eq!((beaten.number, written), (0, expected));
+    // "A beat adds no key" and no sum changes.
+    assert_eq!(beaten.node.store, node.store);
+    beaten.node
 }

@@ -8,6 +8,7 @@ use std::path::Path;
 
 use minutefrost::frames;
 use second::Claim;
+use tests::replies::REPLIES;
 
 const DATA: &str = concat!(env!("CARGO_MANIFEST_DIR"), "/tests/data");
 
@@ -104,6 +105,23 @@ pub fn pending_in(image: &[u8]) -> &[ClaimBytes] {
 pub fn claims_sent(sent: &[u8]) -> Vec<ClaimBytes> {
     let claims = frames(sent).flat_map(|frame| frame[4..].as_chunks().0);
     claims.copied().collect()
+}
+
+/// What an image's beats send if its pending claims are taken by eights, the
+/// whole claim once. A beat adds no key: so these are the replies to all of
+/// them, as one beat sent them until slip 8 of document 02.
+pub fn sent_for_all(image: &[u8], beat: impl Fn(&[u8]) -> Vec<u8>) -> Vec<ClaimBytes> {
+    let keys = &image[..2 + 8 * keys_in(image).len()];
+    let beat_of = |claims: &[ClaimBytes]| {
+        let count = (claims.len() as u16).to_be_bytes();
+        claims_sent(&beat(&[keys, &count, claims.as_flattened()].concat()))
+    };
+    let mut sent = beat_of(&[]);
+    let whole = sent.len();
+    for eight in pending_in(image).chunks(REPLIES) {
+        sent.extend(&beat_of(eight)[whole..]);
+    }
+    sent
 }
 
 /// The claim of its bytes.
