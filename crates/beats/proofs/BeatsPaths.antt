@@ -64,7 +64,7 @@ module _ (a b : Answer) (is : a ≡ b) (at : ℕ) (lent : List ℕ) where
 
 -- ---- `serve_claim`
 
--- two claims at most, and for each reply that is used up
+-- a reply that is used up is two claims at most; where none is, nothing is sent
 sentFor-few : (n : ℕ) (a : Answer) {left : ℕ} → left ≡ leftAfter n a → length (sentFor n a) + 2 * left ≤ 2 * n
 sentFor-few n a e = rw e (go (matches a) (eqb n 0) refl)
   where

@@ -10,7 +10,18 @@ use std::{env, io};
 
 use kiosk::Kiosk;
 use minutefrost::KEYS_MOST;
+use second::PENDING;
 use tests::draw::Rng;
+
+/// A kiosk that heard others until its table had no place left. In turns with
+/// one other it would not come to that: a beat replies to eight.
+fn with_full_table(rng: &mut Rng) -> Kiosk {
+    let mut kiosk = Kiosk::hearer(rng, 200, 9);
+    while kiosk.pending() < PENDING {
+        kiosk.hear(&Kiosk::hearer(rng, 40, 9).beat());
+    }
+    kiosk
+}
 
 fn cards() -> [(&'static str, Kiosk); 7] {
     let mut rng = Rng(1_024);
@@ -23,10 +34,10 @@ fn cards() -> [(&'static str, Kiosk); 7] {
         ("empty", Kiosk::of([])),
         ("small", small),
         ("full", Kiosk::of([]).filled(&mut rng, KEYS_MOST)),
-        ("table", Kiosk::hearer(&mut rng, 200, 9)),
+        ("table", with_full_table(&mut rng)),
         (
             "full_table",
-            Kiosk::hearer(&mut rng, 200, 9).filled(&mut rng, KEYS_MOST),
+            with_full_table(&mut rng).filled(&mut rng, KEYS_MOST),
         ),
         ("three", three),
         ("heard_three", heard_three),

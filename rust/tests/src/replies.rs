@@ -49,6 +49,9 @@ pub const WAYS: [&str; 12] = [
 pub const REPLIES: usize = 8;
 const JUST_TOO_MANY: usize = REPLIES + 1;
 
+/// What a beat asked for its frames while it replied to all 64 claims.
+pub const FORMER_FRAMES: usize = 3_486;
+
 /// The answer to a pending claim by the keys as they are, by its kind.
 #[derive(Clone, Copy, PartialEq, Eq)]
 enum Answer {

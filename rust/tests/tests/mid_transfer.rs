@@ -7,8 +7,8 @@
 //! happens when a third kiosk leaves in the middle of a transfer. Here it does,
 //! from fixed seeds: many pairs fall into a cycle, and what stands in the tables
 //! tells why. Each of them would agree if all pending claims were replied to, or if
-//! both began anew with just their keys, and rounds bring each together; but
-//! rounds are of stores, so the eight stay.
+//! both began anew with just their keys (one of them is seldom enough), and rounds
+//! bring each together; but rounds are of stores, so the eight stay.
 
 use std::collections::{BTreeMap, BTreeSet, HashMap};
 
@@ -223,13 +223,15 @@ fn again(pair: &Pair, rng: &mut Rng) -> bool {
 }
 
 /// How many runs agreed by beats; how many fell into a cycle, by its turns, by the
-/// kiosks held up and by the rounds needed; and how many of these did so again.
+/// kiosks held up and by the rounds needed; how many pairs did so though one of
+/// them had begun anew, and how many again after rounds.
 #[derive(Debug, Default)]
 struct Seen {
     agreed: usize,
     cycles: BTreeMap<usize, usize>,
     held_up: BTreeMap<usize, usize>,
     rounds: BTreeMap<usize, usize>,
+    one_anew: usize,
     again: usize,
 }
 
@@ -238,12 +240,14 @@ impl Seen {
     fn cycle(&mut self, drill: &mut Drill, pair: &Pair, turns: usize, rng: &mut Rng) {
         let replied_to_all = cycle(&mut pair.clone(), Kiosk::beat_for_all);
         assert_eq!(replied_to_all, None, "they agree once all are replied to");
-        let mut anew = [0, 1].map(|at| Kiosk::of(&pair[at].keys(), &[]));
-        assert_eq!(
-            cycle(&mut anew, Kiosk::beat),
-            None,
-            "their keys alone agree"
-        );
+        let anew = [0, 1].map(|at| Kiosk::of(&pair[at].keys(), &[]));
+        let both_anew = cycle(&mut anew.clone(), Kiosk::beat);
+        assert_eq!(both_anew, None, "they agree once both began anew");
+        for at in [0, 1] {
+            let mut one = pair.clone();
+            one[at] = anew[at].clone();
+            self.one_anew += usize::from(cycle(&mut one, Kiosk::beat).is_some());
+        }
         let held_up = held_up(pair, turns);
         assert!(held_up > 0, "a cycle for another reason");
         *self.cycles.entry(turns).or_default() += 1;
@@ -271,7 +275,7 @@ fn pairs_that_a_third_kiosk_left_in_the_middle_of_a_transfer() {
     if !one_seed() {
         let cycles: usize = seen.cycles.values().sum();
         assert!(4 * cycles >= SEEDS as usize, "only {cycles} cycles");
-        assert!(seen.agreed > 0 && seen.again > 0);
+        assert!(seen.agreed > 0 && seen.one_anew > 0 && seen.again > 0);
     }
 }
 

@@ -14,13 +14,10 @@ use tests::cases::{Seen, for_seeds, noise, one_seed, run};
 use tests::draw::{claim_of, claims_in, image_of};
 use tests::drill::Drill;
 use tests::middle::three;
-use tests::replies::{MOST, REPLIES, WAYS, ways_of_beat};
+use tests::replies::{FORMER_FRAMES, MOST, REPLIES, WAYS, ways_of_beat};
 
 /// The words of a beat's places.
 const WORDS: usize = 4 * BEAT_PLACES;
-
-/// What a daemon lent for frames while all 64 claims were replied to.
-const FORMER_FRAMES: usize = 3_486;
 
 /// How often each way must be gone by images.
 const OFTEN: usize = 100;

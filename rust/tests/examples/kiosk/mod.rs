@@ -3,8 +3,9 @@
 use std::path::Path;
 use std::{fs, io, mem};
 
-use minutefrost::{BEAT_FRAMES, EMPTY_IMAGE, IMAGE_MOST, beat, enter, frames, keys, take_frame};
+use minutefrost::{EMPTY_IMAGE, IMAGE_MOST, beat, enter, frames, keys, take_frame};
 use tests::draw::Rng;
+use tests::replies::FORMER_FRAMES;
 
 /// A kiosk is its image.
 pub struct Kiosk(pub Vec<u8>);
@@ -42,8 +43,10 @@ impl Kiosk {
         }
     }
 
+    /// With room for the frames of an earlier state's beat: its archive may be
+    /// the one that is called.
     pub fn beat(&mut self) -> Vec<u8> {
-        let (mut out, mut sent) = ([0; IMAGE_MOST], [0; BEAT_FRAMES]);
+        let (mut out, mut sent) = ([0; IMAGE_MOST], [0; FORMER_FRAMES]);
         let beaten = beat(&self.0, &mut out, &mut sent).expect("an image");
         self.0 = out[..beaten.image].to_vec();
         sent[..beaten.frames].to_vec()
