@@ -89,11 +89,19 @@ sub-append-left a b k m = Memᴰ·append-left b m
 pub append-sub : (a b m : List ℕ) → Sub a m → Sub b m → Sub (a ++ b) m
 append-sub a b m s t k h = ⊎-elim (s k) (t k) (List·Memᴰ·append-cases a h)
 
+-- the first n things of a list, of any type, are among its things, and so are those behind them
+module _ {A : Type 0} (n : ℕ) (l : List A) (x : A) where
+  pub take-mem : List·Memᴰ x (take n l) → List·Memᴰ x l
+  take-mem m = subst (λ (k : List A). List·Memᴰ x k) (take-append-drop n l) (Memᴰ·append-left (drop n l) m)
+
+  pub drop-mem : List·Memᴰ x (drop n l) → List·Memᴰ x l
+  drop-mem m = subst (λ (k : List A). List·Memᴰ x k) (take-append-drop n l) (Memᴰ·append-right (take n l) m)
+
 pub sub-take : (n : ℕ) (l : List ℕ) → Sub (take n l) l
-sub-take n l k m = subst (λ (x : List ℕ). List·Memᴰ k x) (take-append-drop n l) (Memᴰ·append-left (drop n l) m)
+sub-take n l k m = take-mem n l k m
 
 pub sub-drop : (n : ℕ) (l : List ℕ) → Sub (drop n l) l
-sub-drop n l k m = subst (λ (x : List ℕ). List·Memᴰ k x) (take-append-drop n l) (Memᴰ·append-right (take n l) m)
+sub-drop n l k m = drop-mem n l k m
 
 -- a key that no key of l can be is no loss
 pub sub-uncons : (j : ℕ) (l m : List ℕ) → Above j l → Sub l (j ∷ m) → Sub l m

@@ -4,12 +4,13 @@
 use Prim.Native.Nat.{ℕ, zero, suc, _*_, _≤_, _<_}
 use mathlib.Core.Bool.{Bool, true, false, cond, not, _&&_, false≢true}
 use mathlib.Core.List.{List, [], _∷_, _++_, List·Memᴰ, List·Memᴰ·head, List·Memᴰ·tail, List·Memᴰ·not-nil, List·Memᴰ·append-cases}
-use mathlib.Core.List.{Memᴰ·append-left, Memᴰ·append-right, append-nil}
+use mathlib.Core.List.{append-nil}
 use mathlib.Core.Logic.{_⊎_, inl, inr, ⊎-elim}
-use mathlib.Core.Path.{_≡_, refl, sym, ap, _∙_, subst}
+use mathlib.Core.Path.{_≡_, refl, sym, ap, _∙_}
 use native.Mathlib.Omega.{arith}
 use borrow.Author.Tests.{lt-ltb, le-ltb, eq-eqb, ne-eqb}
 use lib.ListN.{length, take, drop, length-append, length-take, take-append-drop}
+use Rattle.keys.proofs.Rising.{take-mem, drop-mem}
 use Rattle.keys.proofs.Tests.{and-left, and-right, and-both, Order, less, equal, greater, order}
 use Rattle.claims.specs.declared.claim.Claim.{Claim}
 use Rattle.claims.specs.declared.answer.Answer.{Answer}
@@ -179,13 +180,6 @@ insertClaim-mem c (b ∷ bs) d m = go (before b c) (same b c) m (insertClaim-mem
     go false true n below = inr n
     go false false (List·Memᴰ·head e) below = inl e
     go false false (List·Memᴰ·tail n) below = inr n
-
--- of the first n, and of those behind them
-take-mem : (n : ℕ) (t : List Claim) (d : Claim) → List·Memᴰ d (take n t) → List·Memᴰ d t
-take-mem n t d m = subst (λ (x : List Claim). List·Memᴰ d x) (take-append-drop n t) (Memᴰ·append-left (drop n t) m)
-
-drop-mem : (n : ℕ) (t : List Claim) (d : Claim) → List·Memᴰ d (drop n t) → List·Memᴰ d t
-drop-mem n t d m = subst (λ (x : List Claim). List·Memᴰ d x) (take-append-drop n t) (Memᴰ·append-right (take n t) m)
 
 pub tableWith-mem : (c : Claim) (t : List Claim) (d : Claim) → List·Memᴰ d (tableWith c t) → (d ≡ c) ⊎ List·Memᴰ d t
 tableWith-mem c t d m = insertClaim-mem c t d (take-mem tableLimit (insertClaim c t) d m)

@@ -4,11 +4,12 @@ use Prim.Native.Nat.{ℕ, zero, suc, _+_, _-_, _/_, _≤_, _<_, min}
 use native.Mathlib.Nat.{add-div-right, div-eq-of-lt}
 use native.Mathlib.Omega.{arith}
 use mathlib.Core.List.{List, [], _∷_, _++_, flatten}
-use mathlib.Core.List.{List·Memᴰ, List·Memᴰ·head, List·Memᴰ·tail, List·Memᴰ·not-nil, Memᴰ·append-left, Memᴰ·append-right}
+use mathlib.Core.List.{List·Memᴰ, List·Memᴰ·head, List·Memᴰ·tail, List·Memᴰ·not-nil}
 use mathlib.Core.Logic.{⊎-elim}
 use mathlib.Core.Path.{_≡_, refl, ap, sym, _∙_, subst}
 use lib.ListN.{length, take, drop, length-append, length-take, length-drop, take-append-drop, drop-of-length-le}
 use lib.Seq.{take-all, take-at, drop-at}
+use Rattle.keys.proofs.Rising.{take-mem, drop-mem}
 use Rattle.keys.proofs.Tests.{lt-or-le}
 use Rattle.text.specs.Groups.{groups, inGroups, groupCount}
 
@@ -70,10 +71,10 @@ module _ {A : Type 0} where
   groups-mem (suc m) n [] g h i = absurd (List·Memᴰ·not-nil i)
   groups-mem (suc m) n (x ∷ xs) g h (List·Memᴰ·head e) =
       let l : length g ≡ min n (suc (length xs)) = ap length e ∙ length-take n (x ∷ xs) in
-      (omega arith, omega arith, λ y j. subst (List·Memᴰ y) (take-append-drop n (x ∷ xs)) (Memᴰ·append-left (drop n (x ∷ xs)) (subst (List·Memᴰ y) e j)))
+      (omega arith, omega arith, λ y j. take-mem n (x ∷ xs) y (subst (List·Memᴰ y) e j))
   groups-mem (suc m) n (x ∷ xs) g h (List·Memᴰ·tail i) =
       let (some, few, sub) = groups-mem m n (drop n (x ∷ xs)) g h i in
-      (some, few, λ y j. subst (List·Memᴰ y) (take-append-drop n (x ∷ xs)) (Memᴰ·append-right (take n (x ∷ xs)) (sub y j)))
+      (some, few, λ y j. drop-mem n (x ∷ xs) y (sub y j))
 
   pub inGroups-mem : (n : ℕ) (xs g : List A) → 0 < n → List·Memᴰ g (inGroups n xs)
       → (1 ≤ length g) × (length g ≤ n) × ((x : A) → List·Memᴰ x g → List·Memᴰ x xs)
