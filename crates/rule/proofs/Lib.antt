@@ -9,6 +9,8 @@
 --     Deliver    one delivery: what it adds, and that its answers weigh less
 --     Half       a half ends, and its deliveries and what waits fit the union
 --   CallLaws   what the calls return, one law a return path; what comes out is in order
+--   Sorted     lists that rise by an order: keys and claims
+--   JoiningLaws  two tables in one, two nodes in one
 --   Words      claims and records as words
 pub mod Cases
 pub mod TableLaws
@@ -20,4 +22,6 @@ pub mod Deliver
 pub mod Half
 pub mod RoundLaws
 pub mod CallLaws
+pub mod Sorted
+pub mod JoiningLaws
 pub mod Words

@@ -68,7 +68,7 @@ pub before-trans : (b c d : Claim) → before b c ≡ true → before c d ≡ tr
 before-trans b c d h g = wordsBefore-trans (ranking b) (ranking c) (ranking d) h g
 
 -- equal words are equal fields
-ranking-same : (c d : Claim) → ranking c ≡ ranking d → same c d ≡ true
+pub ranking-same : (c d : Claim) → ranking c ≡ ranking d → same c d ≡ true
 ranking-same c d e = claim-same c d (claim-ext c d (cc) (cc) (cc) (cc))
 
 pub before-total : (c d : Claim) → before d c ≡ false → same d c ≡ false → before c d ≡ true

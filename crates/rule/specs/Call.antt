@@ -1,4 +1,4 @@
--- What taking a claim, a beat and a round return, for any content of what they are given, and what every lent place holds afterwards: the first
+-- What taking a claim, a beat, a joining and a round return, for any content of what they are given, and what every lent place holds afterwards: the first
 -- question answered no decides, and then the rule. "A refusal returns its number, the given store or node, and zeros for any claim or count. On success,
 -- output past what was written keeps its contents." Assumes nothing.
 use Prim.Native.Nat.{ℕ, _+_, _/_}
@@ -16,9 +16,9 @@ use Rattle.rule.specs.declared.delivery.Delivery.{Delivery}
 use Rattle.rule.specs.declared.answer.Taken.{Taken}
 use Rattle.rule.specs.declared.answer.Beaten.{Beaten}
 use Rattle.rule.specs.declared.answer.Met.{Met}
-use Rattle.rule.specs.Table.{tableWith, serve, sending, beatLimit}
+use Rattle.rule.specs.Table.{tableWith, joinedTable, serve, sending, beatLimit}
 use Rattle.rule.specs.Node.{nodeKeys, pendingOf, nodeOf}
-use Rattle.rule.specs.Round.{Run, roundOf, transcript}
+use Rattle.rule.specs.Round.{union, Run, roundOf, transcript}
 use Rattle.rule.specs.Question.{nodeQuestion1, question8, question9, question15}
 
 -- `take` asks 1, 2 to 5, 16 and 6: "6 doesn't count the middle one" (document 02, slip 1).
@@ -54,6 +54,21 @@ beatenLent n lent =
     settle (firstNo (beatQuestions n lent))
     (putAt lent 0 (claimWords (sending (nodeKeys n) (pendingOf n))))
     (λ x. lent)
+
+-- Two nodes in one (document 02, slip 9): "Its keys are the union. Its pending claims are those of both .." No middle key comes with them.
+abbrev pub joinedNode : Node → Node → Node
+joinedNode n m = nodeOf (union (nodeKeys n) (nodeKeys m)) (joinedTable (pendingOf n) (pendingOf m))
+
+-- A joining asks 1 of the first node, then of the second, then 8, then 15, of the room for an image and the room that one needs: "14 and 1 for the first
+-- image, then for the second, then 8, then 15" (document 02, slip 9). A node has no bytes, and 14 is not asked of it.
+abbrev pub joinQuestions : Node → Node → ℕ → ℕ → List Question
+joinQuestions n m room needed = nodeQuestion1 n ∷ nodeQuestion1 m ∷ question8 (nodeKeys n) (nodeKeys m) ∷ question15 room needed ∷ []
+
+unfoldable pub joined : Node → Node → ℕ → ℕ → Taken
+joined n m room needed =
+    settle (firstNo (joinQuestions n m room needed))
+    (record { number = 0; node = joinedNode n m })
+    (λ x. record { number = x; node = n })
 
 -- `round` asks 1 of the left store and of the right one, 8 and 9, of so many records.
 abbrev pub roundQuestions : Store → Store → ℕ → List Question

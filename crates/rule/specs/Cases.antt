@@ -1,15 +1,16 @@
 -- Worked examples over the call definitions, as one list of rows: document 01's rehearsal, record by record; the middle key of three; a false match; a 65th
--- claim; a beat; nodes in order and not; a claim of three that no store could make. That each row gives what is wanted is one law, `cases-hold` of
+-- claim; a beat; nodes in order and not; a claim of three that no store could make; two nodes in one. That each row gives what is wanted is one law, `cases-hold` of
 -- proofs/Cases. Assumes nothing.
 use Prim.Native.Nat.{ℕ}
 use mathlib.Core.Bool.{Bool, true, false}
 use mathlib.Core.List.{List, [], _∷_, _++_, map}
 use lib.Bits.{bitXor}
-use lib.ListN.{replicate}
+use lib.ListN.{drop, replicate}
 use Rattle.keys.specs.declared.store.Store.{Store}
-use Rattle.keys.specs.Store.{storeOf, emptyStore}
+use Rattle.keys.specs.Store.{limit, storeOf, emptyStore}
 use Rattle.claims.specs.declared.claim.Claim.{Claim}
 use Rattle.claims.specs.Cases.{claim, upFrom}
+use Rattle.claims.specs.Question.{Question, firstNo}
 use Rattle.rule.specs.declared.node.Node.{Node}
 use Rattle.rule.specs.declared.delivery.Delivery.{Delivery}
 use Rattle.rule.specs.declared.answer.Taken.{Taken}
@@ -17,7 +18,7 @@ use Rattle.rule.specs.declared.answer.Beaten.{Beaten}
 use Rattle.rule.specs.declared.answer.Met.{Met}
 use Rattle.rule.specs.Node.{nodeOf, emptyNode, telling, savedInOrder, nodeInOrder}
 use Rattle.rule.specs.Round.{anyFalse}
-use Rattle.rule.specs.Call.{taken, beaten, beatenLent, met, metLent, metWords, roundBy}
+use Rattle.rule.specs.Call.{taken, beaten, beatenLent, joinQuestions, joined, met, metLent, metWords, roundBy}
 
 -- what a row compares
 pub data Compared : Type 0 where
@@ -99,6 +100,17 @@ threeNode = nodeOf (1 ∷ 16 ∷ []) (claim 1 16 19 3 ∷ [])
 abbrev pub faultyNode : Node
 faultyNode = nodeOf (1 ∷ 16 ∷ []) (claim 1 16 5 3 ∷ [])
 
+-- two nodes whose tables have 65 different claims together, 15 of them in both
+abbrev pub lowerNode : Node
+lowerNode = nodeOf (upFrom 0 41) (pairs 1 40)
+
+abbrev pub upperNode : Node
+upperNode = nodeOf (0 ∷ upFrom 26 40) (pairs 26 40)
+
+-- a node with as many keys as there is space for, from 1 on
+abbrev pub packedNode : Node
+packedNode = nodeOf (upFrom 1 limit) []
+
 abbrev pub rows : List Row
 rows =
     -- the rehearsal of document 01: both stores, the count, every record, as records and as words; the places past it keep their contents
@@ -171,4 +183,21 @@ rows =
     -- an image may not hold it where it is out of order or its lo is not held
     ∷ row (truth-is (savedInOrder (nodeOf (1 ∷ 16 ∷ []) (claim 1 16 5 3 ∷ claim 1 16 17 2 ∷ [])))) (truth-is false)
     ∷ row (truth-is (savedInOrder (nodeOf (2 ∷ 16 ∷ []) (claim 1 16 5 3 ∷ [])))) (truth-is false)
+    -- two nodes in one: the keys of both, and the claims of both in table order, an equal one once
+    ∷ row (take-is (joined (nodeOf (1 ∷ 4 ∷ 16 ∷ []) (claim 4 4 4 1 ∷ claim 1 16 20 4 ∷ [])) (nodeOf (1 ∷ 5 ∷ 16 ∷ []) (claim 1 5 4 2 ∷ claim 1 16 20 4 ∷ [])) 9 9))
+    (take-is (record { number = 0; node = nodeOf (1 ∷ 4 ∷ 5 ∷ 16 ∷ []) (claim 4 4 4 1 ∷ claim 1 5 4 2 ∷ claim 1 16 20 4 ∷ []) }))
+    -- .. the first 64 of 65 different claims, whichever node is given first
+    ∷ row (take-is (joined lowerNode upperNode 9 9)) (take-is (record { number = 0; node = nodeOf (upFrom 0 66) (pairs 1 64) }))
+    ∷ row (take-is (joined upperNode lowerNode 9 9)) (take-is (record { number = 0; node = nodeOf (upFrom 0 66) (pairs 1 64) }))
+    -- .. no middle key is added, and a node joined with itself is as it was
+    ∷ row (take-is (joined threeNode emptyNode 9 9)) (take-is (record { number = 0; node = threeNode }))
+    ∷ row (take-is (joined busyNode busyNode 9 9)) (take-is (record { number = 0; node = busyNode }))
+    -- .. asked are 1 and 1, 8, 15, in this order; refused, the first node is as given
+    ∷ row (words-are (map (λ (q : Question). q .number) (joinQuestions threeNode emptyNode 8 9))) (words-are (1 ∷ 1 ∷ 8 ∷ 15 ∷ []))
+    ∷ row (take-is (joined faultyNode threeNode 8 9)) (take-is (record { number = 1; node = faultyNode }))
+    ∷ row (take-is (joined threeNode faultyNode 8 9)) (take-is (record { number = 1; node = threeNode }))
+    ∷ row (take-is (joined threeNode emptyNode 8 9)) (take-is (record { number = 15; node = threeNode }))
+    -- .. 8 of one key too many comes before 15; a key that both hold is none too many
+    ∷ row (words-are (firstNo (drop 2 (joinQuestions (nodeOf (0 ∷ []) []) packedNode 8 9)) ∷ [])) (words-are (8 ∷ []))
+    ∷ row (words-are (firstNo (drop 2 (joinQuestions (nodeOf (5 ∷ []) []) packedNode 8 9)) ∷ [])) (words-are (15 ∷ []))
     ∷ []

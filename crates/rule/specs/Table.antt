@@ -1,5 +1,5 @@
 -- Pending table and beat (document 01, the section of that name; the paper's Algorithm 1, lines 15 to 36): the order of claims, taking one into
--- the table, serving the table. A table is the list of its claims. Not here: the node that has a table (Node), the calls (Call). Assumes nothing.
+-- the table, two tables in one, serving the table. A table is the list of its claims. Not here: the node that has a table (Node), the calls (Call). Assumes nothing.
 use Prim.Native.Nat.{ℕ, _+_, _*_}
 use mathlib.Core.Bool.{Bool, true, false, cond, not, _&&_}
 use mathlib.Core.List.{List, [], _∷_, _++_}
@@ -51,6 +51,15 @@ insertClaim c (d ∷ ds) = cond (before d c) (d ∷ insertClaim c ds) (cond (sam
 -- "then the claim unless an equal one is pending; of 65 the last in order is dropped"
 abbrev pub tableWith : Claim → List Claim → List Claim
 tableWith c t = take tableLimit (insertClaim c t)
+
+-- some claims put in their places, one after the other
+abbrev pub insertClaims : List Claim → List Claim → List Claim
+insertClaims [] t = t
+insertClaims (c ∷ cs) t = insertClaims cs (insertClaim c t)
+
+-- Two tables in one: "Its pending claims are those of both, equal ones once, in table order, the first 64 kept." (document 02, slip 9)
+abbrev pub joinedTable : List Claim → List Claim → List Claim
+joinedTable s t = take tableLimit (insertClaims s t)
 
 -- "Matched and helped claims leave the table; asked ones remain."
 abbrev pub remains : Answer → Bool
