@@ -1,10 +1,10 @@
 -- What follows besides. In order: any beginning of a list that is meant is one, with no more keys entered; at any time in a list with no more different keys
--- entered in all than the limit, no round gets 8 (`never-8`), no delivery of a claim made before is refused (`made-accepted`), and entering gets 6 only when so
+-- entered in all than the limit, no round gets 8 (`never-8`), and a joining gets none but 15 (`joining-asks-15`), no delivery of a claim made before is refused (`made-accepted`), and entering gets 6 only when so
 -- many different keys are entered already and this is none of them (`entering-6`): nothing is turned away for want of space before the limit is really reached.
 -- Then, without that premise: claims once made pass questions 2 to 5 and 16 for ever; both stores stay within their union and lose no key.
 -- Assumes nothing.
 use Prim.Native.Nat.{ℕ, suc, _+_, _≤_}
-use mathlib.Core.Bool.{Bool, true, false}
+use mathlib.Core.Bool.{Bool, true, false, cond}
 use mathlib.Core.List.{List, [], _∷_, _++_, List·Memᴰ, List·Memᴰ·not-nil, Memᴰ·append-left, append-assoc}
 use mathlib.Core.Logic.{⊎-elim}
 use mathlib.Core.Path.{_≡_, refl, sym, ap, _∙_, subst}
@@ -25,18 +25,21 @@ use Rattle.claims.proofs.QuestionLaws.{firstNo-yes, firstNo-no, firstNo-append-
 use Rattle.rule.specs.declared.node.Node.{Node}
 use Rattle.rule.specs.declared.delivery.Delivery.{Delivery}
 use Rattle.rule.specs.Round.{union, leftEnd, rightEnd}
-use Rattle.rule.specs.Question.{nodeQuestion1, question8, question9}
+use Rattle.rule.specs.Node.{nodeKeys}
+use Rattle.rule.specs.Question.{nodeQuestion1, question8, question9, question15}
 use Rattle.rule.specs.Call.{takeQuestions, roundQuestions, roundBy, met}
 use Rattle.rule.proofs.NodeLaws.{ordered-nodeInOrder}
 use Rattle.rule.proofs.Union.{union-rising, union-left, union-right, union-sub}
 use Rattle.rule.proofs.RoundLaws.{Rounded}
 use Rattle.rule.proofs.CallLaws.{met-done, met-refused, roundQuestions-yes, roundYes-rounded}
-use Rattle.meeting.specs.Event.{Event, To, enters, delivers, meets}
+use Rattle.wire.specs.Image.{imageLimit}
+use Rattle.meeting.specs.Event.{Event, To, enters, delivers, meets, joins}
 use Rattle.meeting.specs.World.{World, start, outcome, after, afterAll, numbers, enteredBy, keysEntered}
 use Rattle.meeting.specs.Premise.{AllMeant}
 use Rattle.meeting.specs.Statement.{end, keysIn, enteredIn, different}
 use Rattle.meeting.proofs.Backed.{Backed, backed-passes, backed-ends}
-use Rattle.meeting.proofs.WorldLaws.{numbered, enters-done, enters-refused, replies-done, takes-done, meets-done, meets-refused}
+use Rattle.meeting.proofs.WorldLaws.{numbered, number-by, enters-done, enters-refused, replies-done, takes-done, meets-done, meets-refused}
+use Rattle.meeting.proofs.WorldLaws.{joining, joins-done, joins-refused}
 use Rattle.meeting.proofs.Invariant.{Good}
 use Rattle.meeting.proofs.Theorem.{good-end}
 
@@ -78,13 +81,16 @@ few-before a b es e h =
 
 meets-number : (k m : ℕ) (lent : List Delivery) (kiosks : ℕ → Node) →
     outcome (meets k m lent) kiosks .number ≡ firstNo (roundQuestions (kiosks k .store) (kiosks m .store) (length lent))
-meets-number k m lent kiosks =
-    let n : ℕ = firstNo (roundQuestions (kiosks k .store) (kiosks m .store) (length lent)) in
-    ⊎-elim
-    {C = outcome (meets k m lent) kiosks .number ≡ n}
-    (λ (z : n ≡ 0). numbered (meets-done k m lent kiosks z) ∙ sym z)
-    (λ (f : n ≡ 0 → ⊥). numbered (meets-refused k m lent kiosks f))
-    (eq-or-ne n 0)
+meets-number k m lent kiosks = number-by _ _ kiosks (λ z. numbered (meets-done k m lent kiosks z)) (meets-refused k m lent kiosks)
+
+-- the keys of any two kiosks fit into one store
+good-union : (n : ℕ) (w : World) (ks : List ℕ) → Good n w ks → different ks ≤ limit → (k m : ℕ) → length (union (keysIn w k) (keysIn w m)) ≤ limit
+good-union n w ks g h k m =
+    let u : List ℕ = union (keysIn w k) (keysIn w m) in
+    let p : length u ≤ different ks
+    = length-different u ks (union-rising (keysIn w k) (keysIn w m) (inOrder-rising (w .kiosks m .store) (g .ordered m .store)))
+    (union-sub (keysIn w k) (keysIn w m) ks (g .within k) (g .within m)) in
+    omega arith
 
 good-never-8 : (n : ℕ) (w : World) (ks : List ℕ) → Good n w ks → different ks ≤ limit → (k m : ℕ) (lent : List Delivery) →
     outcome (meets k m lent) (w .kiosks) .number ≡ 8 → ⊥
@@ -102,22 +108,12 @@ good-never-8 n w ks g h k m lent e = go (q9 .yes) refl
     q9 : Question
     q9 = question9 (keysOf s) (keysOf t) (length lent)
 
-    rt : Rising (keysOf t)
-    rt = inOrder-rising t (g .ordered m .store)
-
-    room : length (union (keysOf s) (keysOf t)) ≤ limit
-    room =
-        let p : length (union (keysOf s) (keysOf t)) ≤ different ks
-        = length-different (union (keysOf s) (keysOf t)) ks (union-rising (keysOf s) (keysOf t) rt)
-        (union-sub (keysOf s) (keysOf t) ks (g .within k) (g .within m)) in
-        omega arith
-
     is : firstNo (q9 ∷ []) ≡ 8
     is =
         sym
         (firstNo-yes (question1 s) (question1 t ∷ q8 ∷ q9 ∷ []) (g .ordered k .store)
         ∙ firstNo-yes (question1 t) (q8 ∷ q9 ∷ []) (g .ordered m .store)
-        ∙ firstNo-yes q8 (q9 ∷ []) (le-leb (length (union (keysOf s) (keysOf t))) limit room))
+        ∙ firstNo-yes q8 (q9 ∷ []) (le-leb (length (union (keysOf s) (keysOf t))) limit (good-union n w ks g h k m)))
         ∙ sym (meets-number k m lent (w .kiosks))
         ∙ e
 
@@ -128,6 +124,33 @@ good-never-8 n w ks g h k m lent e = go (q9 .yes) refl
 pub never-8 : (n : ℕ) (es : List Event) → AllMeant n es start → different (enteredIn es) ≤ limit → (before others : List Event) → before ++ others ≡ es →
     (k m : ℕ) (lent : List Delivery) → outcome (meets k m lent) (end before .kiosks) .number ≡ 8 → ⊥
 never-8 n es m h before others e = good-never-8 n (end before) (enteredIn before) (good-before n before others es m e) (few-before before others es e h)
+
+-- ---- a joining is refused only where too few bytes are lent to it
+
+good-joining : (n : ℕ) (w : World) (ks : List ℕ) → Good n w ks → different ks ≤ limit → (k m room : ℕ) →
+    outcome (joins k m room) (w .kiosks) .number ≡ firstNo (question15 room imageLimit ∷ [])
+good-joining n w ks g h k m room =
+    let a : Node = w .kiosks k in
+    let b : Node = w .kiosks m in
+    let q8 : Question = question8 (nodeKeys a) (nodeKeys b) in
+    let q15 : Question = question15 room imageLimit in
+    number-by _ (joining k m room (w .kiosks)) (w .kiosks) (λ z. numbered (joins-done k m room (w .kiosks) z)) (joins-refused k m room (w .kiosks))
+    ∙ firstNo-yes (nodeQuestion1 a) (nodeQuestion1 b ∷ q8 ∷ q15 ∷ []) (ordered-nodeInOrder a (g .ordered k))
+    ∙ firstNo-yes (nodeQuestion1 b) (q8 ∷ q15 ∷ []) (ordered-nodeInOrder b (g .ordered m))
+    ∙ firstNo-yes q8 (q15 ∷ []) (le-leb (length (union (nodeKeys a) (nodeKeys b))) limit (good-union n w ks g h k m))
+
+pub joining-asks-15 : (n : ℕ) (es : List Event) → AllMeant n es start → different (enteredIn es) ≤ limit → (before others : List Event) → before ++ others ≡ es →
+    (k m room : ℕ) → outcome (joins k m room) (end before .kiosks) .number ≡ firstNo (question15 room imageLimit ∷ [])
+joining-asks-15 n es m h before others e = good-joining n (end before) (enteredIn before) (good-before n before others es m e) (few-before before others es e h)
+
+-- so it never gets 8
+pub joining-never-8 : (n : ℕ) (es : List Event) → AllMeant n es start → different (enteredIn es) ≤ limit → (before others : List Event) → before ++ others ≡ es →
+    (k m room : ℕ) → outcome (joins k m room) (end before .kiosks) .number ≡ 8 → ⊥
+joining-never-8 n es m h before others e k m′ room i = go (question15 room imageLimit .yes) (sym (joining-asks-15 n es m h before others e k m′ room) ∙ i)
+  where
+    go : (b : Bool) → _≡_ {A = ℕ} (cond b 0 15) 8 → ⊥
+    go true z = omega (arith, z)
+    go false z = omega (arith, z)
 
 -- ---- no delivery of a claim made before is refused
 
@@ -167,13 +190,7 @@ made-accepted n es m h before others e = good-accepted n (end before) (enteredIn
 -- ---- entering gets 6 only when the limit is really reached
 
 enters-number : (k x : ℕ) (kiosks : ℕ → Node) → outcome (enters k x) kiosks .number ≡ firstNo (enterQuestions (kiosks k .store) x)
-enters-number k x kiosks =
-    let n : ℕ = firstNo (enterQuestions (kiosks k .store) x) in
-    ⊎-elim
-    {C = outcome (enters k x) kiosks .number ≡ n}
-    (λ (z : n ≡ 0). numbered (enters-done k x kiosks z) ∙ sym z)
-    (λ (f : n ≡ 0 → ⊥). numbered (enters-refused k x kiosks f))
-    (eq-or-ne n 0)
+enters-number k x kiosks = number-by _ _ kiosks (λ z. numbered (enters-done k x kiosks z)) (enters-refused k x kiosks)
 
 good-entering-6 : (n : ℕ) (w : World) (ks : List ℕ) → Good n w ks → different ks ≤ limit → (k x : ℕ) → outcome (enters k x) (w .kiosks) .number ≡ 6 →
     (different ks ≡ limit) × (List·Memᴰ x ks → ⊥)

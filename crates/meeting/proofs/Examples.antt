@@ -2,7 +2,7 @@
 -- Assumes nothing.
 use Prim.Native.Nat.{ℕ, _≤_}
 use mathlib.Core.Bool.{true}
-use mathlib.Core.List.{[], _∷_, map, List·Memᴰ·head, List·Memᴰ·tail}
+use mathlib.Core.List.{[], _∷_, _++_, map, List·Memᴰ·head, List·Memᴰ·tail}
 use mathlib.Core.Logic.{inl, inr}
 use mathlib.Core.Path.{_≡_, refl}
 use native.Mathlib.Omega.{arith}
@@ -15,7 +15,7 @@ use Rattle.claims.specs.Reply.{third, answer}
 use Rattle.claims.specs.Call.{judged, judgedFormerly, entered, made, replied}
 use Rattle.rule.specs.Node.{blanks, nodeOf, emptyNode, savedInOrder, nodeInOrder}
 use Rattle.rule.specs.Round.{leftEnd, Entry, run, runAll, half, roundOf}
-use Rattle.rule.specs.Call.{taken, beaten, beatenLent, met, metLent}
+use Rattle.rule.specs.Call.{taken, beaten, beatenLent, joined, met, metLent}
 use Rattle.rule.specs.Cases.{alikeLeft, alikeRight}
 use Rattle.rule.proofs.Half.{opening}
 use Rattle.opening.specs.Cost.{openingCost}
@@ -23,14 +23,14 @@ use Rattle.meeting.specs.World.{start, outcome, afterAll, numbers}
 use Rattle.meeting.specs.Premise.{AllMeant}
 use Rattle.meeting.specs.Statement.{end, keysIn, enteredIn, different, apart, rounds, noneFalse, Demand3}
 use Rattle.meeting.specs.Opening.{afterOpening, BothHold}
-use Rattle.meeting.specs.Examples.{crossing, passedOn, apartThree, threeTurns, tempting, itsEnds, fourAndNone}
+use Rattle.meeting.specs.Examples.{crossing, passedOn, closing, afterClosing, apartThree, threeTurns, tempting, itsEnds, fourAndNone}
 use Rattle.meeting.proofs.Theorem.{every-list-meets}
 use Rattle.meeting.proofs.Meeting.{BothEnd}
 
 -- all that has to be opened to compute with the calls
 opened : Unit {0}
 unfolding zeros storeOf emptyStore inOrder putAt third answer judged judgedFormerly entered made replied blanks nodeOf emptyNode savedInOrder
-    nodeInOrder run runAll half roundOf taken beaten beatenLent met metLent outcome
+    nodeInOrder run runAll half roundOf taken beaten beatenLent joined met metLent outcome
 opened = tt
 
 zero-one : _≡_ {A = ℕ} 0 1 → ⊥
@@ -111,6 +111,81 @@ passedOn-keys = refl
 
 pub passedOn-demand3 : Demand3 3 passedOn
 passedOn-demand3 = every-list-meets 3 passedOn passedOn-meant passedOn-few
+
+-- ---- a list in which a branch closes, and its card is joined into another kiosk's
+
+pub closing-meant : AllMeant 3 (closing ++ afterClosing) start
+unfolding opened
+closing-meant =
+    let k0 = lit< tt in
+    let k1 = lit< tt in
+    let k2 = lit< tt in
+    let one = inl (List·Memᴰ·head refl) in
+    let both = inl (List·Memᴰ·tail (List·Memᴰ·head refl)) in (
+      k0,
+      (
+        k0,
+        (
+          k0,
+          (
+            k0,
+            (
+              k1,
+              (
+                (k1, one),
+                (
+                  k2,
+                  (
+                    k2,
+                    (
+                      (k2, both),
+                      (
+                        (k1, k2),
+                        (
+                          (k1, k2),
+                          ((k1, both), (k1, (k2, ((k0, k1, zero-one), ((k0, k2), tt))))),
+                        ),
+                      ),
+                    ),
+                  ),
+                ),
+              ),
+            ),
+          ),
+        ),
+      ),
+    )
+
+pub closing-few : different (enteredIn (closing ++ afterClosing)) ≤ limit
+unfolding opened
+closing-few = lit≤ tt
+
+-- one byte too few is 15; all others are carried out
+pub closing-numbers : numbers closing start ≡ 0 ∷ 0 ∷ 0 ∷ 0 ∷ 0 ∷ 0 ∷ 0 ∷ 0 ∷ 0 ∷ 15 ∷ 0 ∷ []
+unfolding opened
+closing-numbers = refl
+
+-- kiosk 1 has the keys of both and the claims of both
+pub closing-joined : end closing .kiosks 1 ≡ nodeOf (3 ∷ 4 ∷ 5 ∷ 7 ∷ 9 ∷ []) (claim 5 5 5 1 ∷ claim 5 7 2 2 ∷ [])
+unfolding opened
+closing-joined = refl
+
+-- the other stays as it is: kiosk 2 still has its keys and its table
+pub closing-other : end closing .kiosks 2 ≡ nodeOf (3 ∷ 5 ∷ 7 ∷ 9 ∷ []) (claim 5 7 2 2 ∷ [])
+unfolding opened
+closing-other = refl
+
+-- afterwards a late claim, a beat and a round bring all to kiosk 0 that kiosk 1 has, and a second joining what came to kiosk 2 since
+pub closing-numbers-after : numbers afterClosing (end closing) ≡ 0 ∷ 0 ∷ 0 ∷ 0 ∷ 0 ∷ []
+unfolding opened
+closing-numbers-after = refl
+
+pub closing-keys : map (keysIn (end (closing ++ afterClosing))) (0 ∷ 1 ∷ 2 ∷ []) ≡ (1 ∷ 3 ∷ 4 ∷ 5 ∷ 7 ∷ 9 ∷ []) ∷ (3 ∷ 4 ∷ 5 ∷ 7 ∷ 9 ∷ []) ∷ (1 ∷ 3 ∷ 5 ∷ 7 ∷ 9 ∷ []) ∷ []
+unfolding opened
+closing-keys = refl
+
+pub closing-demand3 : Demand3 3 (closing ++ afterClosing)
+closing-demand3 = every-list-meets 3 (closing ++ afterClosing) closing-meant closing-few
 
 -- ---- two kiosks that differ in three keys, and three rounds of them
 

@@ -23,23 +23,26 @@ use Rattle.claims.proofs.QuestionLaws.{passes}
 use Rattle.claims.proofs.ReplyLaws.{hear-rising, hear-old, hear-sub, hear-fits}
 use Rattle.rule.specs.declared.node.Node.{Node}
 use Rattle.rule.specs.declared.delivery.Delivery.{Delivery}
-use Rattle.rule.specs.Table.{serve, sending, tableWith}
+use Rattle.rule.specs.Table.{serve, sending, tableWith, joinedTable}
 use Rattle.rule.specs.Node.{nodeKeys, pendingOf, nodeOf}
 use Rattle.rule.specs.Round.{union, leftEnd, rightEnd, Line}
-use Rattle.rule.specs.Call.{takeQuestions, beatQuestions, roundQuestions, roundBy}
+use Rattle.rule.specs.Call.{takeQuestions, beatQuestions, joinedNode, roundQuestions, roundBy}
 use Rattle.rule.proofs.NodeLaws.{Ordered, restored, ordered-restored, nodeKeys-nodeOf, store-nodeOf, emptyNode-nodeOf, ordered-emptyNode}
-use Rattle.rule.proofs.Union.{union-sub}
+use Rattle.rule.proofs.Union.{union-sub, union-left}
 use Rattle.rule.proofs.RoundLaws.{Rounded}
 use Rattle.rule.proofs.CallLaws.{TakeYes, takeQuestions-yes, ordered-taken, ordered-beaten, length-nodeKeys}
 use Rattle.rule.proofs.CallLaws.{length-pendingOf, RoundYes, roundQuestions-yes, roundYes-rounded}
-use Rattle.meeting.specs.Event.{Event, To, enters, makes, delivers, beats, meets}
+use Rattle.rule.proofs.JoiningLaws.{JoinYes, joinQuestions-yes, ordered-joined}
+use Rattle.wire.specs.Image.{imageLimit}
+use Rattle.meeting.specs.Event.{Event, To, enters, makes, delivers, beats, meets, joins}
 use Rattle.meeting.specs.World.{World, start, withNode, withStore, Outcome, outcome, after, afterAll, numbers, enteredBy, keysEntered}
 use Rattle.meeting.specs.Premise.{Refused, Meant, AllMeant}
 use Rattle.meeting.specs.Statement.{keysIn, InSome}
 use Rattle.meeting.proofs.Backed.{Backed, backed-sub, backed-adding, claimOf-backed, reply-backed, sending-backed, round-backed}
 use Rattle.meeting.proofs.WorldLaws.{numbered, refusal, withNode-each, withNode-here, withNode-there, EnterYes, enterQuestions-yes, enters-done}
 use Rattle.meeting.proofs.WorldLaws.{enters-refused, MakeYes, makeQuestions-yes, makes-done, makes-refused, ReplyYes, replyQuestions-yes, replies-done}
-use Rattle.meeting.proofs.WorldLaws.{replies-refused, takes-done, takes-refused, beats-done, beats-refused, meets-done, meets-refused, enteredBy-refused}
+use Rattle.meeting.proofs.WorldLaws.{replies-refused, takes-done, takes-refused, beats-done, beats-refused, meets-done, meets-refused}
+use Rattle.meeting.proofs.WorldLaws.{joining, joins-done, joins-refused, enteredBy-refused}
 
 -- ---- the invariant
 
@@ -346,6 +349,28 @@ module _ (n : ℕ) (w : World) (ks : List ℕ) (g : Good n w ks) where
           (withNode-each (λ (j : ℕ) (x : Node). Grew ks (w .kiosks j) x) m (restored (kiosks′ m) (storeOf r)) kiosks′ second first)
           (lines-backed (roundBy s t .lines) (round-backed (keysOf s) (keysOf t) (inOrder-rising s (y .left)) (inOrder-rising t (y .right)) (y .fits))))
 
+  good-joins : (k m room : ℕ) → GoodAfter n w ks (joins k m room)
+  good-joins k m room = good-settled n w ks (joins k m room) (joining k m room (w .kiosks)) g (joins-refused k m room (w .kiosks)) done
+    where
+      a : Node
+      a = w .kiosks k
+
+      b : Node
+      b = w .kiosks m
+
+      o : Outcome
+      o = record { number = 0; kiosks = withNode k (joinedNode a b) (w .kiosks); claims = [] }
+
+      done : joining k m room (w .kiosks) ≡ 0 → GoodAfter n w ks (joins k m room)
+      done z =
+          let y : JoinYes a b = joinQuestions-yes a b room imageLimit z in
+          good-after n w ks (joins k m room) o (joins-done k m room (w .kiosks) z) refl
+          (good-next n w ks o g
+          (grew-one n w ks ks g (sub-refl ks) k (joinedNode a b)
+          (grew-nodeOf ks a (union (nodeKeys a) (nodeKeys b)) (joinedTable (pendingOf a) (pendingOf b)) (ordered-joined a b y)
+          (union-left (nodeKeys a) (nodeKeys b)) (union-sub (nodeKeys a) (nodeKeys b) ks (g .within k) (g .within m))))
+          (λ c i. absurd (List·Memᴰ·not-nil i)))
+
 -- ---- one event, from any world that meets the invariant
 
 pub good-step : (n : ℕ) (w : World) (ks : List ℕ) (e : Event) → Good n w ks → Meant n e w → GoodAfter n w ks e
@@ -355,6 +380,7 @@ good-step n w ks (delivers k To.reply c) g m = good-replies n w ks g k c (m .1)
 good-step n w ks (delivers k To.table c) g m = good-takes n w ks g k c (m .1)
 good-step n w ks (beats k lent) g m = good-beats n w ks g k lent
 good-step n w ks (meets k j lent) g m = good-meets n w ks g k j lent (m .2)
+good-step n w ks (joins k j room) g m = good-joins n w ks g k j room
 
 -- ---- a list of events
 

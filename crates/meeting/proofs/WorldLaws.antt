@@ -26,9 +26,11 @@ use Rattle.rule.specs.declared.delivery.Delivery.{Delivery}
 use Rattle.rule.specs.Table.{tableWith, serve, sending}
 use Rattle.rule.specs.Node.{nodeKeys, pendingOf, nodeOf}
 use Rattle.rule.specs.Round.{Line, transcript}
-use Rattle.rule.specs.Call.{takeQuestions, claimWords, beatQuestions, roundQuestions, roundBy}
+use Rattle.rule.specs.Call.{takeQuestions, claimWords, beatQuestions, joinedNode, joinQuestions, joined, roundQuestions, roundBy}
 use Rattle.rule.proofs.CallLaws.{claimQuestions-6, taken-done, taken-refused, beaten-done, beaten-refused, beatenLent-done, met-done, met-refused, metLent-done}
-use Rattle.meeting.specs.Event.{Event, To, enters, makes, delivers, beats, meets}
+use Rattle.rule.proofs.JoiningLaws.{joined-done, joined-refused}
+use Rattle.wire.specs.Image.{imageLimit}
+use Rattle.meeting.specs.Event.{Event, To, enters, makes, delivers, beats, meets, joins}
 use Rattle.meeting.specs.World.{withNode, withStore, Outcome, readClaims, readRecords, outcome, enteredBy}
 
 -- ---- one kiosk's node replaced
@@ -216,7 +218,32 @@ meets-refused k m lent kiosks f =
     (ap (λ (g : ℕ → Node). refusal (firstNo (roundQuestions s t (length lent))) (withStore m t g)) (withStore-same k kiosks)
     ∙ ap (refusal (firstNo (roundQuestions s t (length lent)))) (withStore-same m kiosks))
 
+-- ---- a joining
+
+module _ (k m room : ℕ) (kiosks : ℕ → Node) where
+  -- its questions
+  abbrev pub joining : ℕ
+  joining = firstNo (joinQuestions (kiosks k) (kiosks m) room imageLimit)
+
+  pub joins-done : joining ≡ 0 →
+      outcome (joins k m room) kiosks ≡ record { number = 0; kiosks = withNode k (joinedNode (kiosks k) (kiosks m)) kiosks; claims = [] }
+  unfolding outcome
+  joins-done h = rw (joined-done (kiosks k) (kiosks m) room imageLimit h)
+
+  pub joins-refused : (joining ≡ 0 → ⊥) → outcome (joins k m room) kiosks ≡ refusal joining kiosks
+  unfolding outcome
+  joins-refused f = rw (joined-refused (kiosks k) (kiosks m) room imageLimit f) (ap (refusal joining) (withNode-same k kiosks))
+
+  -- "the other stays as it is" (document 02, slip 9), and so does every kiosk but the one joined into, whether or not the joining is refused
+  pub joins-others : (j : ℕ) → (j ≡ k → ⊥) → outcome (joins k m room) kiosks .kiosks j ≡ kiosks j
+  unfolding outcome
+  joins-others j f = withNode-there k j (joined (kiosks k) (kiosks m) room imageLimit .node) kiosks f
+
 -- ---- a refused call
+
+-- one call: its number is that of its questions
+pub number-by : (o : Outcome) (n : ℕ) (kiosks : ℕ → Node) → (n ≡ 0 → o .number ≡ 0) → ((n ≡ 0 → ⊥) → o ≡ refusal n kiosks) → o .number ≡ n
+number-by o n kiosks d f = ⊎-elim {C = o .number ≡ n} (λ (z : n ≡ 0). d z ∙ sym z) (λ (g : n ≡ 0 → ⊥). numbered (f g)) (eq-or-ne n 0)
 
 -- one call: it is refused just where its questions say so
 refused-by : (o : Outcome) (n : ℕ) (kiosks : ℕ → Node) → (n ≡ 0 → o .number ≡ 0) → ((n ≡ 0 → ⊥) → o ≡ refusal n kiosks) →
@@ -249,6 +276,9 @@ outcome-refused (beats k lent) kiosks =
 outcome-refused (meets k m lent) kiosks =
     refused-by (outcome (meets k m lent) kiosks) (firstNo (roundQuestions (kiosks k .store) (kiosks m .store) (length lent))) kiosks
     (λ z. numbered (meets-done k m lent kiosks z)) (meets-refused k m lent kiosks)
+outcome-refused (joins k m room) kiosks =
+    refused-by (outcome (joins k m room) kiosks) (joining k m room kiosks) kiosks
+    (λ z. numbered (joins-done k m room kiosks z)) (joins-refused k m room kiosks)
 
 -- a refused call enters no key
 pub enteredBy-refused : (e : Event) (n : ℕ) → (n ≡ 0 → ⊥) → enteredBy e n ≡ []
@@ -257,3 +287,4 @@ enteredBy-refused (makes k i j) n f = refl
 enteredBy-refused (delivers k to c) n f = refl
 enteredBy-refused (beats k lent) n f = refl
 enteredBy-refused (meets k m lent) n f = refl
+enteredBy-refused (joins k m room) n f = refl

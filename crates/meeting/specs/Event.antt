@@ -20,3 +20,5 @@ pub data Event : Type 0 where
   beats : (kiosk : ℕ) → List ℕ → Event
   -- "a round of two different kiosks", the left one first, with the records lent to it
   meets : (left right : ℕ) → List Delivery → Event
+  -- "such a joining of two of its kiosks, as they then stand, into one of them" (document 02, slip 9), with so many bytes lent to it for the image
+  joins : (into from room : ℕ) → Event

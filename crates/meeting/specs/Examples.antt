@@ -7,7 +7,7 @@ use Rattle.claims.specs.Cases.{claim}
 use Rattle.rule.specs.declared.delivery.Delivery.{Delivery}
 use Rattle.rule.specs.Round.{Pair, pair}
 use Rattle.rule.specs.Cases.{stale}
-use Rattle.meeting.specs.Event.{Event, To, enters, makes, delivers, beats, meets}
+use Rattle.meeting.specs.Event.{Event, To, enters, makes, delivers, beats, meets, joins}
 use Rattle.meeting.specs.Statement.{Turn, straight, turned}
 
 -- so many records lent, with something in them
@@ -49,6 +49,28 @@ passedOn =
     ∷ beats 2 (replicate 67 7)
     ∷ delivers 0 To.reply (claim 8 8 8 1)
     ∷ []
+
+-- Three kiosks, of which kiosk 2's branch closes: it holds 3 and 9, and has the claim of both of kiosk 0's keys pending. Its card goes to kiosk 1, which has a
+-- claim of kiosk 0 pending too, and is refused once, by one byte too few. Kiosk 2 stays as it is. What kiosk 0 claimed arrives late, and kiosk 1 beats and meets
+-- kiosk 0 afterwards.
+abbrev pub closing : List Event
+closing =
+    enters 0 5
+    ∷ makes 0 0 0
+    ∷ enters 0 7
+    ∷ makes 0 0 1
+    ∷ enters 1 4
+    ∷ delivers 1 To.table (claim 5 5 5 1)
+    ∷ enters 2 3
+    ∷ enters 2 9
+    ∷ delivers 2 To.table (claim 5 7 2 2)
+    ∷ joins 1 2 18051
+    ∷ joins 1 2 18052
+    ∷ []
+
+-- .. and what comes after the card was read
+abbrev pub afterClosing : List Event
+afterClosing = delivers 1 To.reply (claim 5 7 2 2) ∷ beats 1 (replicate 68 7) ∷ enters 2 1 ∷ meets 0 1 (lentRecords 10) ∷ joins 0 2 20000 ∷ []
 
 -- the stores of document 01's rehearsal, entered key by key, with 0 and 10 brought over by a round
 abbrev pub apartThree : List Event

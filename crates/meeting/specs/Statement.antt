@@ -11,7 +11,7 @@ use Rattle.rule.specs.declared.delivery.Delivery.{Delivery}
 use Rattle.rule.specs.Node.{nodeInOrder, nodeKeys}
 use Rattle.rule.specs.Round.{union, anyFalse}
 use Rattle.rule.specs.Call.{met, roundBy}
-use Rattle.meeting.specs.Event.{Event, enters, makes, delivers, beats, meets}
+use Rattle.meeting.specs.Event.{Event, enters, makes, delivers, beats, meets, joins}
 use Rattle.meeting.specs.World.{World, start, after, afterAll, numbers, keysEntered}
 
 -- the keys of kiosk k's store
@@ -59,6 +59,7 @@ falseIn (makes k i j) w = false
 falseIn (delivers k to c) w = false
 falseIn (beats k lent) w = false
 falseIn (meets k m lent) w = anyFalse (roundBy (w .kiosks k .store) (w .kiosks m .store) .lines)
+falseIn (joins k m room) w = false
 
 abbrev pub noneFalse : List Event → World → Bool
 noneFalse [] w = true

@@ -14,8 +14,9 @@ use Rattle.claims.specs.Words.{claimWidth, fromWords}
 use Rattle.rule.specs.declared.node.Node.{Node}
 use Rattle.rule.specs.declared.delivery.Delivery.{Delivery}
 use Rattle.rule.specs.Node.{emptyNode}
-use Rattle.rule.specs.Call.{taken, beaten, beatenLent, met, metLent}
-use Rattle.meeting.specs.Event.{Event, To, enters, makes, delivers, beats, meets}
+use Rattle.rule.specs.Call.{taken, beaten, beatenLent, joined, met, metLent}
+use Rattle.wire.specs.Image.{imageLimit}
+use Rattle.meeting.specs.Event.{Event, To, enters, makes, delivers, beats, meets, joins}
 
 -- Each kiosk's node, and "the claims made .. as they were then". A list of events of n kiosks names those below n (Premise), and changes no other.
 pub record World : Type 0 where
@@ -74,6 +75,9 @@ outcome (meets k m lent) kiosks =
       kiosks = withStore m (a .right) (withStore k (a .left) kiosks);
       claims = readRecords (a .deliveries) (metLent (kiosks k .store) (kiosks m .store) lent);
     }
+outcome (joins k m room) kiosks =
+    let a = joined (kiosks k) (kiosks m) room imageLimit in
+    record { number = a .number; kiosks = withNode k (a .node) kiosks; claims = [] }
 
 -- "Each call gets the kiosks as the events before it left them, and nothing else writes them meanwhile."
 abbrev pub after : Event → World → World
@@ -95,6 +99,7 @@ enteredBy (makes k i j) n = []
 enteredBy (delivers k to c) n = []
 enteredBy (beats k lent) n = []
 enteredBy (meets k m lent) n = []
+enteredBy (joins k m room) n = []
 
 -- the keys entered by events that gave these answers
 abbrev pub keysEntered : List Event → List ℕ → List ℕ
