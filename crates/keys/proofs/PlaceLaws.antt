@@ -1,13 +1,13 @@
 -- Laws of specs/Place, what a lent run holds once something is written at a place of it: nothing written, a block right after a block in either
--- order, one element, stores one after the other; written to the beginning; over a run of one value; and what a slice of a run holds. Assumes nothing.
+-- order, one element, stores one after the other; a run copied; written to the beginning; over a run of one value; and what a slice of a run holds. Assumes nothing.
 use Prim.Native.Nat.{ℕ, zero, suc, _+_, _-_, _≤_, _<_}
 use native.Mathlib.Nat.{add-assoc, sub-zero, zero-sub, suc-sub-suc}
 use native.Mathlib.Numerals.{add-one}
 use native.Mathlib.Omega.{arith}
-use mathlib.Core.Path.{_≡_, refl, _∙_}
+use mathlib.Core.Path.{_≡_, refl, sym, ap, _∙_}
 use mathlib.Core.List.{List, [], _∷_, _++_, append-assoc}
 use lib.ListN.{length, take, drop, getD, set, replicate, length-append, length-take, length-drop, take-append-drop}
-use lib.Seq.{take-all, take-take, take-append-le, sets, sets-eq, set-split, drop-drop, drop-cons, set-at, take-at, drop-at, drop-append-add}
+use lib.Seq.{take-all, take-take, take-suc, length-take-le, take-append-le, sets, sets-eq, set-split, drop-drop, drop-cons, set-at, take-at, drop-at, drop-append-add}
 use Rattle.keys.specs.Place.{putAt}
 
 module _ {A : Type 0} where
@@ -81,6 +81,23 @@ module _ {A : Type 0} where
   -- stores one after the other
   pub sets-putAt : (s : List A) (at : ℕ) (bs : List A) → at + length bs ≤ length s → sets s at bs ≡ putAt s at bs
   sets-putAt s at bs h = rw putAt-past (sets-eq bs s at h ∙ append-assoc (take at s) bs (drop (at + length bs) s))
+
+  -- ---- a run copied to a place, one element after the other: before the first, with one more, and when all are there
+
+  pub copy-none : (s : List A) (at : ℕ) → s ≡ putAt s at []
+  copy-none s at = sym (putAt-nil s at)
+
+  module _ (s : List A) (at : ℕ) (run t : List A) (i : ℕ) (so : t ≡ putAt s at (take i run)) where
+    pub copy-more : (d : A) → i < length run → at + length run ≤ length s → set t (at + i) (getD run i d) ≡ putAt s at (take (i + 1) run)
+    copy-more d h p =
+        let n : length (take i run) ≡ i = length-take-le i run (omega arith) in
+        let long : length (putAt s at (take i run)) ≡ length s = length-putAt s at (take i run) (omega arith) in
+        rw so
+        (putAt-one (putAt s at (take i run)) (at + i) (getD run i d) (omega arith)
+        ∙ (putAt-append s at (take i run) (getD run i d ∷ []) i n (omega arith) ∙ rw (add-one, take-suc run i d)))
+
+    pub copy-all : length run ≤ i → t ≡ putAt s at run
+    copy-all k = so ∙ ap (putAt s at) (take-all i run k)
 
   -- ---- written to the beginning
 

@@ -1,32 +1,15 @@
--- One law for each way that src/bytes.rt goes: bytes copied one after another, to a place that has room; there is none; there is. Assumes nothing.
+-- One law for each way that src/bytes.rt goes: there is no room for some bytes, or there is. Copying them is `copy-more` of `keys`, proofs/PlaceLaws.
+-- Assumes nothing.
 use Prim.Native.Nat.{ℕ, _+_, _-_, _≤_, _<_}
-use native.Mathlib.Numerals.{add-one}
 use native.Mathlib.Omega.{arith}
-use mathlib.Core.List.{List, [], _∷_}
+use mathlib.Core.List.{List}
 use mathlib.Core.Path.{_≡_, ap, sym, _∙_}
-use lib.ListN.{length, take, getD, set}
-use lib.Seq.{take-all, take-suc, length-take-le}
+use lib.ListN.{length}
 use Rattle.keys.specs.Place.{putAt}
-use Rattle.keys.proofs.PlaceLaws.{length-putAt, putAt-nil, putAt-append, putAt-one}
 use Rattle.text.specs.Put.{putFrom, endFrom}
 use Rattle.text.proofs.PutLaws.{from-room, from-none}
 
 module _ (s : List ℕ) (at : ℕ) where
-  pub bytes-none : s ≡ putAt s at []
-  bytes-none = sym (putAt-nil s at)
-
-  module _ (bs t : List ℕ) (i : ℕ) (so : t ≡ putAt s at (take i bs)) where
-    pub bytes-more : i < length bs → at + length bs ≤ length s → set t (at + i) (getD bs i 0) ≡ putAt s at (take (i + 1) bs)
-    bytes-more h p =
-        let n : length (take i bs) ≡ i = length-take-le i bs (omega arith) in
-        let long : length (putAt s at (take i bs)) ≡ length s = length-putAt s at (take i bs) (omega arith) in
-        rw so
-        (putAt-one (putAt s at (take i bs)) (at + i) (getD bs i 0) (omega arith)
-        ∙ (putAt-append s at (take i bs) (getD bs i 0 ∷ []) i n (omega arith) ∙ rw (add-one, take-suc bs i 0)))
-
-    pub bytes-all : length bs ≤ i → t ≡ putAt s at bs
-    bytes-all k = so ∙ ap (putAt s at) (take-all i bs k)
-
   -- ---- a text: where there is no room at all, or too little for its n characters, or enough
 
   module _ (text : List ℕ) where

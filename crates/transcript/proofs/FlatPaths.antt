@@ -1,18 +1,20 @@
 -- A round on words (src/flat.rt): one law for each way that the code goes, over the definitions of specs/Core, and for `round_words` over those of `rule`,
--- specs/Call. `union_count` has a file of its own (UnionCount). In order of the code. Assumes nothing.
+-- specs/Call. In order of the code. Assumes nothing.
 use Prim.Native.Nat.{ℕ, _+_, _-_, _*_, _≤_, _<_}
 use mathlib.Core.Bool.{Bool, true, false, not}
 use mathlib.Core.List.{List}
 use mathlib.Core.Path.{_≡_, refl, sym, ap, ap₂, _∙_, subst}
 use native.Mathlib.Omega.{arith}
 use borrow.Author.Tests.{le-leb, lt-leb, eq-eqb, ne-eqb, not-true, not-false}
+use lib.Dec.{ltb}
 use lib.ListN.{length, take, length-map}
 use lib.Seq.{length-take-le}
 use Rattle.keys.specs.declared.store.Store.{Store}
-use Rattle.keys.specs.Store.{limit, Sized, rising, keysOf}
+use Rattle.keys.specs.Store.{limit, Sized, keysOf}
 use Rattle.keys.specs.Lent.{orderedIn, summedIn, resummed, storeBy, Marked, markedAll, finishIn}
+use Rattle.keys.proofs.Rising.{Rising, rising-true}
 use Rattle.keys.proofs.StoreLaws.{inOrder-rising, storeOf-keysOf}
-use Rattle.keys.proofs.LentLaws.{summedIn-inOrder, summedIn-ordered, orderedIn-long, orderedIn-rising, orderedIn-short}
+use Rattle.keys.proofs.LentLaws.{summedIn-inOrder, summedIn-ordered, orderedIn-long, orderedIn-rising}
 use Rattle.claims.specs.declared.answer.Made.{Made}
 use Rattle.claims.specs.declared.claim.Claim.{Claim}
 use Rattle.claims.specs.declared.lent.Told.{Told}
@@ -23,6 +25,8 @@ use Rattle.rule.specs.declared.answer.Met.{Met}
 use Rattle.rule.specs.Round.{union, Line, transcript}
 use Rattle.rule.specs.Call.{roundQuestions, roundBy, met, recordsIn, metWords}
 use Rattle.rule.proofs.CallLaws.{RoundYes, roundQuestions-yes, met-done, met-refused, metWords-done, metWords-refused}
+use Rattle.merging.specs.Merge.{merged}
+use Rattle.merging.proofs.MergeLaws.{merged-union}
 use Rattle.transcript.specs.declared.flat.Held.{Held}
 use Rattle.transcript.specs.declared.flat.Reached.{Reached}
 use Rattle.transcript.specs.Core.{senderIn, claimIn, Log, logWith, putRecord, putRecords, putWhole}
@@ -40,13 +44,10 @@ module _ (keys sums : List ℕ) (count : ℕ) (a : Bool) (said : a ≡ summedIn 
   pub found-long : count ≡ length (take count keys)
   found-long = sym (length-take-le count keys (orderedIn-long keys count in-order))
 
-  pub found-rising : rising (take count keys) ≡ true
-  found-rising = orderedIn-rising keys count in-order
+  found-rising : Rising (take count keys)
+  found-rising = rising-true (take count keys) (orderedIn-rising keys count in-order)
 
-  pub found-short : length (take count keys) ≤ limit
-  found-short = orderedIn-short keys count in-order
-
--- a and b are what `summed_in` said of the left store and of the right one, n what `union_count` counted
+-- a and b are what `summed_in` said of the left store and of the right one, n what `union_count_in` counted
 module _ (left left-sums : List ℕ) (left-count : ℕ) (right right-sums : List ℕ) (right-count : ℕ) (records : ℕ)
     (a : Bool) (said-a : a ≡ summedIn left left-sums left-count) where
   -- the questions' number
@@ -62,7 +63,14 @@ module _ (left left-sums : List ℕ) (left-count : ℕ) (right right-sums : List
     unfolding asked
     asked-right f = rw (← said-a, not-false a yes-a, ← said-b, not-true b f)
 
-    module _ (yes-b : not b ≡ false) (n : ℕ) (counted : n ≡ length (union (take left-count left) (take right-count right))) where
+    module _ (yes-b : not b ≡ false) (n : ℕ) (merged-count : n ≡ length (merged ltb (take left-count left) (take right-count right))) where
+      counted : n ≡ length (union (take left-count left) (take right-count right))
+      counted =
+          merged-count
+          ∙ ap length
+          (merged-union (take left-count left) (take right-count right) (found-rising left left-sums left-count a said-a yes-a)
+          (found-rising right right-sums right-count b said-b yes-b))
+
       pub asked-8 : limit < n → 8 ≡ number
       unfolding asked
       asked-8 h = rw (← said-a, not-false a yes-a, ← said-b, not-false b yes-b, ← counted, lt-leb n limit h)

@@ -8,6 +8,7 @@ use claims::reply_in;
 use keys::Store;
 use keys::resum_in;
 use keys::summed_in;
+use merging::union_count_in;
 use rule::Met;
 use words::claim_at;
 ghost use mathlib.Core.Path.{_≡_};
@@ -15,8 +16,6 @@ ghost use mathlib.Core.Bool.{true};
 ghost use Prim.Native.Nat.{_≤_, _<_};
 ghost use lib.ListN.{length};
 ghost use Rattle.keys.specs.Lent.{storeBy, markedAll, finishIn};
-ghost use Rattle.keys.specs.Store.{limit, rising};
-ghost use Rattle.rule.specs.Round.{union};
 ghost use Rattle.rule.specs.Call.{met, recordsIn, metWords};
 ghost use Rattle.transcript.specs.Core.{logWith, putWhole, step, finish, settled, opened, reopened, both, asked, markedBy, coreBy, Stepped};
 
@@ -31,30 +30,6 @@ pub struct Reached {
     pub left: Held,
     pub right: Held,
     pub tail: usize,
-}
-
-// How many keys the union of two rising runs has. Two that meet hold mostly the same keys, so equal ones come first.
-fn union_count(left: &[u64], right: &[u64]) -> usize
-    requires { ⌜ (rising (now left) ≡ true) × (rising (now right) ≡ true) × (length (now left) ≤ limit) × (length (now right) ≤ limit) ⌝ }
-    ensures { λ r. ⌜ r ≡ length (union (now (left .entry)) (now (right .entry))) ⌝ }
-{
-    let mut i = 0;
-    let mut j = 0;
-    let mut n = 0;
-    while i < left.len() && j < right.len() {
-        let a = left[i];
-        let b = right[j];
-        if a == b {
-            i += 1;
-            j += 1;
-        } else if a < b {
-            i += 1;
-        } else {
-            j += 1;
-        }
-        n += 1;
-    }
-    n + (left.len() - i) + (right.len() - j)
 }
 
 // The questions of a round, 1 (left, then right), 8 and 9: the number of the first answered no, or 0.
@@ -76,7 +51,7 @@ fn asked<'a>(
     if !summed_in(right, right_sums, right_count) {
         return 1;
     }
-    let n = union_count(&left[..left_count], &right[..right_count]);
+    let n = union_count_in(&left[..left_count], &right[..right_count]);
     if Store::LIMIT < n {
         return 8;
     }

@@ -4,7 +4,7 @@ use Prim.Native.Nat.{_-_, _≤_}
 use mathlib.Core.Path.{_≡_}
 use lib.ListN.{length, take}
 use Rattle.keys.specs.Place.{putAt}
-use Rattle.text.proofs.BytesPaths.{bytes-none, bytes-more, bytes-all}
+use Rattle.keys.proofs.PlaceLaws.{copy-none, copy-more, copy-all}
 use Rattle.text.proofs.bytes.copy_to.Statement.{statement}
 use Rattle.text.proofs.bytes.copy_to.Tie as tie
 
@@ -15,7 +15,7 @@ abbrev μ-loop : tie.MeasureT-loop
 μ-loop out₀ at bytes i₀ out i = length bytes - i
 
 loop-holds : tie.Need-loop-holds Inv-loop μ-loop
-loop-holds c = search (needs, bytes-none)
+loop-holds c = search (needs, copy-none)
 
 shared-slice-read-out : tie.Need-shared-slice-read-out Inv-loop μ-loop
 shared-slice-read-out c = search needs
@@ -33,13 +33,13 @@ loop-less : tie.Need-loop-less Inv-loop μ-loop
 loop-less c = search needs
 
 loop-again : tie.Need-loop-again Inv-loop μ-loop
-loop-again c = search (needs, bytes-more)
+loop-again c = search (needs, copy-more)
 
 same-length : tie.Need-same-length Inv-loop μ-loop
 same-length c = search needs
 
 returns : tie.Need-returns Inv-loop μ-loop
-returns c = search bytes-all
+returns c = search copy-all
 
 pub copy-to-spec : {M : Type 1} → statement M
 copy-to-spec =

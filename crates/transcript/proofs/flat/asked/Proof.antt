@@ -1,6 +1,6 @@
 -- `transcript::flat::asked` meets its contract. Assumes nothing.
 use borrow.Author.Needs.{needs}
-use Rattle.transcript.proofs.FlatPaths.{found-long, found-rising, found-short, asked-left, asked-right, asked-8, asked-9, asked-0}
+use Rattle.transcript.proofs.FlatPaths.{found-long, asked-left, asked-right, asked-8, asked-9, asked-0}
 use Rattle.transcript.proofs.flat.asked.Statement.{statement}
 use Rattle.transcript.proofs.flat.asked.Tie as tie
 
@@ -16,14 +16,14 @@ summed-in-requires-2 c κs = search needs
 returns-2 : tie.Need-returns-2
 returns-2 c = search asked-right
 
-slice-aggregate-union-count : tie.Need-slice-aggregate-union-count
-slice-aggregate-union-count c = search found-long
+slice-aggregate-union-count-in : tie.Need-slice-aggregate-union-count-in
+slice-aggregate-union-count-in c = search found-long
 
-slice-aggregate-union-count-2 : tie.Need-slice-aggregate-union-count-2
-slice-aggregate-union-count-2 c = search found-long
+slice-aggregate-union-count-in-2 : tie.Need-slice-aggregate-union-count-in-2
+slice-aggregate-union-count-in-2 c = search found-long
 
-union-count-requires : tie.Need-union-count-requires
-union-count-requires c κs = search (found-rising, found-short)
+union-count-in-requires : tie.Need-union-count-in-requires
+union-count-in-requires c κs = search needs
 
 returns-3 : tie.Need-returns-3
 returns-3 c = search asked-8
@@ -45,9 +45,9 @@ asked-spec =
     returns
     summed-in-requires-2
     returns-2
-    slice-aggregate-union-count
-    slice-aggregate-union-count-2
-    union-count-requires
+    slice-aggregate-union-count-in
+    slice-aggregate-union-count-in-2
+    union-count-in-requires
     returns-3
     mul-if4
     returns-4
