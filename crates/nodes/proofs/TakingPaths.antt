@@ -88,7 +88,7 @@ module _ (table : List Claim) (count at : ℕ) (c : Claim) (fits : count ≤ len
 -- ---- `put`
 
 -- what stands from p on within the first n
-drop-take : {A : Type 0} (p n : ℕ) (l : List A) → drop p (take n l) ≡ take (n - p) (drop p l)
+pub drop-take : {A : Type 0} (p n : ℕ) (l : List A) → drop p (take n l) ≡ take (n - p) (drop p l)
 drop-take zero n l = let e : n - 0 ≡ n = omega arith in rw e
 drop-take (suc p) zero l = let e : 0 - suc p ≡ 0 = omega arith in rw e
 drop-take (suc p) (suc n) [] = sym (take-nil (suc n - suc p))
@@ -113,7 +113,7 @@ take-placedAt (suc m) (suc p) c [] h = refl
 take-placedAt (suc m) (suc p) c (x ∷ xs) h = ap (λ (l : List Claim). x ∷ l) (take-placedAt m p c xs (omega arith))
 
 -- the lesser count decides
-take-least : {A : Type 0} (m n : ℕ) (l : List A) → take m (take n l) ≡ take (min n m) l
+pub take-least : {A : Type 0} (m n : ℕ) (l : List A) → take m (take n l) ≡ take (min n m) l
 take-least m n l = ⊎-elim {C = take m (take n l) ≡ take (min n m) l}
     (λ (h : m < n). let e : min n m ≡ m = omega arith in rw e (take-take m n l (omega arith)))
     (λ (h : n ≤ m). let e : min n m ≡ n = omega arith in rw e (take-all m (take n l) (omega (arith, length-take n l))))

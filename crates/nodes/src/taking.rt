@@ -17,9 +17,9 @@ ghost use Rattle.rule.specs.Call.{taken};
 ghost use Rattle.nodes.specs.Lent.{placeAmong, isAt, placedAt, placedIn, tableIn, Enlisted, nodeWith, takenWith, takeIn};
 
 // A table, and how many claims are pending in it.
-struct Listed {
-    table: [Claim; Node::TABLE],
-    count: usize,
+pub(crate) struct Listed {
+    pub(crate) table: [Claim; Node::TABLE],
+    pub(crate) count: usize,
 }
 
 // The place of a claim among the first `count` claims of a table, if these rise: after all that come before it.
