@@ -11,6 +11,7 @@
 --   EnterPaths  src/enter.rt: a key entered into a node in order
 --   SavePaths   src/save.rt: the end of a call that writes one image
 --   LibPaths    src/lib.rt: what the host calls return
+--   JoinPaths   src/join.rt: two images joined
 --   SheetPaths  src/lib.rt: the wall sheet of an image
 --   CostPaths   src/lib.rt: what a new kiosk costs
 --   Fitting     numbers that fit their widths in bytes
@@ -26,6 +27,7 @@ mod Beats
 mod EnterPaths
 mod SavePaths
 mod LibPaths
+mod JoinPaths
 mod SheetPaths
 mod CostPaths
 mod Fitting

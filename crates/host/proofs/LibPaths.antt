@@ -26,7 +26,7 @@ use Rattle.rule.specs.declared.answer.Taken.{Taken}
 use Rattle.rule.specs.Node.{nodeInOrder, nodeKeys}
 use Rattle.rule.specs.Question.{question15}
 use Rattle.rule.proofs.NodeLaws.{Ordered, nodeInOrder-ordered, ordered-nodeInOrder}
-use Rattle.nodes.specs.Lent.{nodeWith, admitIn, takenWith}
+use Rattle.nodes.specs.Lent.{nodeHeld, nodeWith, admitIn, takenWith}
 use Rattle.wire.specs.declared.answer.Framed.{Framed}
 use Rattle.wire.specs.declared.answer.Imaged.{Imaged}
 use Rattle.wire.specs.Run.{claim}
@@ -43,7 +43,7 @@ use Rattle.host.specs.Taking.{questions6, takenUntil}
 use Rattle.host.specs.Frames.{framesLimit}
 use Rattle.host.specs.Call.{minus, nodeIn, imageCounted, takingQuestions, nodeAfter, enteringQuestions, nodeEntered}
 use Rattle.host.specs.Call.{beatImageQuestions, nodeServed, framesSent, imageBeaten, imageBeatenOut, imageBeatenFrames}
-use Rattle.host.specs.Known.{nodeHeld, Known, Loaded, TakenFrom, EnteredInto, Sent}
+use Rattle.host.specs.Known.{Known, Loaded, TakenFrom, EnteredInto, Sent}
 use Rattle.host.proofs.SignPaths.{returned, fits-pos, fits-minus}
 use Rattle.host.proofs.TurnPaths.{questions6-numbered, takenUntil-number, takenUntil-node, ordered-takenInTurn}
 use Rattle.host.proofs.EnterPaths.{six, ordered-entered, added-six, unfit-long, added-fits, added-node, added-long}

@@ -26,8 +26,9 @@ use Rattle.wire.specs.Image.{imageLimit, nodeBytes, Shaped}
 use Rattle.wire.specs.Lent.{writeImageIn, imageInLent}
 use Rattle.wire.proofs.LentLaws.{ordered-withinLimits, writeImageIn-0}
 use Rattle.wire.proofs.ImageTrips.{image-at-most}
+use Rattle.nodes.specs.Lent.{nodeHeld}
 use Rattle.host.specs.Call.{minus, savingQuestions, saved, savedOut}
-use Rattle.host.specs.Known.{nodeHeld, Known, asOne, Saved}
+use Rattle.host.specs.Known.{Known, asOne, Saved}
 use Rattle.host.proofs.SignPaths.{returned, fits-pos, fits-minus}
 
 -- ---- where a question was answered no

@@ -10,7 +10,8 @@ use Rattle.claims.specs.Call.{entered}
 use Rattle.rule.specs.declared.node.Node.{Node}
 use Rattle.rule.specs.Node.{nodeKeys, pendingOf, nodeOf}
 use Rattle.rule.specs.Table.{serve, sending}
-use Rattle.rule.specs.Question.{question15}
+use Rattle.rule.specs.Question.{question8, question15}
+use Rattle.rule.specs.Call.{joinedNode}
 use Rattle.wire.specs.Frame.{frameClaims, readFrameQuestions}
 use Rattle.wire.specs.Image.{imageLimit, nodeBytes, readImageQuestions, readImage}
 use Rattle.opening.specs.Cost.{openingCost}
@@ -96,6 +97,23 @@ keyEntered image key room = saved (enteringQuestions image key) (nodeEntered (no
 
 abbrev pub keyEnteredOut : List ℕ → ℕ → List ℕ → List ℕ
 keyEnteredOut image key out = savedOut (enteringQuestions image key) (nodeEntered (nodeIn image) key) out
+
+-- ---- two images: "Two images become one." (document 02, slip 9) It is of their nodes, once pending claims that fail 16 are left out of both.
+
+-- the questions before 15: "14 and 1 for the first image, then for the second, then 8, then 15 (18,052 bytes)" (document 02, slip 9)
+abbrev pub joiningQuestions : List ℕ → List ℕ → List Question
+joiningQuestions first second =
+    readImageQuestions first ++ (readImageQuestions second ++ (question8 (nodeKeys (nodeIn first)) (nodeKeys (nodeIn second)) ∷ []))
+
+-- the node of both
+abbrev pub nodeJoined : List ℕ → List ℕ → Node
+nodeJoined first second = joinedNode (nodeIn first) (nodeIn second)
+
+abbrev pub imagesJoined : List ℕ → List ℕ → ℕ → ℤ
+imagesJoined first second room = saved (joiningQuestions first second) (nodeJoined first second) room
+
+abbrev pub imagesJoinedOut : List ℕ → List ℕ → List ℕ → List ℕ
+imagesJoinedOut first second out = savedOut (joiningQuestions first second) (nodeJoined first second) out
 
 -- ---- a beat: "One takes an image, runs a beat, writes the new image to one buffer and the claims to a second, four to a frame and the rest in a last one,
 -- and returns the length of the frames."

@@ -17,17 +17,13 @@ use Rattle.claims.specs.Words.{claimWidth}
 use Rattle.rule.specs.declared.node.Node.{Node}
 use Rattle.rule.specs.declared.answer.Rest.{Rest}
 use Rattle.rule.specs.Node.{nodeInOrder}
-use Rattle.nodes.specs.Lent.{nodeWith, takenWith}
+use Rattle.nodes.specs.Lent.{nodeHeld, takenWith}
 use Rattle.wire.specs.Run.{readRun}
 use Rattle.wire.specs.Frame.{frameLimit, allPass}
 use Rattle.wire.specs.Image.{imageLimit, nodeBytes, readImageQuestions}
 use Rattle.host.specs.Taking.{takenUntil}
 use Rattle.host.specs.Frames.{framesBytes, framesLimit, inWords}
-use Rattle.host.specs.Call.{nodeIn, takingQuestions, nodeAfter, enteringQuestions, nodeEntered, saved, savedOut, nodeServed, framesSent}
-
--- the node of a lent run of keys and the rest of it
-abbrev pub nodeHeld : List ℕ → Rest → Node
-nodeHeld keys r = nodeWith keys (r .held) (r .table) (r .count)
+use Rattle.host.specs.Call.{nodeIn, takingQuestions, nodeAfter, enteringQuestions, nodeEntered, joiningQuestions, nodeJoined, saved, savedOut, nodeServed, framesSent}
 
 -- The run of keys has all places; and where no question was answered no, the node is in order.
 pub record Sound (keys : List ℕ) (r : Rest) : Type 0 where
@@ -49,6 +45,10 @@ TakenFrom image frame = Known (takingQuestions image frame) (nodeAfter image fra
 
 abbrev pub EnteredInto : List ℕ → ℕ → List ℕ → Rest → Type 0
 EnteredInto image key = Known (enteringQuestions image key) (nodeEntered (nodeIn image) key)
+
+-- .. and two images were joined
+abbrev pub JoinedFrom : List ℕ → List ℕ → List ℕ → Rest → Type 0
+JoinedFrom first second = Known (joiningQuestions first second) (nodeJoined first second)
 
 -- the questions put so far, as one
 abbrev pub asOne : ℕ → List Question

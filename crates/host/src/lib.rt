@@ -1,5 +1,6 @@
-// What the kiosk daemon links: five calls on images and frames (document 01, "Host calls"; document 02, slip 4), and one for planners (slip 5).
+// What the kiosk daemon links: six calls on images and frames (document 01, "Host calls"; document 02, slips 4 and 9), and one for planners (slip 5).
 mod enter;
+mod join;
 mod load;
 mod save;
 mod sent;
@@ -7,6 +8,7 @@ mod sign;
 mod turn;
 
 use crate::enter::entered_into;
+use crate::join::joined_from;
 use crate::load::load;
 use crate::save::save;
 use crate::sent::FRAMES;
@@ -21,7 +23,7 @@ use wire::Imaged;
 ghost use mathlib.Core.Path.{_≡_};
 ghost use lib.ListN.{length};
 ghost use Rattle.host.specs.Call.{openingTold, imageCounted, imageSheet, imageSheetOut, frameTaken, frameTakenOut, keyEntered, keyEnteredOut};
-ghost use Rattle.host.specs.Call.{imageBeaten, imageBeatenOut, imageBeatenFrames};
+ghost use Rattle.host.specs.Call.{imagesJoined, imagesJoinedOut, imageBeaten, imageBeatenOut, imageBeatenFrames};
 
 // Takes an image and a frame, takes each claim in turn, writes the new image to the front of `out` and returns its length; or minus the number of the
 // first question answered no, and then nothing is written. Asks 14, 1, 10 to 13, 6 claim by claim, and 15.
@@ -45,6 +47,19 @@ pub extern "C" fn minutefrost_enter(image: &[u8], key: u64, out: &mut [u8]) -> i
     let mut keys = [0; Store::LIMIT];
     let entered = entered_into(image, key, &mut keys);
     save(&keys, entered, out)
+}
+
+// Takes two images, joins their nodes, writes the image of the joined node to the front of `out` and returns its length; or minus the number of the first
+// question answered no, and then nothing is written. Asks 14 and 1 of the first image, then of the second, 8 and 15. Pending claims that fail 16 are left out of
+// either.
+#[no_mangle]
+pub extern "C" fn minutefrost_join(first: &[u8], second: &[u8], out: &mut [u8]) -> i64
+    ensures { λ r. ⌜ (r ≡ imagesJoined (now (first .entry)) (now (second .entry)) (length (now (out .entry))))
+        × (now (out .exit) ≡ imagesJoinedOut (now (first .entry)) (now (second .entry)) (now (out .entry))) ⌝ }
+{
+    let mut keys = [0; Store::LIMIT];
+    let joined = joined_from(first, second, &mut keys);
+    save(&keys, joined, out)
 }
 
 // How many keys an image holds; or minus the number of the first question answered no. Asks 14 and 1.

@@ -17,13 +17,14 @@ use Rattle.keys.proofs.PlaceLaws.{putAt-nil, putAt-cons, copy-none, copy-more, 
 use Rattle.claims.specs.declared.claim.Claim.{Claim}
 use Rattle.claims.specs.Claim.{noClaim}
 use Rattle.rule.specs.declared.answer.Rest.{Rest}
+use Rattle.rule.specs.declared.answer.Taken.{Taken}
 use Rattle.rule.specs.Table.{tableLimit, before}
 use Rattle.rule.specs.Node.{blanks}
 use Rattle.rule.proofs.NodeLaws.{length-blanks}
 use Rattle.merging.specs.Merge.{merged, mergedIn}
 use Rattle.merging.proofs.Walk.{Walked, Turned, walk-start, walk-first, walk-second, walk-same, walk-end, walk-count}
 use Rattle.nodes.specs.declared.joining.Next.{Next}
-use Rattle.nodes.specs.Lent.{Enlisted, takenWith}
+use Rattle.nodes.specs.Lent.{Enlisted, nodeHeld, takenWith}
 use Rattle.nodes.specs.Joining.{nextOf, tablesIn, CopiedBehind, joinIn}
 use Rattle.nodes.proofs.TakingPaths.{drop-take, take-least}
 
@@ -213,25 +214,41 @@ module _ (one : List Claim) (count : ℕ) (other : List Claim) (others : ℕ) wh
             many = omega (arith, so .few, so .walked .counted, length-take tableLimit (merged before s t));
           }
 
--- ---- two nodes: n keys are what merging both runs makes, and the run holds `after`
+-- ---- two nodes: k keys are what merging their keys makes, and the run holds `after`
 
-module _ (one other run₀ after : List ℕ) (first second : Rest) {n : ℕ} (count : n ≡ length (merged ltb one other)) (run : after ≡ mergedIn one other run₀) where
-  pub join-eight : limit < n → takenWith after (record { number = 8; held = first .held; table = first .table; count = first .count }) ≡ joinIn one first other second run₀
+-- a count that is too high tells as many as there are places
+capped-take : {A : Type 0} (l : List A) (k most : ℕ) {c : ℕ} → length l ≡ most → c ≡ min k most → take c l ≡ take k l
+capped-take l k most whole e =
+    rw e (sym (take-least most k l) ∙ take-all most (take k l) (omega (arith, whole, length-take k l)))
+
+-- a part that is lent on is as long as it says
+pub part-long : (l : List ℕ) (k : ℕ) {c : ℕ} → c ≡ min k (length l) → c ≡ length (take c l)
+part-long l k {c} e = sym (length-take-le c l (omega (arith, e)))
+
+module _ (one other run₀ after : List ℕ) (first second : Rest) {own brought : ℕ} (part-one : own ≡ min (first .held) (length one))
+    (part-other : brought ≡ min (second .held) (length other)) {k : ℕ} (counted : k ≡ length (merged ltb (take own one) (take brought other)))
+    (run : after ≡ mergedIn (take own one) (take brought other) run₀) where
+  abbrev joining : Taken
+  joining = joinIn (nodeHeld one first) (nodeHeld other second) run₀
+
+  cut-one : take own one ≡ take (first .held) one
+  cut-one = capped-take one (first .held) (length one) refl part-one
+
+  cut-other : take brought other ≡ take (second .held) other
+  cut-other = capped-take other (second .held) (length other) refl part-other
+
+  pub join-eight : limit < k → takenWith after (record { number = 8; held = first .held; table = first .table; count = first .count }) ≡ joining
   unfolding joinIn
-  join-eight h = rw (← run, ← count, lt-leb n limit h)
+  join-eight h = rw (← cut-one, ← cut-other, ← run, ← counted, lt-leb k limit h)
 
-  -- a count that is too high tells as many as there are places
-  capped-take : (r : Rest) {c : ℕ} → length (r .table) ≡ tableLimit → c ≡ min (r .count) tableLimit → take c (r .table) ≡ take (r .count) (r .table)
-  capped-take r whole e = rw e (sym (take-least tableLimit (r .count) (r .table)) ∙ take-all tableLimit (take (r .count) (r .table)) (omega (arith, whole, length-take (r .count) (r .table))))
-
-  pub join-done : n ≤ limit → length (first .table) ≡ tableLimit → length (second .table) ≡ tableLimit
+  pub join-done : k ≤ limit → length (first .table) ≡ tableLimit → length (second .table) ≡ tableLimit
       → {c d : ℕ} → c ≡ min (first .count) tableLimit → d ≡ min (second .count) tableLimit → {table : List Claim} {listed : ℕ}
       → Enlisted (blanks tableLimit) (tablesIn (take c (first .table)) (take d (second .table))) table listed
-      → takenWith after (record { number = 0; held = n; table = table; count = listed }) ≡ joinIn one first other second run₀
+      → takenWith after (record { number = 0; held = k; table = table; count = listed }) ≡ joining
   unfolding joinIn
   join-done h whole whole′ e f {table} {listed} l =
       let t : List Claim = tablesIn (take (first .count) (first .table)) (take (second .count) (second .table)) in
-      let same = ap₂ tablesIn (capped-take first whole e) (capped-take second whole′ f) in
+      let same = ap₂ tablesIn (capped-take (first .table) (first .count) tableLimit whole e) (capped-take (second .table) (second .count) tableLimit whole′ f) in
       let places : table ≡ putAt (blanks tableLimit) 0 t = l .places ∙ ap (putAt (blanks tableLimit) 0) same in
       let many : listed ≡ length t = l .many ∙ ap length same in
-      rw (← run, ← count, le-leb n limit h, ← places, ← many)
+      rw (← cut-one, ← cut-other, ← run, ← counted, le-leb k limit h, ← places, ← many)

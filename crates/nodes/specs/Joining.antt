@@ -9,10 +9,11 @@ use lib.ListN.{length, take}
 use Rattle.keys.specs.Store.{limit}
 use Rattle.keys.specs.Place.{putAt}
 use Rattle.claims.specs.declared.claim.Claim.{Claim}
+use Rattle.rule.specs.declared.node.Node.{Node}
 use Rattle.rule.specs.declared.answer.Rest.{Rest}
 use Rattle.rule.specs.declared.answer.Taken.{Taken}
 use Rattle.rule.specs.Table.{tableLimit, before}
-use Rattle.rule.specs.Node.{blanks}
+use Rattle.rule.specs.Node.{blanks, nodeKeys, pendingOf}
 use Rattle.merging.specs.Merge.{merged, mergedIn}
 use Rattle.nodes.specs.declared.joining.Next.{Next}
 use Rattle.nodes.specs.Lent.{takenWith}
@@ -33,14 +34,18 @@ pub record CopiedBehind (table : List Claim) (at : ℕ) (claims new : List Claim
   pub places : new ≡ putAt table at claims
   pub many : count ≡ at + length claims
 
--- a node beside its keys: so many of them, and these claims
+-- a node beside its keys, refused
+abbrev pub restRefused : ℕ → Node → Rest
+restRefused number n = record { number = number; held = n .store .count; table = n .pending; count = n .count }
+
+-- .. and of so many keys and these claims
 abbrev pub restWith : ℕ → List Claim → Rest
 restWith held t = record { number = 0; held = held; table = putAt (blanks tableLimit) 0 t; count = length t }
 
--- `join_in`: the keys are merged into the run, and the claims; where the keys are too many, 8, and the run is as it was
-unfoldable pub joinIn : List ℕ → Rest → List ℕ → Rest → List ℕ → Taken
-joinIn one first other second into =
-    takenWith (mergedIn one other into)
-    (cond (leb (length (merged ltb one other)) limit)
-    (restWith (length (merged ltb one other)) (tablesIn (take (first .count) (first .table)) (take (second .count) (second .table))))
-    (record { number = 8; held = first .held; table = first .table; count = first .count }))
+-- `join_in`: the keys of two nodes are merged into a run, and so are their claims; where the keys are too many, 8, and the run is as it was
+unfoldable pub joinIn : Node → Node → List ℕ → Taken
+joinIn n m into =
+    takenWith (mergedIn (nodeKeys n) (nodeKeys m) into)
+    (cond (leb (length (merged ltb (nodeKeys n) (nodeKeys m))) limit)
+    (restWith (length (merged ltb (nodeKeys n) (nodeKeys m))) (tablesIn (pendingOf n) (pendingOf m)))
+    (restRefused 8 n))

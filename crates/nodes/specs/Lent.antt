@@ -29,6 +29,10 @@ nodeWith keys held table count = record { store = storeWith keys held; pending =
 abbrev pub nodeBy : List ℕ → List ℕ → ℕ → List Claim → ℕ → Node
 nodeBy keys sums held table count = record { store = storeBy keys sums held; pending = table; count = count }
 
+-- .. and by a run of keys and what stands beside it
+abbrev pub nodeHeld : List ℕ → Rest → Node
+nodeHeld keys r = nodeWith keys (r .held) (r .table) (r .count)
+
 -- a node beside its keys
 abbrev pub restOf : Node → Rest
 restOf n = record { number = 0; held = n .store .count; table = n .pending; count = n .count }
@@ -97,7 +101,7 @@ pub record Enlisted (table t new : List Claim) (count : ℕ) : Type 0 where
 
 -- what is taken, by the run of keys as it is then and what the call returns
 abbrev pub takenWith : List ℕ → Rest → Taken
-takenWith keys r = record { number = r .number; node = nodeWith keys (r .held) (r .table) (r .count) }
+takenWith keys r = record { number = r .number; node = nodeHeld keys r }
 
 -- `take_in`: a claim is heard, and put into the table
 unfoldable pub takeIn : Node → Claim → Taken

@@ -13,7 +13,7 @@ ghost use lib.ListN.{take, drop};
 ghost use Rattle.keys.specs.Place.{putAt};
 ghost use Rattle.rule.specs.Table.{tableLimit};
 ghost use Rattle.rule.specs.Node.{blanks};
-ghost use Rattle.nodes.specs.Lent.{Enlisted, takenWith};
+ghost use Rattle.nodes.specs.Lent.{Enlisted, nodeHeld, takenWith};
 ghost use Rattle.nodes.specs.Joining.{nextOf, tablesIn, CopiedBehind, joinIn};
 
 // The next claim of two tables, and how many of either are passed with it.
@@ -114,9 +114,11 @@ pub fn join_in(
     second: Rest,
     into: &mut [u64; Store::LIMIT],
 ) -> Rest
-    ensures { λ r. ⌜ takenWith (now (into .exit)) r ≡ joinIn (now (one .entry)) first (now (other .entry)) second (now (into .entry)) ⌝ }
+    ensures { λ r. ⌜ takenWith (now (into .exit)) r ≡ joinIn (nodeHeld (now (one .entry)) first) (nodeHeld (now (other .entry)) second) (now (into .entry)) ⌝ }
 {
-    let held = merge_in(one, other, into);
+    let own = capped(first.held, one.len());
+    let brought = capped(second.held, other.len());
+    let held = merge_in(&one[..own], &other[..brought], into);
     let table = first.table;
     let count = first.count;
     if Store::LIMIT < held {

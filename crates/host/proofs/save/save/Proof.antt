@@ -3,7 +3,7 @@ use borrow.Author.Needs.{needs}
 use Rattle.rule.proofs.NodeLaws.{length-mapped}
 use Rattle.keys.proofs.LentLaws.{sized-storeWith}
 use Rattle.wire.specs.Image.{Shaped}
-use Rattle.host.specs.Known.{nodeHeld}
+use Rattle.nodes.specs.Lent.{nodeHeld}
 use Rattle.host.proofs.SavePaths.{written-most, saved-refused, saved-15, saved-0}
 use Rattle.host.proofs.save.save.Statement.{statement}
 use Rattle.host.proofs.save.save.Tie as tie
