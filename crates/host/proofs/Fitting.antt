@@ -1,17 +1,17 @@
 -- Numbers that fit their widths in bytes: what is read of bytes does, and it stays so. In order: a node whose keys and pending claims fit; what an image holds;
--- the node once claims are taken, after a beat, and with a key entered; the claims that a beat sends. Assumes nothing.
+-- the node once claims are taken, after a beat, with a key entered, and joined with another; the claims that a beat sends. Assumes nothing.
 use Prim.Native.Nat.{ℕ, _-_, _^_, _≤_, _<_}
 use native.Mathlib.Omega.{arith}
 use mathlib.Core.List.{List, [], _∷_, List·Memᴰ}
 use mathlib.Core.Logic.{_⊎_, inl, inr, ⊎-elim}
 use mathlib.Core.Path.{_≡_, sym, subst}
 use lib.Bits.{bitXor, xor-lt}
-use lib.ListN.{length, drop, length-append, length-replicate}
+use lib.ListN.{length, drop, length-append, length-take, length-replicate}
 use Rattle.keys.specs.Store.{limit, zeros, storeOf}
 use Rattle.keys.proofs.Tests.{eq-or-ne}
 use Rattle.keys.proofs.Insert.{insert-mem}
 use Rattle.keys.proofs.StoreLaws.{keys-storeOf, keysOf-storeOf, sized-storeOf, inOrder-rising}
-use Rattle.keys.proofs.Rising.{Rising}
+use Rattle.keys.proofs.Rising.{Rising, take-mem}
 use Rattle.claims.specs.declared.claim.Claim.{Claim}
 use Rattle.claims.specs.Claim.{noClaim, middleKey}
 use Rattle.claims.specs.Question.{firstNo}
@@ -21,12 +21,15 @@ use Rattle.claims.proofs.Span.{mem-first, mem-last}
 use Rattle.claims.proofs.Xor.{xorAll-lt}
 use Rattle.rule.specs.declared.node.Node.{Node}
 use Rattle.rule.specs.declared.answer.Taken.{Taken}
-use Rattle.rule.specs.Table.{tableLimit, insertClaim, tableWith, serve, sending}
+use Rattle.rule.specs.Table.{tableLimit, insertClaim, tableWith, insertClaims, joinedTable, serve, sending}
 use Rattle.rule.specs.Node.{blanks, nodeKeys, pendingOf, nodeOf, telling}
-use Rattle.rule.specs.Call.{takeQuestions, taken}
+use Rattle.rule.specs.Round.{union}
+use Rattle.rule.specs.Call.{takeQuestions, taken, joinedNode}
 use Rattle.rule.proofs.NodeLaws.{Ordered, ordered-nodeInOrder, savedInOrder-saved, telling-mem, ordered-telling, nodeKeys-nodeOf, pendingOf-nodeOf, nodeOf-same}
 use Rattle.rule.proofs.CallLaws.{takeQuestions-yes, taken-done, taken-refused, length-nodeKeys, length-pendingOf}
 use Rattle.rule.proofs.TableLaws.{insertClaim-mem, length-tableWith, kept-mem, length-kept}
+use Rattle.rule.proofs.Union.{union-mem}
+use Rattle.rule.proofs.JoiningLaws.{insertClaims-mem}
 use Rattle.wire.specs.declared.answer.Imaged.{Imaged}
 use Rattle.wire.specs.Number.{byte, Below}
 use Rattle.wire.specs.Claim.{keyWidth, countWidth, ClaimFits}
@@ -152,6 +155,19 @@ module _ (n : Node) (o : Ordered n) (w : Narrow n) where
         keys = rw (keysOf-storeOf (grown n key)) keys;
         pending = w .pending;
       })
+
+  -- ---- joined with another
+
+  pub narrow-joined : (m : Node) → Narrow m → length (union (nodeKeys n) (nodeKeys m)) ≤ limit → Narrow (joinedNode n m)
+  narrow-joined m v fits =
+      let u = union (nodeKeys n) (nodeKeys m) in
+      let t = joinedTable (pendingOf n) (pendingOf m) in
+      narrow-nodeOf u t fits (omega (arith, length-take tableLimit (insertClaims (pendingOf n) (pendingOf m))))
+      (each-mem KeyFits u (λ k i.
+      ⊎-elim {C = KeyFits k} (mem-each KeyFits (nodeKeys n) (w .keys) k) (mem-each KeyFits (nodeKeys m) (v .keys) k) (union-mem (nodeKeys n) (nodeKeys m) k i)))
+      (each-mem ClaimFits t (λ c i.
+      ⊎-elim {C = ClaimFits c} (mem-each ClaimFits (pendingOf n) (w .pending) c) (mem-each ClaimFits (pendingOf m) (v .pending) c)
+      (insertClaims-mem (pendingOf n) (pendingOf m) c (take-mem tableLimit (insertClaims (pendingOf n) (pendingOf m)) c i))))
 
   -- ---- what a beat sends
 

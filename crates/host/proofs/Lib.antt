@@ -16,6 +16,7 @@
 --   CostPaths   src/lib.rt: what a new kiosk costs
 --   Fitting     numbers that fit their widths in bytes
 --   Trips       what the daemon is given back is what the next call takes
+--   Joins       two images in one: in either order, with itself, read back, and as an event
 pub mod Cases
 mod SignPaths
 mod TurnPaths
@@ -32,3 +33,4 @@ mod SheetPaths
 mod CostPaths
 mod Fitting
 pub mod Trips
+pub mod Joins

@@ -51,11 +51,11 @@ minus-pos zero n f e = f refl
 minus-pos (suc k) n f e = let z : _≡_ {A = ℕ} 0 1 = cc in omega arith
 
 module _ (k m n : ℕ) (e : settle k (pos m) minus ≡ pos n) where
-  was-done : k ≡ 0
+  pub was-done : k ≡ 0
   was-done =
       ⊎-elim {C = k ≡ 0} (λ (z : k ≡ 0). z) (λ (f : k ≡ 0 → ⊥). absurd (minus-pos k n f (sym (settle-refused k (pos m) minus f) ∙ e))) (eq-or-ne k 0)
 
-  is-length : m ≡ n
+  pub is-length : m ≡ n
   is-length = let p : pos m ≡ pos n = sym (settle-done k (pos m) minus was-done) ∙ e in cc
 
 -- ---- the image of a node in order whose numbers fit is read as that node
@@ -64,7 +64,7 @@ node-read : (n : Node) → Ordered n → Narrow n → readImage (nodeBytes n) �
 node-read n o w = image-accepted n (narrow-fits n o w) (ordered-nodeInOrder n o)
 
 -- .. also from the buffer that it was written to
-saved-is-read : (questions : List Question) (m : Node) (out : List ℕ) (n : ℕ) → (firstNo questions ≡ 0 → Ordered m × Narrow m)
+pub saved-is-read : (questions : List Question) (m : Node) (out : List ℕ) (n : ℕ) → (firstNo questions ≡ 0 → Ordered m × Narrow m)
     → saved questions m (length out) ≡ pos n → readImage (take n (savedOut questions m out)) ≡ record { number = 0; node = m }
 unfolding saved savedOut
 saved-is-read questions m out n good e =

@@ -181,10 +181,14 @@ image-read-is-written-without bs out done room =
     let (w, lent) = writeImage-0 n out (image-read-ordered bs done) (rw same room) in
     (sym w ∙ (λ i. record { number = 0; length = length (same i) }), sym lent ∙ ap (putAt out 0) same)
 
+-- where none is left out, all bytes of an image are used
+pub image-all-used : (bs : List ℕ) → Below byte bs → readImage bs .number ≡ 0 → allTell (parse bs .pending) ≡ true → usedBytes bs ≡ bs
+image-all-used bs below done none =
+    ap (imageBytes (parse bs .keys)) (telling-all (parse bs .pending) none) ∙ imageBytes-parse bs below (readImage-yes bs done .0 .whole)
+
 -- .. "so the same-bytes rule holds for images that have none": one that is accepted and holds no claim that fails 16 is written again as the same bytes.
 pub image-read-is-written : (bs out : List ℕ) → Below byte bs → readImage bs .number ≡ 0 → allTell (parse bs .pending) ≡ true → length bs ≤ length out
     → (writeImage (readImage bs .node) (length out) ≡ record { number = 0; length = length bs }) × (imageLent (readImage bs .node) out ≡ putAt out 0 bs)
 image-read-is-written bs out below done none room =
-    let same : usedBytes bs ≡ bs =
-    ap (imageBytes (parse bs .keys)) (telling-all (parse bs .pending) none) ∙ imageBytes-parse bs below (readImage-yes bs done .0 .whole) in
+    let same : usedBytes bs ≡ bs = image-all-used bs below done none in
     rw same at (image-read-is-written-without bs out done (rw same room))
