@@ -1,12 +1,12 @@
--- What joining two lent nodes means (specs/Joining): where both are in order, it asks 8 of their keys, and the node that it makes in a run of zeros is the joined
--- node of `rule`. Assumes nothing.
+-- What joining two lent nodes means (specs/Joining). A refusal leaves the run as it was, whatever both hold. Where both are in order, it asks 8 of their keys, and
+-- the node that it makes in a run of zeros is the joined node of `rule`. Assumes nothing.
 use Prim.Native.Nat.{ℕ, _≤_}
 use native.Mathlib.Omega.{arith}
 use mathlib.Core.Bool.{Bool, true, false, cond}
 use mathlib.Core.List.{List, [], _∷_}
 use mathlib.Core.Path.{_≡_, refl, sym, ap, ap₂, _∙_}
 use borrow.Author.Tests.{leb-true, le-leb}
-use lib.Dec.{leb}
+use lib.Dec.{ltb, leb}
 use lib.ListN.{length}
 use Rattle.keys.specs.Store.{limit, zeros, storeOf}
 use Rattle.keys.specs.Place.{putAt}
@@ -25,7 +25,7 @@ use Rattle.rule.specs.Round.{union}
 use Rattle.rule.specs.Question.{question8}
 use Rattle.rule.specs.Call.{joinedNode}
 use Rattle.rule.proofs.NodeLaws.{Ordered}
-use Rattle.merging.specs.Merge.{mergedIn}
+use Rattle.merging.specs.Merge.{merged, mergedIn}
 use Rattle.merging.proofs.MergeLaws.{merged-union, merged-claims}
 use Rattle.nodes.specs.Lent.{nodeWith, takenWith}
 use Rattle.nodes.specs.Joining.{tablesIn, restRefused, restWith, joinIn}
@@ -42,6 +42,20 @@ laid-node l t h =
     let count : length l ≡ storeOf l .count = sym (count-storeOf l) in
     let store : storeWith (putAt (zeros limit) 0 l) (length l) ≡ storeOf l = ap₂ storeWith (laid-keys l) count ∙ storeWith-storeOf l h in
     λ i. record { store = store i; pending = putAt-replicate t tableLimit noClaim i; count = length t }
+
+pub joinIn-kept : (n m : Node) (into : List ℕ) → (joinIn n m into .number ≡ 0 → ⊥) → joinIn n m into .node .store .keys ≡ into
+unfolding joinIn mergedIn
+joinIn-kept n m into f = go (leb (length l) limit) f
+  where
+    l : List ℕ
+    l = merged ltb (nodeKeys n) (nodeKeys m)
+
+    told : Bool → Taken
+    told b = takenWith (cond b (putAt into 0 l) into) (cond b (restWith (length l) (tablesIn (pendingOf n) (pendingOf m))) (restRefused 8 n))
+
+    go : (b : Bool) → (told b .number ≡ 0 → ⊥) → told b .node .store .keys ≡ into
+    go true g = absurd (g refl)
+    go false g = refl
 
 -- two nodes in order
 module _ (n m : Node) (into : List ℕ) (o : Ordered n) (p : Ordered m) where
