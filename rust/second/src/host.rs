@@ -4,8 +4,9 @@
 //! Document 01 names two of them, [`take_frame`] and [`beat`]. By three others
 //! a daemon enters a key, as document 01 enters one into a store, learns how
 //! many keys an image holds, and lays them out as the wall sheet (document 02,
-//! slip 4). By the last, [`opening_cost`], a planner learns what a new kiosk
-//! costs (document 02, slip 5). It takes no image.
+//! slip 4). By [`opening_cost`], which takes no image, a planner learns what a
+//! new kiosk costs (document 02, slip 5). By the last, [`join`], the images of
+//! two kiosks become one (document 02, slip 9).
 //!
 //! An image with pending claims that fail 16 "is written back without" them
 //! (document 02, slip 2) by each call that writes one.
@@ -126,4 +127,26 @@ fn try_sheet(image: &[u8], out: &mut [u8]) -> Asked<usize> {
 /// Asks 17.
 pub fn opening_cost(keys: usize) -> i64 {
     answer(questions::of_opening_cost(keys).map(|()| deliveries(keys)))
+}
+
+/// Joins the nodes of two images, writes the image of the one they become and
+/// returns its length, or minus the number. "The images given in the other
+/// order make the same bytes".
+///
+/// "The questions are 14 and 1 for the first image, then for the second, then
+/// 8, then 15 (18,052 bytes)." (document 02, slip 9) What fails 16 is left out
+/// of either image before, so that it takes no place among the 64 claims kept.
+pub fn join(first: &[u8], second: &[u8], out: &mut [u8]) -> i64 {
+    answer(try_join(first, second, out))
+}
+
+fn try_join(first: &[u8], second: &[u8], out: &mut [u8]) -> Asked<usize> {
+    let mut node = node_of_image(first)?;
+    let other = node_of_image(second)?;
+    let union = questions::union_count(node.store.keys(), other.store.keys());
+    ask(8, questions::q8_union_fits(union))?;
+    let needs = [(out.len(), IMAGE_MOST)];
+    ask(15, questions::q15_outputs_long_enough(&needs))?;
+    node.join(&other);
+    Ok(put_image(node.store.keys(), &node.pending, out))
 }

@@ -1,11 +1,13 @@
-//! Document 01 and slips 1, 2 and 4 to 8 of document 02 in plain Rust, written
-//! from these and the paper alone; slip 3 changed nothing that is seen. Four
+//! Document 01 and slips 1, 2 and 4 to 9 of document 02 in plain Rust, written
+//! from these and the paper alone; slip 3 changed nothing that is seen. Five
 //! host calls are beyond document 01: [`host::enter`], [`host::count`], for the
-//! wall sheet of slip 4 [`host::sheet`], with the program [`wallsheet()`], and
-//! for what a new kiosk costs, slip 5, [`host::opening_cost`]. Slip 6 moved
-//! the limit, which is [`RawStore::LIMIT`] throughout. Slip 7 put running sums
-//! beside the keys, [`RawStore::sums`], from which claims read theirs. Slip 8
-//! lets a [`beat()`] reply to no more than [`BEAT_REPLIES`] pending claims.
+//! wall sheet of slip 4 [`host::sheet`], with the program [`wallsheet()`], for
+//! what a new kiosk costs, slip 5, [`host::opening_cost`], and for two memory
+//! cards into one, slip 9, [`host::join`]. Slip 6 moved the limit, which is
+//! [`RawStore::LIMIT`] throughout. Slip 7 put running sums beside the keys,
+//! [`RawStore::sums`], from which claims read theirs. Slip 8 lets a [`beat()`]
+//! reply to no more than [`BEAT_REPLIES`] pending claims. By slip 9 a list of
+//! events may hold a joining of two kiosks, which is [`join_nodes`].
 //!
 //! This is the second program of document 01 ("the rest, with random stores,
 //! run against a second program"): it shares no code, table or constant with
@@ -27,6 +29,7 @@ mod claim;
 mod frame;
 pub mod host;
 mod image;
+mod join;
 mod node;
 mod opening;
 pub mod questions;
@@ -39,6 +42,7 @@ mod wallsheet;
 pub use claim::Claim;
 pub use frame::{CLAIM_BYTES, FRAME_MOST, FrameRead, MARK, VERSION, read_frame, write_frame};
 pub use image::{IMAGE_MOST, ImageRead, Length, image_length, read_image, write_image};
+pub use join::{Joined, join_nodes};
 pub use node::{BEAT_PLACES, BEAT_REPLIES, Beaten, PENDING, RawNode, Taken, beat, take};
 pub use opening::{OpeningCost, opening_cost};
 pub use rehearse::{REHEARSAL_RECORDS, rehearse};

@@ -281,6 +281,16 @@ pub fn of_round(left: &RawStore, right: &RawStore, records: usize) -> Asked {
     ask(9, q9_transcript_long_enough(union, records))
 }
 
+/// 1, of the first node and of the second, 8, 15, of as much as the longest
+/// image: what [`of_host_join`] asks, of nodes (document 02, slip 9).
+pub fn of_join_nodes(into: &RawNode, from: &RawNode, room: usize) -> Asked {
+    ask(1, q1_node_in_order(into))?;
+    ask(1, q1_node_in_order(from))?;
+    let union = union_count(into.store.held(), from.store.held());
+    ask(8, q8_union_fits(union))?;
+    ask(15, q15_outputs_long_enough(&[(room, IMAGE_MOST)]))
+}
+
 /// 10 to 13.
 pub fn of_read_frame(frame: &[u8]) -> Asked {
     ask(10, q10_frame_marked(frame))?;
@@ -377,6 +387,18 @@ pub fn of_host_sheet(image: &[u8], out: usize) -> Asked {
     let node = node_of_image(image)?;
     let need = sheet_length(node.store.keys().len());
     ask(15, q15_outputs_long_enough(&[(out, need)]))
+}
+
+/// "14 and 1 for the first image, then for the second, then 8, then 15 (18,052
+/// bytes)" (document 02, slip 9). As for a frame, a plain set of keys grows
+/// here.
+pub fn of_host_join(first: &[u8], second: &[u8], out: usize) -> Asked {
+    let mut keys: BTreeSet<u64> = BTreeSet::new();
+    for image in [first, second] {
+        keys.extend(node_of_image(image)?.store.keys());
+    }
+    ask(8, q8_union_fits(keys.len()))?;
+    ask(15, q15_outputs_long_enough(&[(out, IMAGE_MOST)]))
 }
 
 /// 14 and 1 of the first image, 14 and 1 of the second, 8, 9.

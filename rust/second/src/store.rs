@@ -133,7 +133,9 @@ impl Store {
     }
 
     /// Keys that rise strictly, no more of them than the limit, from where no
-    /// sums come with them: "reading works them out" (document 02, slip 7).
+    /// sums come with them: of an image "reading works them out" (document 02,
+    /// slip 7), and of a union they are other ones than either store had (slip
+    /// 9).
     pub(crate) fn from_keys(keys: Vec<u64>) -> Store {
         debug_assert!(questions::keys_in_order(&keys));
         // All the places there can be, so that nothing is moved when more come.
