@@ -32,6 +32,7 @@
  *    4  a claim's cnt is not 1 though lo = hi, or else not from 2 to hi − lo + 1
  *    5  a claim's sum is not lo though cnt is 1, or not lo XOR hi though cnt is 2
  *    6  the keys to add don't fit: the store would have more than MINUTEFROST_KEYS_MOST
+ *    8  the two stores or images together hold more than MINUTEFROST_KEYS_MOST keys
  *   10  the frame has fewer than 4 bytes or doesn't begin with hex 4C 43
  *   11  the frame's version is not 1
  *   12  the frame's n is not from 1 to 4, or its length is not 4 + 26n
@@ -114,6 +115,18 @@ int64_t minutefrost_count(const uint8_t *image, size_t image_len);
  */
 int64_t minutefrost_sheet(const uint8_t *image, size_t image_len,
                           uint8_t *out, size_t out_len);
+
+/*
+ * Joins two images, writes the image that they become to the front of `out` and
+ * returns its length: for the card of a branch that closed, which goes to
+ * another kiosk. The new image has the keys of both, and the pending claims of
+ * both, equal ones once, in table order, the first 64. Which image is the first
+ * makes no difference to the bytes; both may be the same. Asks 14 and 1 of the
+ * first, then of the second, 8, 15.
+ */
+int64_t minutefrost_join(const uint8_t *first, size_t first_len,
+                         const uint8_t *second, size_t second_len,
+                         uint8_t *out, size_t out_len);
 
 /*
  * Returns how many deliveries a round makes between an empty left store and a

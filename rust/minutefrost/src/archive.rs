@@ -1,4 +1,4 @@
-//! The archive's six calls, and the only unsafe code of this crate.
+//! The archive's seven calls, and the only unsafe code of this crate.
 //!
 //! A slice passes as a pointer and then a length. The calls are proved to read
 //! and write within the slices they are given, to keep nothing of them, and to
@@ -37,6 +37,15 @@ mod c {
         pub fn minutefrost_sheet(
             image: *const u8,
             image_len: usize,
+            out: *mut u8,
+            out_len: usize,
+        ) -> i64;
+
+        pub fn minutefrost_join(
+            first: *const u8,
+            first_len: usize,
+            second: *const u8,
+            second_len: usize,
             out: *mut u8,
             out_len: usize,
         ) -> i64;
@@ -104,6 +113,22 @@ pub fn sheet(image: &[u8], out: &mut [u8]) -> i64 {
     // SAFETY: each pointer comes with the length of its slice, and the slice
     // that is written doesn't overlap the one that is read.
     unsafe { c::minutefrost_sheet(image.as_ptr(), image.len(), out.as_mut_ptr(), out.len()) }
+}
+
+/// The joined image's length, or minus the number of the refusal.
+pub fn join(first: &[u8], second: &[u8], out: &mut [u8]) -> i64 {
+    // SAFETY: each pointer comes with the length of its slice, and the slice
+    // that is written overlaps none that is read. Those two may be the same.
+    unsafe {
+        c::minutefrost_join(
+            first.as_ptr(),
+            first.len(),
+            second.as_ptr(),
+            second.len(),
+            out.as_mut_ptr(),
+            out.len(),
+        )
+    }
 }
 
 /// The deliveries that fill an empty store with so many keys, or minus the

@@ -4,7 +4,7 @@
 //! bytes that lies on its card: the slip keys it holds and the claims that
 //! wait for an answer. A new kiosk has [`EMPTY_IMAGE`]. What kiosks send each
 //! other are *frames* of at most [`FRAME_MOST`] bytes, one to four claims in
-//! each. A daemon does five things, at any time and in any order:
+//! each. A daemon does six things, at any time and in any order:
 //!
 //! - A book was lent or came back: [`enter`] gives the image with the slip's
 //!   key in it.
@@ -13,13 +13,15 @@
 //!   [`frames`] to send.
 //! - Someone asks what the kiosk holds: [`keys`] gives the keys in order.
 //! - Staff pin up what it holds: [`sheet`] gives the keys as text, by pages.
+//! - A branch closed, and the card of its kiosk came here: [`join`] gives the
+//!   image with what both have.
 //!
 //! Whoever plans the opening of a kiosk asks [`opening_cost`] what it costs to
 //! tell it so many keys. That needs no image.
 //!
 //! ```
 //! use minutefrost::{BEAT_FRAMES, EMPTY_IMAGE, IMAGE_MOST, SHEET_MOST};
-//! use minutefrost::{beat, enter, frames, keys, sheet, take_frame};
+//! use minutefrost::{beat, enter, frames, join, keys, sheet, take_frame};
 //!
 //! let (mut out, mut sent) = ([0; IMAGE_MOST], [0; BEAT_FRAMES]);
 //! // The van enters the key 7 and beats.
@@ -36,6 +38,12 @@
 //! assert!(keys(&kiosk)?.eq([7, 9]));
 //! // Its sheet has a head line and a line with both keys, 63 bytes each.
 //! assert_eq!(sheet(&kiosk, &mut [0; SHEET_MOST])?, 126);
+//! // A branch that held the key 8 closes, and the kiosk gets its card.
+//! let length = enter(&EMPTY_IMAGE, 8, &mut out)?;
+//! let card = out[..length].to_vec();
+//! let length = join(&kiosk, &card, &mut out)?;
+//! kiosk = out[..length].to_vec();
+//! assert!(keys(&kiosk)?.eq([7, 8, 9]));
 //! # Ok::<(), minutefrost::Refusal>(())
 //! ```
 //!
@@ -47,10 +55,10 @@
 //! are the archive `libhost.a`, every function of which is proved; it has no
 //! state, allocates nothing, and runs on a stack of 128 KB.
 //!
-//! Frames may be lost, repeated, delayed and reordered: by what kiosks send, no
-//! key that was entered is lost, and no kiosk comes to hold one that nobody
-//! entered. (A frame has no checksum. Damage that leaves it a frame is for the
-//! radio link to find.)
+//! Frames may be lost, repeated, delayed and reordered: by what kiosks send, and
+//! by joining two of them, no key that was entered is lost, and no kiosk comes to
+//! hold one that nobody entered. (A frame has no checksum. Damage that leaves it
+//! a frame is for the radio link to find.)
 //!
 //! That two kiosks come to hold the same keys is proved of *rounds*, in which
 //! each hears every claim of the other: after as many rounds as keys differ, none
@@ -88,10 +96,12 @@ macro_rules! limit {
 #[allow(unsafe_code)]
 mod archive;
 mod frames;
+mod join;
 mod keys;
 mod refusal;
 
 pub use frames::{Frames, frames};
+pub use join::join;
 pub use keys::{Keys, keys};
 pub use refusal::Refusal;
 

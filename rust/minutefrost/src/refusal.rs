@@ -38,7 +38,9 @@ impl Refusal {
     /// (the frame), 6 (no room for a key) and 15 (a short buffer);
     /// [`enter`](crate::enter) gives 14, 1, 6 and 15, [`beat`](crate::beat) and
     /// [`sheet`](crate::sheet) 14, 1 and 15, and [`keys`](crate::keys) 14 and 1;
-    /// [`opening_cost`](crate::opening_cost) gives 17 (too many keys).
+    /// [`join`](crate::join) gives 14 and 1 (either image), 8 (too many keys
+    /// together) and 15, and [`opening_cost`](crate::opening_cost) 17 (too many
+    /// keys).
     pub const fn number(self) -> u8 {
         self.number
     }
@@ -56,7 +58,11 @@ impl Refusal {
                 limit!()
             ),
             7 => "the first position is after the last, or the last is not below the count",
-            8 => concat!("the union of both stores has more than ", limit!(), " keys"),
+            8 => concat!(
+                "the two stores or images together hold more than ",
+                limit!(),
+                " keys"
+            ),
             9 => "the transcript has fewer than two records for each key of the union",
             10 => "the frame has fewer than 4 bytes or doesn't begin with hex 4C 43",
             11 => "the frame's version is not 1",

@@ -1,6 +1,6 @@
 //! The calls on images by hand: each refusal that there is, each with nothing
 //! written, and what a caller counts on. What a new kiosk costs, which no image
-//! is asked about, comes in `openings`.
+//! is asked about, comes in `openings`, and what two images become in `joinings`.
 
 #[path = "../../second/tests/common/mod.rs"]
 mod common;
@@ -56,6 +56,13 @@ fn sheet_refused(image: &[u8], mut out: Vec<u8>) -> u8 {
     refusal.number()
 }
 
+/// The number with which two images are refused; nothing is written then.
+fn join_refused(first: &[u8], second: &[u8], mut out: Vec<u8>) -> u8 {
+    let refusal = join(first, second, &mut out).unwrap_err();
+    assert!(out.iter().all(|&byte| byte == 0xA5), "{refusal}");
+    refusal.number()
+}
+
 /// Bytes that are no image, each with its number.
 fn no_images() -> Vec<(Vec<u8>, u8)> {
     let image = image_of_keys(&[1, 16]);
@@ -101,8 +108,11 @@ fn every_call_refuses_what_is_no_image() {
             keys_refused(&image),
             sheet_refused(&image, vec![0xA5; SHEET_MOST]),
             sheet_refused(&image, none()),
+            join_refused(&image, &EMPTY_IMAGE, buffers().0),
+            join_refused(&EMPTY_IMAGE, &image, buffers().0),
+            join_refused(&image, &image, none()),
         ];
-        assert_eq!(refused, [number; 9], "{image:?}");
+        assert_eq!(refused, [number; 12], "{image:?}");
     }
 }
 
@@ -210,6 +220,9 @@ fn empty_slices_are_answered() {
     assert_eq!(keys_refused(&[]), 14);
     assert_eq!(sheet_refused(&[], Vec::new()), 14);
     assert_eq!(sheet_refused(&EMPTY_IMAGE, Vec::new()), 15);
+    assert_eq!(join_refused(&[], &[], Vec::new()), 14);
+    assert_eq!(join_refused(&EMPTY_IMAGE, &[], Vec::new()), 14);
+    assert_eq!(join_refused(&EMPTY_IMAGE, &EMPTY_IMAGE, Vec::new()), 15);
 }
 
 /// Enters a key where there is room; the new image, behind which nothing is
@@ -423,20 +436,22 @@ fn the_most_that_a_beat_sends_fits() {
 /// On four threads at once, each with a stack of 128 KB.
 #[test]
 fn small_stacks_are_enough() {
-    fn all_calls() -> [Vec<u8>; 5] {
+    fn all_calls() -> [Vec<u8>; 6] {
         let image = full_image(MOST_CNT);
         let frame = frame_of(&[c(0, LAST, 1, 700); 4]);
         let (mut taken, mut sent) = buffers();
-        let (mut beaten, mut entered) = (taken.clone(), taken.clone());
+        let [mut beaten, mut entered, mut joined] = [0; 3].map(|_| taken.clone());
         assert_eq!(take_frame(&image, &frame, &mut taken), Ok(IMAGE_MOST));
         assert!(beat(&taken, &mut beaten, &mut sent).is_ok());
         assert_eq!(enter(&taken, 0, &mut entered), Ok(IMAGE_MOST));
         assert!(keys(&entered).is_ok_and(|keys| keys.eq(even(LIMIT))));
         let mut text = vec![0xA5; SHEET_MOST];
         assert_eq!(sheet(&entered, &mut text), Ok(SHEET_MOST));
+        let other = full_image(2);
+        assert_eq!(join(&entered, &other, &mut joined), Ok(IMAGE_MOST));
         let cost = second::host::opening_cost(KEYS_MOST);
         assert_eq!(opening_cost(KEYS_MOST), Ok(cost as usize));
-        [taken, beaten, sent, entered, text]
+        [taken, beaten, sent, entered, text, joined]
     }
     let threads: Vec<_> = (0..4)
         .map(|_| {

@@ -28,6 +28,27 @@ static int check_sheet(const uint8_t *image)
     return 0;
 }
 
+/* Two images of 12 bytes, with the keys 7 and 9, in one; the number of the check that fails, or 0. */
+static int check_join(const uint8_t *seven)
+{
+    static const uint8_t nine[12] = {0, 1, 0, 0, 0, 0, 0, 0, 0, 9, 0, 0};
+    static const uint8_t both[20] = {0, 2, 0, 0, 0, 0, 0, 0, 0, 7,
+                                     0, 0, 0, 0, 0, 0, 0, 9, 0, 0};
+    static uint8_t out[MINUTEFROST_IMAGE_MOST];
+
+    if (minutefrost_join(seven, 12, nine, 12, out, sizeof out - 1) != -15)
+        return 21;
+    if (minutefrost_join(seven, 12, nine, 11, out, sizeof out) != -14 || out[1] != 0)
+        return 22;
+    if (minutefrost_join(seven, 12, nine, 12, out, sizeof out) != 20)
+        return 23;
+    if (memcmp(out, both, sizeof both) != 0)
+        return 24;
+    if (minutefrost_join(both, 20, both, 20, out, sizeof out) != 20)
+        return 25;
+    return memcmp(out, both, sizeof both) != 0 ? 26 : 0;
+}
+
 /* What a new kiosk costs; the number of the check that fails, or 0. */
 static int check_opening(void)
 {
@@ -80,5 +101,7 @@ int main(void)
     if (minutefrost_count(entered, 11) != -14)
         return 11;
     failed = check_sheet(entered);
+    if (failed == 0)
+        failed = check_join(entered);
     return failed != 0 ? failed : check_opening();
 }

@@ -1,14 +1,17 @@
 //! The calls against the second program, seeded, byte for byte: the answer,
 //! every buffer whole with guard bytes around it, and the inputs afterwards.
 
-#[path = "../../second/tests/common/mod.rs"]
+#[path = "../../../second/tests/common/mod.rs"]
 mod common;
+
+mod joinings;
 
 use std::cell::RefCell;
 use std::collections::{BTreeMap, BTreeSet};
 use std::fmt::Debug;
 
 use common::{Rng, c, for_seeds, frame_of, image_of, without_left_out};
+use joinings::join_both;
 use minutefrost::*;
 use second::{BEAT_PLACES, Claim, RawNode, RawStore};
 
@@ -470,20 +473,22 @@ fn sizes_agree() {
 fn noise_agrees() {
     let (frames, beats) = (Seen::default(), Seen::default());
     let (keys, counts) = (Seen::default(), Seen::default());
-    let sheets = Seen::default();
+    let (sheets, joinings) = (Seen::default(), Seen::default());
     for_seeds(3_000, |rng| {
         let mut noise = |most| -> Vec<u8> {
             let length = rng.below(most);
             let mask = *rng.pick(&[0xFF, 0x03, 0x00]);
             (0..length).map(|_| rng.next() as u8 & mask).collect()
         };
-        let (image, frame) = (noise(400), noise(120));
+        let (image, frame, other) = (noise(400), noise(120), noise(400));
         let mut out = Guarded::draw(rng, IMAGE_MOST);
         let mut sent = Guarded::draw(rng, BEAT_FRAMES);
         take_both(&image, &frame, &mut out.clone(), &frames);
         enter_both(&image, rng.next(), &mut out.clone(), &keys);
         keys_both(&image, &counts);
         sheet_both(&image, &mut out.clone(), &sheets);
+        join_both(&image, &other, &mut out.clone(), &joinings);
+        join_both(&EMPTY_IMAGE, &other, &mut out.clone(), &joinings);
         beat_both(&image, &mut out, &mut sent, &beats);
     });
 }
