@@ -418,7 +418,7 @@ impl Rng {
     }
 
     /// Each key for one store or for both, at odds that are drawn.
-    fn dealt(&mut self, all: Vec<u64>) -> (Vec<u64>, Vec<u64>) {
+    pub fn dealt(&mut self, all: Vec<u64>) -> (Vec<u64>, Vec<u64>) {
         let odds = self.pick(&[1, 1, 2, 3, 8, 24, 200, 1_000]);
         let mut left = Vec::new();
         let mut right = Vec::new();

@@ -4,9 +4,10 @@
 //! have some which no store could make ([`left_out`]), wall sheets and the keys
 //! on them ([`sheet`]), what a new kiosk costs and the keys for it
 //! ([`opening`]), running sums and how they can be wrong ([`sums`]), the turns
-//! of pending claims in a beat ([`replies`]), every call that is given a store
-//! ([`given`]), what other programs print ([`program`]), and runs of many cases
-//! with what was seen in them ([`cases`]).
+//! of pending claims in a beat ([`replies`]), what two images become
+//! ([`joining`]), every call that is given a store ([`given`]), what other
+//! programs print ([`program`]), and runs of many cases with what was seen in
+//! them ([`cases`]).
 
 #![forbid(unsafe_code)]
 
@@ -15,6 +16,7 @@ pub mod cases;
 pub mod draw;
 pub mod drill;
 pub mod given;
+pub mod joining;
 pub mod left_out;
 pub mod middle;
 pub mod opening;

@@ -11,7 +11,7 @@ mod wallsheet;
 
 use std::collections::BTreeSet;
 
-use archive::{Asked, compare, sheet_by};
+use archive::{Asked, compare, written_by};
 use cards::*;
 use minutefrost::{BEAT_FRAMES, EMPTY_IMAGE, IMAGE_MOST, SHEET_MOST, frames};
 use second::{Claim, PENDING, RawNode, RawStore};
@@ -52,6 +52,10 @@ fn count(image: &[u8]) -> Asked {
 
 fn sheet(image: &[u8]) -> Asked {
     Asked::Sheet(image.to_vec(), SHEET_MOST)
+}
+
+fn join(first: &[u8], second: &[u8]) -> Asked {
+    Asked::Join(first.to_vec(), second.to_vec(), IMAGE_MOST)
 }
 
 /// Both programs write this image, and answer its length.
@@ -144,6 +148,10 @@ fn images_are_written_again_without_faulty_claims() {
             expect_written(&enter(&card.image, key), &image, &card.name);
             expect_written(&enter(&image, key), &image, &card.name);
         }
+        for other in [&card.image[..], &image, &EMPTY_IMAGE] {
+            expect_written(&join(&card.image, other), &image, &card.name);
+            expect_written(&join(other, &card.image), &image, &card.name);
+        }
         if card.left == 0 {
             let sent = frame_of(&[claim_of(&keys_in(&image))]);
             expect_beaten(&beat(&card.image), &image, &sent, &card.name);
@@ -159,7 +167,7 @@ fn sheets_tell_the_keys_held() {
     for card in faulty_cards() {
         let keys = keys_in(&card.image);
         let length = sheet::length(keys.len());
-        let written = sheet_by(&Asked::Sheet(card.image.clone(), length), NOISE);
+        let written = written_by(&Asked::Sheet(card.image.clone(), length), NOISE);
         let written = written.expect("the card is taken");
         assert_eq!(written.len(), length, "{}", card.name);
         assert_eq!(sheet::keys_on(&written), Ok(keys), "{}", card.name);
@@ -183,6 +191,10 @@ fn calls_go_as_without_faulty_claims() {
         same(&sheet);
         for frame in speakers.iter().flat_map(|speaker| frames(&speaker.sent)) {
             same(&|image| take(image, frame));
+        }
+        for other in &speakers {
+            same(&|image| join(image, &other.image));
+            same(&|image| join(&other.image, image));
         }
         for key in [0, 2, 1 << 40, u64::MAX] {
             same(&|image| enter(image, key));
@@ -299,6 +311,7 @@ fn refused_calls(card: &Card) -> Vec<(Asked, u8)> {
         (Asked::Beat(image.clone(), IMAGE_MOST - 1, BEAT_FRAMES), 15),
         (Asked::Beat(image.clone(), IMAGE_MOST, BEAT_FRAMES - 1), 15),
         (Asked::Sheet(image.clone(), short_of_a_sheet(&image)), 15),
+        (Asked::Join(image.clone(), image, IMAGE_MOST - 1), 15),
     ]
 }
 
@@ -327,6 +340,7 @@ fn refused_for_room(image: &[u8]) -> Vec<(Asked, u8)> {
         (take(image, &frame), 6),
         (Asked::Take(image.to_vec(), frame, 0), 6),
         (Asked::Take(image.to_vec(), frame_of(&[new, faulty]), 0), 13),
+        (join(image, &image_of(&[new.lo], &[])), 8),
     ]
 }
 
@@ -403,6 +417,9 @@ fn expect_no_image(drill: &mut Drill, image: &[u8], number: u8) {
         enter(image, 16),
         take(image, &frame),
         sheet(image),
+        join(image, &EMPTY_IMAGE),
+        join(&EMPTY_IMAGE, image),
+        join(image, image),
     ];
     for asked in calls {
         expect_refused(&asked, number, &told);

@@ -2,14 +2,14 @@
 //! answer, and every byte of every lent buffer the same, with bytes past its
 //! end that must stay as they were. Here images are bent in every way that a
 //! node can be, and all cases run on small stacks too; the calls by hand, a
-//! radio of frames and plain noise are tests of the crate `minutefrost`, and
-//! sheets by hand come in `sheet`.
+//! radio of frames and plain noise are tests of the crate `minutefrost`, sheets
+//! by hand come in `sheet`, and two images at a time in `joining`.
 
 mod archive;
 
 use std::thread;
 
-use archive::{ARCHIVE, Asked, Left, SECOND, compare, number, sheet_by};
+use archive::{ARCHIVE, Asked, Left, SECOND, compare, number, written_by};
 use minutefrost::BEAT_FRAMES;
 use second::*;
 use tests::cases::{Seen, for_seeds, one_seed, seeds};
@@ -126,6 +126,17 @@ fn sheet_asked(rng: &mut Rng) -> Asked {
     let count = read_image(&image).node.store.count;
     let lent = rng.room_for_sheet(count);
     Asked::Sheet(image, lent)
+}
+
+/// Two images, seldom damaged.
+fn join_asked(rng: &mut Rng) -> Asked {
+    let [mut first, mut second] = rng.images_to_join();
+    for image in [&mut first, &mut second] {
+        if rng.one_in(12) {
+            rng.damage(image);
+        }
+    }
+    Asked::Join(first, second, room(rng, IMAGE_MOST))
 }
 
 /// Which claim of a frame has no room, counted from 0.
@@ -324,7 +335,7 @@ fn lays_out_sheets() {
         let Asked::Sheet(image, lent) = &asked else {
             panic!("a sheet is asked for");
         };
-        let sheet = sheet_by(&asked, seed);
+        let sheet = written_by(&asked, seed);
         let number = sheet.as_ref().err().copied().unwrap_or(0);
         let node = read_image(image).node;
         seen.number(number);
@@ -357,12 +368,13 @@ fn lays_out_sheets() {
 #[test]
 fn runs_on_small_stacks() {
     const STACK: usize = 128 << 10;
-    const DRAWN: [fn(&mut Rng) -> Asked; 5] = [
+    const DRAWN: [fn(&mut Rng) -> Asked; 6] = [
         take_asked,
         beat_asked,
         enter_asked,
         count_asked,
         sheet_asked,
+        join_asked,
     ];
     let drawn = |seed| {
         let mut rng = Rng(seed);
@@ -370,7 +382,7 @@ fn runs_on_small_stacks() {
         let wanted = asked.by(seed, &SECOND);
         (seed, asked, wanted)
     };
-    let cases: Vec<(u64, Asked, Left)> = seeds(5_000).map(drawn).collect();
+    let cases: Vec<(u64, Asked, Left)> = seeds(6_000).map(drawn).collect();
     let differs = |part: &[(u64, Asked, Left)]| {
         let case = |(seed, asked, wanted): &(u64, Asked, Left)| {
             (asked.by(*seed, &ARCHIVE) != *wanted).then_some(*seed)

@@ -379,6 +379,18 @@ fn lays_out_sheets_of_saved_images() {
     }
 }
 
+/// With another saved image, of which something may be left out as well.
+#[test]
+fn joins_saved_images() {
+    let seen = calls(&[0, 1, 8, 14, 15], |rng, image| {
+        let (keys, pending) = rng.saved();
+        Asked::Join(image, image_of(&keys, &pending), room(rng, IMAGE_MOST))
+    });
+    if !one_seed() {
+        seen.expect_ways(&[LATER], OFTEN);
+    }
+}
+
 // ---- image in, image out, image in again ----
 
 /// The node that the proved program reads from an image, and the second one.

@@ -250,6 +250,7 @@ fn host_calls_require_so_many_bytes() {
                 Asked::Take(image.clone(), frame.clone(), lent),
                 Asked::Enter(image.clone(), 0, lent),
                 Asked::Beat(image.clone(), lent, BEAT_FRAMES),
+                Asked::Join(image.clone(), image.clone(), lent),
             ] {
                 let answer = answer(&asked);
                 assert_eq!(answer == -15, lent < IMAGE_MOST, "{lent} bytes: {answer}");
@@ -283,6 +284,20 @@ fn no_frame_brings_a_key_too_many() {
     for (count, expected) in [(LIMIT - 1, 8 * LIMIT as i64 + 4), (LIMIT, -6)] {
         let asked = Asked::Enter(image_of(&even(count), &[]), u64::MAX, IMAGE_MOST);
         assert_eq!(answer(&asked), expected, "{count} keys");
+    }
+}
+
+/// Two images become one of as many keys as the limit, and not of one more; each
+/// of them may have so many.
+#[test]
+fn images_are_joined_up_to_so_many_keys() {
+    for (union, fits) in [(LIMIT - 1, true), (LIMIT, true), (LIMIT + 1, false)] {
+        for pair in pairs(union) {
+            let [first, second] = pair.map(|keys| image_of(&keys, &[]));
+            let expected = if fits { 4 + 8 * union as i64 } else { -8 };
+            let asked = Asked::Join(first, second, IMAGE_MOST);
+            assert_eq!(answer(&asked), expected, "a union of {union}");
+        }
     }
 }
 

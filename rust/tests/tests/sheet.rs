@@ -10,7 +10,7 @@
 mod archive;
 mod wallsheet;
 
-use archive::{Asked, sheet_by};
+use archive::{Asked, written_by};
 use minutefrost::IMAGE_MOST;
 use second::{Claim, PENDING, RawNode, RawStore, SHEET_MOST, read_image};
 use tests::card::write_sheet_case;
@@ -99,7 +99,7 @@ fn sheet_of(keys: &[u64]) -> String {
     let image = image_of(keys, &[]);
     let printed = wallsheet::compare(&wallsheet::program(), &image);
     assert_eq!(reply.bytes[..reply.count()], *printed.as_bytes());
-    let written = sheet_by(&Asked::Sheet(image, SHEET_MOST), NOISE);
+    let written = written_by(&Asked::Sheet(image, SHEET_MOST), NOISE);
     assert_eq!(written.as_deref(), Ok(printed.as_bytes()));
     printed
 }
@@ -409,7 +409,7 @@ fn sheets_of_images_as_told() {
             let image = image_of(&keys, &pending);
             for room in ROOMS {
                 let lent = room(length(count));
-                let sheet = sheet_by(&Asked::Sheet(image.clone(), lent), NOISE);
+                let sheet = written_by(&Asked::Sheet(image.clone(), lent), NOISE);
                 let number = sheet.as_ref().err().copied().unwrap_or(0);
                 if let Ok(sheet) = sheet {
                     assert_eq!(keys_on(&sheet).as_deref(), Ok(&keys[..]));
@@ -435,7 +435,7 @@ fn small_image() -> Vec<u8> {
 /// The number that refuses an image, whatever is lent.
 fn refused(image: &[u8]) -> u8 {
     let number = [0, LINE, SHEET_MOST].map(|lent| {
-        let sheet = sheet_by(&Asked::Sheet(image.to_vec(), lent), NOISE);
+        let sheet = written_by(&Asked::Sheet(image.to_vec(), lent), NOISE);
         sheet.expect_err("such an image is refused")
     });
     assert!(number.iter().all(|other| *other == number[0]));
@@ -473,7 +473,7 @@ fn sheets_of_damaged_images() {
         for byte in 0..=u8::MAX {
             let mut image = image.clone();
             image[at] = byte;
-            let sheet = sheet_by(&Asked::Sheet(image.clone(), SHEET_MOST), NOISE);
+            let sheet = written_by(&Asked::Sheet(image.clone(), SHEET_MOST), NOISE);
             seen.number(sheet.as_ref().err().copied().unwrap_or(0));
             if let Ok(sheet) = sheet {
                 let (keys, _) = left_out::contents(&image).expect("an image");

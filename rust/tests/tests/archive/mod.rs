@@ -16,6 +16,7 @@ pub enum Asked {
     Enter(Vec<u8>, u64, usize),
     Count(Vec<u8>),
     Sheet(Vec<u8>, usize),
+    Join(Vec<u8>, Vec<u8>, usize),
 }
 
 /// What a call leaves: its answer, and both buffers with their guards.
@@ -32,7 +33,7 @@ fn buffer(seed: u64, lent: usize) -> Vec<u8> {
     (0..lent + GUARD).map(|_| noise.next() as u8).collect()
 }
 
-/// The five calls of a program that are given an image, their answers as the
+/// The six calls of a program that are given an image, their answers as the
 /// archive gives them.
 pub struct Program {
     take_frame: fn(&[u8], &[u8], &mut [u8]) -> i64,
@@ -40,6 +41,7 @@ pub struct Program {
     enter: fn(&[u8], u64, &mut [u8]) -> i64,
     count: fn(&[u8]) -> i64,
     sheet: fn(&[u8], &mut [u8]) -> i64,
+    join: fn(&[u8], &[u8], &mut [u8]) -> i64,
 }
 
 pub const SECOND: Program = Program {
@@ -48,6 +50,7 @@ pub const SECOND: Program = Program {
     enter: host::enter,
     count: host::count,
     sheet: host::sheet,
+    join: host::join,
 };
 
 pub const ARCHIVE: Program = Program {
@@ -58,6 +61,7 @@ pub const ARCHIVE: Program = Program {
     enter: |image, key, out| number_or(minutefrost::enter(image, key, out)),
     count: |image| number_or(minutefrost::keys(image).map(|keys| keys.len())),
     sheet: |image, out| number_or(minutefrost::sheet(image, out)),
+    join: |first, second, out| number_or(minutefrost::join(first, second, out)),
 };
 
 fn number_or(length: Result<usize, minutefrost::Refusal>) -> i64 {
@@ -71,23 +75,22 @@ impl Asked {
     /// Both buffers as they are lent; a call without one has none.
     fn lent(&self, seed: u64) -> (Vec<u8>, Vec<u8>) {
         match self {
-            Asked::Take(_, _, lent) | Asked::Enter(_, _, lent) | Asked::Sheet(_, lent) => {
-                (buffer(seed, *lent), Vec::new())
-            }
+            Asked::Take(_, _, lent) | Asked::Join(_, _, lent) => (buffer(seed, *lent), Vec::new()),
+            Asked::Enter(_, _, lent) | Asked::Sheet(_, lent) => (buffer(seed, *lent), Vec::new()),
             Asked::Beat(_, lent, lent_frames) => (buffer(seed, *lent), buffer(!seed, *lent_frames)),
             Asked::Count(_) => (Vec::new(), Vec::new()),
         }
     }
 
-    /// The image that it is given.
+    /// The image that it is given, of two the first.
     pub fn image(&self) -> &[u8] {
         match self {
-            Asked::Take(image, ..) | Asked::Beat(image, ..) => image,
+            Asked::Take(image, ..) | Asked::Beat(image, ..) | Asked::Join(image, ..) => image,
             Asked::Enter(image, ..) | Asked::Count(image) | Asked::Sheet(image, _) => image,
         }
     }
 
-    /// The same call, given another image.
+    /// The same call, given another image, of two in the place of the first.
     pub fn given(&self, image: Vec<u8>) -> Asked {
         match self {
             Asked::Take(_, frame, lent) => Asked::Take(image, frame.clone(), *lent),
@@ -95,6 +98,7 @@ impl Asked {
             Asked::Enter(_, key, lent) => Asked::Enter(image, *key, *lent),
             Asked::Count(_) => Asked::Count(image),
             Asked::Sheet(_, lent) => Asked::Sheet(image, *lent),
+            Asked::Join(_, second, lent) => Asked::Join(image, second.clone(), *lent),
         }
     }
 
@@ -111,6 +115,7 @@ impl Asked {
             Asked::Enter(image, key, lent) => (program.enter)(image, *key, &mut out[..*lent]),
             Asked::Count(image) => (program.count)(image),
             Asked::Sheet(image, lent) => (program.sheet)(image, &mut out[..*lent]),
+            Asked::Join(first, second, lent) => (program.join)(first, second, &mut out[..*lent]),
         };
         Left {
             answer,
@@ -151,15 +156,15 @@ pub fn left_by(asked: Asked) -> (Vec<u8>, Vec<u8>) {
     (image, frames)
 }
 
-/// The sheet that such a call leaves, by both programs, or the number of its
-/// refusal. Nothing else is written.
-pub fn sheet_by(asked: &Asked, seed: u64) -> Result<Vec<u8>, u8> {
+/// What a call writes that answers the length of it, a sheet or an image, by both
+/// programs, or the number of its refusal. Nothing else is written.
+pub fn written_by(asked: &Asked, seed: u64) -> Result<Vec<u8>, u8> {
     let left = compare(asked, seed);
-    let sheet = left.out[..left.answer.max(0) as usize].to_vec();
-    let wanted = asked.leaving(seed, left.answer, &sheet, &[]);
+    let written = left.out[..left.answer.max(0) as usize].to_vec();
+    let wanted = asked.leaving(seed, left.answer, &written, &[]);
     assert!(left == wanted, "the rest stays");
     match number(left.answer) {
-        0 => Ok(sheet),
+        0 => Ok(written),
         number => Err(number),
     }
 }
