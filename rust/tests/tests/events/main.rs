@@ -8,7 +8,13 @@
 //! 1); a round has at most twice as many deliveries as the union has
 //! keys; and as many further rounds of two kiosks as there are keys that just
 //! one of them holds, none refused and no match false, leave both with the
-//! union.
+//! union. Two kiosks may be joined into one of them (document 02, slip 9), in
+//! `joinings`.
+
+#[path = "../archive/mod.rs"]
+mod archive;
+
+mod joinings;
 
 use std::collections::{BTreeMap, BTreeSet};
 
@@ -17,6 +23,7 @@ use tests::card::*;
 use tests::cases::{for_seeds, one_seed};
 use tests::draw::{Density, Rng};
 use tests::drill::{Card, Drill};
+use tests::joining::{EQUAL, KEPT, KEYS};
 use tests::middle::{ADDED, ASKED_FULL, HELPED, LAST_PLACE, MATCHED, NO_SPACE, OTHERS};
 use tests::replies::{ASK_WAITS, HELP_WAITS};
 use tests::sums;
@@ -353,7 +360,11 @@ impl Told {
     }
 
     fn ways(&mut self, event: &'static str, case: &Case) {
-        for way in &case.ways {
+        self.all_ways(event, case.ways.clone());
+    }
+
+    fn all_ways(&mut self, event: &'static str, ways: Vec<&'static str>) {
+        for way in ways {
             *self.ways.entry((event, way)).or_default() += 1;
         }
     }
@@ -412,10 +423,11 @@ fn list(rng: &mut Rng, events: usize, enters: usize, drill: &mut Drill, told: &m
     for event in 0..events {
         match rng.below(100) {
             draw if draw < enters => world.enter(rng, drill, told),
-            _ => match rng.below(20) {
-                0..3 => world.make(rng, drill, told),
-                3..13 => world.deliver(rng, drill, told),
-                13..18 => world.beat(rng, drill, told),
+            _ => match rng.below(40) {
+                0..6 => world.make(rng, drill, told),
+                6..26 => world.deliver(rng, drill, told),
+                26..35 => world.beat(rng, drill, told),
+                35 => world.join(rng, drill, told),
                 _ => {
                     let few = rng.one_in(6).then(|| rng.below(40));
                     world.round_on_air(few, rng, drill, told);
@@ -460,12 +472,18 @@ fn lists_of_events() {
             ("beat", 15),
             ("round", 0),
             ("round", 9),
+            ("join", 0),
+            ("join", 15),
         ];
         told.expect(&events, 40);
         // A claim made is true of its sender, and there is space here.
         let threes = [ADDED, OTHERS].concat();
         told.expect_ways(&["reply", "take", "round"], &threes, 10);
         told.expect_ways(&["beat"], &[MATCHED, HELPED], 40);
+        let [none_equal, some_equal, _] = EQUAL;
+        told.expect_ways(&["join"], &[KEPT[0], KEPT[1], none_equal], 40);
+        told.expect_ways(&["join"], &KEYS, 10);
+        told.expect_ways(&["join"], &[some_equal], 20);
     }
 }
 
@@ -487,6 +505,8 @@ fn lists_past_the_limit() {
             // Once the kiosks are full, mostly what they say to each other.
             let least = if event < FILLING { 0 } else { 7 };
             match least + rng.below(16 - least) {
+                // Seldom: it leaves fewer keys for the others to tell.
+                _ if rng.one_in(120) => world.join(rng, &mut drill, &mut told),
                 0..9 => world.enter(rng, &mut drill, &mut told),
                 9..11 => world.make(rng, &mut drill, &mut told),
                 11..14 => world.deliver(rng, &mut drill, &mut told),
@@ -508,6 +528,8 @@ fn lists_past_the_limit() {
             ("take", 6),
             ("round", 8),
             ("round", 0),
+            ("join", 8),
+            ("join", 0),
         ];
         told.expect(&events, 20);
         let [ends_held, ..] = NO_SPACE;
