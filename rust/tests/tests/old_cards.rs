@@ -251,6 +251,16 @@ fn beats_send_what_they_sent() -> Result<(), Refusal> {
     Ok(())
 }
 
+/// Since slip 8 a beat replies to eight: a card of that state sends the bytes
+/// that it sent, whatever waits behind the eight.
+#[test]
+fn beats_of_eight_replies_send_the_same_bytes() -> Result<(), Refusal> {
+    for card in cards_of("slip8") {
+        assert_eq!(beat(&card.image)?.1, card.sent, "{}", card.name);
+    }
+    Ok(())
+}
+
 /// The base left a claim of three pending with but its ends held. No beat adds
 /// the middle key, so the claim is asked about and kept. Whether hearing it
 /// once more adds that key is the state's own rule.
