@@ -8,6 +8,7 @@
 mod against;
 mod cases;
 mod deliveries;
+mod join;
 mod library;
 mod machine;
 mod opening;
@@ -76,6 +77,7 @@ fn print_report() {
     print_calls();
     print_growth();
     sheet::print_sheets();
+    join::print_joinings();
     opening::print_openings();
     search::print_searches();
     round::print_rounds();
@@ -83,10 +85,10 @@ fn print_report() {
 
 /// One call by both programs, in turns. Each gives its answer, and what it
 /// writes stands in the buffers.
-fn in_turns(
-    cases: &[Case],
-    rattle: impl Fn(&Case, &mut Buffers) -> i64,
-    second: impl Fn(&Case, &mut Buffers) -> i64,
+fn in_turns<C>(
+    cases: &[C],
+    rattle: impl Fn(&C, &mut Buffers) -> i64,
+    second: impl Fn(&C, &mut Buffers) -> i64,
 ) -> Compared {
     let mut one = Buffers::new();
     let mut other = one.clone();
