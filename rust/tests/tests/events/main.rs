@@ -442,6 +442,31 @@ fn list(rng: &mut Rng, events: usize, enters: usize, drill: &mut Drill, told: &m
     world.meet(rng, drill, told);
 }
 
+/// The events of lists, and the number of each.
+const EVENTS: [(&str, u8); 21] = [
+    ("enter", 0),
+    ("make", 0),
+    ("make", 7),
+    ("reply", 0),
+    ("reply", 2),
+    ("reply", 3),
+    ("reply", 4),
+    ("reply", 5),
+    ("reply", 16),
+    ("take", 0),
+    ("take", 2),
+    ("take", 3),
+    ("take", 4),
+    ("take", 5),
+    ("take", 16),
+    ("beat", 0),
+    ("beat", 15),
+    ("round", 0),
+    ("round", 9),
+    ("join", 0),
+    ("join", 15),
+];
+
 #[test]
 fn lists_of_events() {
     let mut drill = Drill::start();
@@ -452,30 +477,7 @@ fn lists_of_events() {
     });
     told.print("lists of 160 events, 2 to 5 kiosks");
     if !one_seed() {
-        let events = [
-            ("enter", 0),
-            ("make", 0),
-            ("make", 7),
-            ("reply", 0),
-            ("reply", 2),
-            ("reply", 3),
-            ("reply", 4),
-            ("reply", 5),
-            ("reply", 16),
-            ("take", 0),
-            ("take", 2),
-            ("take", 3),
-            ("take", 4),
-            ("take", 5),
-            ("take", 16),
-            ("beat", 0),
-            ("beat", 15),
-            ("round", 0),
-            ("round", 9),
-            ("join", 0),
-            ("join", 15),
-        ];
-        told.expect(&events, 40);
+        told.expect(&EVENTS, 40);
         // A claim made is true of its sender, and there is space here.
         let threes = [ADDED, OTHERS].concat();
         told.expect_ways(&["reply", "take", "round"], &threes, 10);
@@ -490,6 +492,17 @@ fn lists_of_events() {
 /// The first events of a long list, of which nine in sixteen enter a key: more
 /// keys than a kiosk can hold.
 const FILLING: usize = 2 * LIMIT;
+
+/// The events of lists that enter so many, and the number of each.
+const EVENTS_PAST: [(&str, u8); 7] = [
+    ("enter", 6),
+    ("reply", 6),
+    ("take", 6),
+    ("round", 8),
+    ("round", 0),
+    ("join", 8),
+    ("join", 0),
+];
 
 /// Long lists with more keys than the kiosks can hold: 6 and 8 come, and never
 /// before as many different keys are entered as one can hold.
@@ -522,16 +535,7 @@ fn lists_past_the_limit() {
     });
     told.print("lists past the limit");
     if !one_seed() {
-        let events = [
-            ("enter", 6),
-            ("reply", 6),
-            ("take", 6),
-            ("round", 8),
-            ("round", 0),
-            ("join", 8),
-            ("join", 0),
-        ];
-        told.expect(&events, 20);
+        told.expect(&EVENTS_PAST, 20);
         let [ends_held, ..] = NO_SPACE;
         told.expect_ways(&["reply", "take"], &[ends_held], 1);
         told.expect_ways(&["beat"], &[ASKED_FULL, ASK_WAITS, HELP_WAITS], 20);
