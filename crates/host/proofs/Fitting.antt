@@ -29,7 +29,7 @@ use Rattle.rule.proofs.NodeLaws.{Ordered, ordered-nodeInOrder, savedInOrder-sav
 use Rattle.rule.proofs.CallLaws.{takeQuestions-yes, taken-done, taken-refused, length-nodeKeys, length-pendingOf}
 use Rattle.rule.proofs.TableLaws.{insertClaim-mem, length-tableWith, kept-mem, length-kept}
 use Rattle.rule.proofs.Union.{union-mem}
-use Rattle.rule.proofs.JoiningLaws.{insertClaims-mem}
+use Rattle.rule.proofs.Joining.{insertClaims-mem}
 use Rattle.wire.specs.declared.answer.Imaged.{Imaged}
 use Rattle.wire.specs.Number.{byte, Below}
 use Rattle.wire.specs.Claim.{keyWidth, countWidth, ClaimFits}

@@ -22,13 +22,13 @@ use Rattle.rule.specs.Question.{question8}
 use Rattle.rule.specs.Round.{union}
 use Rattle.rule.specs.Call.{joinedNode}
 use Rattle.rule.proofs.NodeLaws.{Ordered, nodeInOrder-ordered, ordered-nodeInOrder}
-use Rattle.rule.proofs.JoiningLaws.{ordered-joined}
+use Rattle.rule.proofs.Joining.{ordered-joined}
 use Rattle.nodes.specs.Lent.{nodeHeld, takenWith}
 use Rattle.nodes.specs.Joining.{joinIn}
 use Rattle.nodes.proofs.JoiningLaws.{joinIn-number, joinIn-long, joinIn-node}
 use Rattle.wire.specs.Image.{readImageQuestions}
 use Rattle.host.specs.Call.{nodeIn, joiningQuestions, nodeJoined, imagesJoined, imagesJoinedOut}
-use Rattle.host.specs.Known.{Known, Loaded, JoinedFrom, Saved}
+use Rattle.host.specs.Known.{Loaded, JoinedFrom, Saved}
 use Rattle.host.proofs.SignPaths.{handed-on}
 use Rattle.host.proofs.SavePaths.{known-refused, saved-known}
 use Rattle.host.proofs.LibPaths.{past-image}

@@ -8,7 +8,7 @@ use mathlib.Core.List.{List, [], _∷_, _++_}
 use mathlib.Core.Logic.{⊎-elim}
 use mathlib.Core.Path.{_≡_, refl, sym, ap, ap₂, _∙_}
 use borrow.Author.Tests.{le-leb, leb-true}
-use lib.IntN.{ℤ, pos}
+use lib.IntN.{pos}
 use lib.ListN.{length, take}
 use Rattle.keys.specs.Store.{limit}
 use Rattle.keys.specs.Place.{putAt}
@@ -25,7 +25,7 @@ use Rattle.rule.specs.Call.{joinedNode, joinQuestions, joined}
 use Rattle.rule.proofs.NodeLaws.{Ordered, nodeInOrder-ordered, ordered-nodeInOrder}
 use Rattle.rule.proofs.CallLaws.{length-nodeKeys}
 use Rattle.rule.proofs.Union.{union-self, union-comm}
-use Rattle.rule.proofs.JoiningLaws.{JoinYes, joined-done, joined-refused, ordered-joined, joinedNode-comm, joinedNode-self}
+use Rattle.rule.proofs.Joining.{JoinYes, joined-done, joined-refused, ordered-joined, joinedNode-comm, joinedNode-self}
 use Rattle.wire.specs.declared.answer.Imaged.{Imaged}
 use Rattle.wire.specs.Number.{byte, Below}
 use Rattle.wire.specs.Image.{imageLimit, nodeBytes, NodeFits, parse, readImageQuestions, readImage}
@@ -34,7 +34,7 @@ use Rattle.wire.proofs.ImageTrips.{image-accepted, image-read-ordered, image-re
 use Rattle.host.specs.Call.{minus, nodeIn, savingQuestions, saved, savedOut, joiningQuestions, nodeJoined, imagesJoined, imagesJoinedOut}
 use Rattle.host.proofs.JoinPaths.{joining-numbered, eight}
 use Rattle.host.proofs.Fitting.{narrow-read, narrow-joined}
-use Rattle.host.proofs.Trips.{was-done, is-length, saved-is-read}
+use Rattle.host.proofs.Trips.{was-done, saved-is-read}
 
 -- ---- the questions of a joining, all answered yes
 

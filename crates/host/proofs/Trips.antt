@@ -55,7 +55,7 @@ module _ (k m n : ℕ) (e : settle k (pos m) minus ≡ pos n) where
   was-done =
       ⊎-elim {C = k ≡ 0} (λ (z : k ≡ 0). z) (λ (f : k ≡ 0 → ⊥). absurd (minus-pos k n f (sym (settle-refused k (pos m) minus f) ∙ e))) (eq-or-ne k 0)
 
-  pub is-length : m ≡ n
+  is-length : m ≡ n
   is-length = let p : pos m ≡ pos n = sym (settle-done k (pos m) minus was-done) ∙ e in cc
 
 -- ---- the image of a node in order whose numbers fit is read as that node

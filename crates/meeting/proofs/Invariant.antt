@@ -32,7 +32,7 @@ use Rattle.rule.proofs.Union.{union-sub, union-left}
 use Rattle.rule.proofs.RoundLaws.{Rounded}
 use Rattle.rule.proofs.CallLaws.{TakeYes, takeQuestions-yes, ordered-taken, ordered-beaten, length-nodeKeys}
 use Rattle.rule.proofs.CallLaws.{length-pendingOf, RoundYes, roundQuestions-yes, roundYes-rounded}
-use Rattle.rule.proofs.JoiningLaws.{JoinYes, joinQuestions-yes, ordered-joined}
+use Rattle.rule.proofs.Joining.{JoinYes, joinQuestions-yes, ordered-joined}
 use Rattle.wire.specs.Image.{imageLimit}
 use Rattle.meeting.specs.Event.{Event, To, enters, makes, delivers, beats, meets, joins}
 use Rattle.meeting.specs.World.{World, start, withNode, withStore, Outcome, outcome, after, afterAll, numbers, enteredBy, keysEntered}

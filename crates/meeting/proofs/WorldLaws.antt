@@ -28,7 +28,7 @@ use Rattle.rule.specs.Node.{nodeKeys, pendingOf, nodeOf}
 use Rattle.rule.specs.Round.{Line, transcript}
 use Rattle.rule.specs.Call.{takeQuestions, claimWords, beatQuestions, joinedNode, joinQuestions, joined, roundQuestions, roundBy}
 use Rattle.rule.proofs.CallLaws.{claimQuestions-6, taken-done, taken-refused, beaten-done, beaten-refused, beatenLent-done, met-done, met-refused, metLent-done}
-use Rattle.rule.proofs.JoiningLaws.{joined-done, joined-refused}
+use Rattle.rule.proofs.Joining.{joined-done, joined-refused}
 use Rattle.wire.specs.Image.{imageLimit}
 use Rattle.meeting.specs.Event.{Event, To, enters, makes, delivers, beats, meets, joins}
 use Rattle.meeting.specs.World.{withNode, withStore, Outcome, readClaims, readRecords, outcome, enteredBy}

@@ -13,7 +13,7 @@ use Rattle.rule.specs.Table.{before, climbs, insertClaims}
 use Rattle.rule.specs.Round.{union}
 use Rattle.rule.proofs.Union.{union-left, union-right, union-sub, union-rising}
 use Rattle.rule.proofs.Sorted.{Among, Strict, Sorted, sorted-ext, strict-keys, sorted-rising, strict-claims, sorted-climbs}
-use Rattle.rule.proofs.JoiningLaws.{insertClaims-old, insertClaims-new, insertClaims-among, climbs-insertClaims}
+use Rattle.rule.proofs.Joining.{insertClaims-old, insertClaims-new, insertClaims-among, climbs-insertClaims}
 use Rattle.merging.specs.Merge.{merged}
 
 module _ {A : Type 0} (first : A → A → Bool) where

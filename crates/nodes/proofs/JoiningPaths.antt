@@ -3,7 +3,7 @@
 use Prim.Native.Nat.{ℕ, _+_, _-_, _≤_, _<_, min}
 use native.Mathlib.Numerals.{add-one}
 use native.Mathlib.Omega.{arith}
-use mathlib.Core.Bool.{Bool, true, false, cond, false≢true}
+use mathlib.Core.Bool.{Bool, true, false, cond}
 use mathlib.Core.List.{List, [], _∷_, _++_, append-nil}
 use mathlib.Core.Logic.{_⊎_, inl, inr}
 use mathlib.Core.Path.{_≡_, refl, sym, ap, ap₂, _∙_}
@@ -22,7 +22,7 @@ use Rattle.rule.specs.Table.{tableLimit, before}
 use Rattle.rule.specs.Node.{blanks}
 use Rattle.rule.proofs.NodeLaws.{length-blanks}
 use Rattle.merging.specs.Merge.{merged, mergedIn}
-use Rattle.merging.proofs.Walk.{Walked, Turned, walk-start, walk-first, walk-second, walk-same, walk-end, walk-count}
+use Rattle.merging.proofs.Walk.{Walked, Turned, walk-start, walk-first, walk-second, walk-same, walk-end}
 use Rattle.nodes.specs.declared.joining.Next.{Next}
 use Rattle.nodes.specs.Lent.{Enlisted, nodeHeld, takenWith}
 use Rattle.nodes.specs.Joining.{nextOf, tablesIn, CopiedBehind, joinIn}

@@ -10,7 +10,6 @@ use rule::Rest;
 ghost use mathlib.Core.Path.{_≡_};
 ghost use Prim.Native.Nat.{_+_, _-_, _≤_, min};
 ghost use lib.ListN.{take, drop};
-ghost use Rattle.keys.specs.Place.{putAt};
 ghost use Rattle.rule.specs.Table.{tableLimit};
 ghost use Rattle.rule.specs.Node.{blanks};
 ghost use Rattle.nodes.specs.Lent.{Enlisted, nodeHeld, takenWith};

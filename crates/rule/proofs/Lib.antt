@@ -10,7 +10,7 @@
 --     Half       a half ends, and its deliveries and what waits fit the union
 --   CallLaws   what the calls return, one law a return path; what comes out is in order
 --   Sorted     lists that rise by an order: keys and claims
---   JoiningLaws  two tables in one, two nodes in one
+--   Joining    two tables in one, two nodes in one
 --   Words      claims and records as words
 pub mod Cases
 pub mod TableLaws
@@ -23,5 +23,5 @@ pub mod Half
 pub mod RoundLaws
 pub mod CallLaws
 pub mod Sorted
-pub mod JoiningLaws
+pub mod Joining
 pub mod Words

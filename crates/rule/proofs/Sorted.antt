@@ -10,7 +10,6 @@ use lib.Dec.{ltb}
 use Rattle.keys.proofs.Rising.{Rising, above-mem}
 use Rattle.keys.proofs.Tests.{and-left, and-right}
 use Rattle.claims.specs.declared.claim.Claim.{Claim}
-use Rattle.claims.specs.Reply.{same}
 use Rattle.claims.proofs.ClaimLaws.{same-claim}
 use Rattle.rule.specs.Table.{ranking, before, climbsFrom, climbs}
 use Rattle.rule.proofs.TableLaws.{before-trans, ranking-same, wordsBefore-total}

@@ -16,7 +16,7 @@ use Rattle.claims.specs.declared.claim.Claim.{Claim}
 use Rattle.claims.specs.Reply.{same}
 use Rattle.rule.specs.declared.node.Node.{Node}
 use Rattle.rule.specs.Table.{tableLimit}
-use Rattle.rule.specs.Node.{nodeKeys, pendingOf, nodeOf, allTell, telling, savedInOrder, nodeInOrder}
+use Rattle.rule.specs.Node.{nodeKeys, pendingOf, nodeOf, allTell, savedInOrder, nodeInOrder}
 use Rattle.rule.proofs.NodeLaws.{nodeInOrder-ordered, ordered-nodeInOrder, savedInOrder-saved, saved-savedInOrder, ordered-saved, ordered-tells}
 use Rattle.rule.proofs.NodeLaws.{telling-all, ordered-telling, nodeOf-same, nodeKeys-nodeOf, pendingOf-nodeOf}
 use Rattle.wire.specs.Number.{byte, Below}

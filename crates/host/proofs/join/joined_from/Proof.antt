@@ -1,5 +1,5 @@
 -- `join::joined_from` meets its contract: one law for each way. Assumes nothing.
-use mathlib.Core.Path.{refl, sym}
+use mathlib.Core.Path.{refl}
 use borrow.Author.Needs.{needs}
 use Rattle.keys.specs.Store.{zeros}
 use Rattle.host.proofs.JoinPaths.{joined-first, joined-second, joined-both}

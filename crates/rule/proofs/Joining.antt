@@ -10,7 +10,7 @@ use borrow.Author.Tests.{leb-true}
 use lib.ListN.{length, take, length-take}
 use lib.Seq.{take-all}
 use Rattle.keys.specs.Store.{limit, Sized}
-use Rattle.keys.proofs.Rising.{Rising, take-mem}
+use Rattle.keys.proofs.Rising.{take-mem}
 use Rattle.keys.proofs.StoreLaws.{inOrder-rising}
 use Rattle.claims.specs.declared.claim.Claim.{Claim}
 use Rattle.claims.specs.Question.{firstNo}
