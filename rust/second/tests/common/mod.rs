@@ -3,6 +3,8 @@
 
 #![allow(dead_code)] // Each test file is a program that uses a part of this.
 
+pub mod list;
+
 use std::cell::RefCell;
 use std::collections::{BTreeMap, BTreeSet};
 

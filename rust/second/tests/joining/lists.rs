@@ -5,8 +5,8 @@
 use std::collections::BTreeSet;
 
 use super::NEEDED;
+use super::common::list::List;
 use super::common::*;
-use super::kiosks::List;
 
 /// An event other than entering; its name and its number.
 fn any_event(list: &mut List, rng: &mut Rng, ways: &Ways) -> (&'static str, u8) {
@@ -32,7 +32,7 @@ fn any_event(list: &mut List, rng: &mut Rng, ways: &Ways) -> (&'static str, u8) 
             ("take", number)
         }
         6 => ("beat", list.beat(at)),
-        7 => ("round", list.round(at, other)),
+        7 => ("round", list.round(at, other).0),
         _ => {
             let room = *rng.pick(&[NEEDED, NEEDED, NEEDED + 5, NEEDED - 1]);
             ("join", list.join(at, other, room, ways))

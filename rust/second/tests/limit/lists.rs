@@ -3,77 +3,11 @@
 
 use std::collections::BTreeSet;
 
+use super::common::list::List;
 use super::common::*;
 use super::drawn;
-use second::*;
-
-/// Kiosks, the claims made so far and the keys entered (document 01, "Lists of
-/// events").
-struct List {
-    kiosks: Vec<RawNode>,
-    made: Vec<Claim>,
-    entered: BTreeSet<u64>,
-}
 
 impl List {
-    fn of_kiosks(count: usize) -> List {
-        List {
-            kiosks: vec![RawNode::empty(); count],
-            made: Vec::new(),
-            entered: BTreeSet::new(),
-        }
-    }
-
-    /// "a key entered into one kiosk's store"; its number.
-    fn enter(&mut self, at: usize, key: u64) -> u8 {
-        let entered = enter(self.kiosks[at].store.clone(), key);
-        if entered.number == 0 {
-            self.kiosks[at].store = entered.store;
-            self.entered.insert(key);
-        }
-        entered.number
-    }
-
-    /// "a claim delivered to one kiosk, either to the reply, which changes its
-    /// store, or to the table"; its number.
-    fn deliver(&mut self, at: usize, claim: Claim, to_reply: bool) -> u8 {
-        if !to_reply {
-            let taken = take(self.kiosks[at].clone(), claim);
-            self.kiosks[at] = taken.node;
-            return taken.number;
-        }
-        let replied = reply(self.kiosks[at].store.clone(), claim);
-        let (count, claims) = replied.claims();
-        self.made.extend(&claims[..count]);
-        self.kiosks[at].store = replied.store;
-        replied.number
-    }
-
-    /// "a beat of one kiosk"; its number.
-    fn beat(&mut self, at: usize) -> u8 {
-        let mut run = vec![0; BEAT_WORDS];
-        let beaten = beat(self.kiosks[at].clone(), &mut run);
-        let claims = run[..4 * beaten.written].chunks(4);
-        self.made
-            .extend(claims.map(|it| c(it[0], it[1], it[2], it[3] as u16)));
-        self.kiosks[at] = beaten.node;
-        beaten.number
-    }
-
-    /// "a round of two different kiosks"; its number, and whether no match was
-    /// false.
-    fn round(&mut self, left: usize, right: usize) -> (u8, bool) {
-        let [one, other] = [left, right].map(|at| self.kiosks[at].store.clone());
-        let mut records = vec![Delivery::default(); 2 * LIMIT];
-        let (rounded, false_matches) = round_watched(one, other, &mut records);
-        let delivered = &records[..rounded.deliveries];
-        self.made
-            .extend(delivered.iter().map(|record| record.claim));
-        self.kiosks[left].store = rounded.left;
-        self.kiosks[right].store = rounded.right;
-        (rounded.number, false_matches.is_empty())
-    }
-
     /// An event other than entering; its name and number.
     fn any_event(&mut self, rng: &mut Rng) -> (&'static str, u8) {
         let at = rng.below(self.kiosks.len());
@@ -82,9 +16,7 @@ impl List {
             0 if held > 0 => {
                 let first = rng.below(held);
                 let last = first + rng.below(held - first);
-                let made = make(&self.kiosks[at].store, first, last);
-                self.made.push(made.claim);
-                ("make", made.number)
+                ("make", self.make(at, first, last))
             }
             1 | 2 if !self.made.is_empty() => {
                 let (claim, to_reply) = (*rng.pick(&self.made), rng.one_in(2));
