@@ -64,7 +64,7 @@ fn remains(answer: Answer) -> bool
 }
 
 // What comes of one pending claim: whether it stays, how many replies are left then, and the place after what was written.
-#[derive(Drop)]
+#[derive(Clone, Copy)]
 struct Turn {
     stays: bool,
     left: usize,
@@ -102,7 +102,7 @@ fn serve_claim(lent: &mut [u64], at: usize, left: usize, answer: Answer) -> Turn
 
 // A table once it is served: the claims that stay, then zeros; how many stay; the place after what was written. Or the number of the first question
 // answered no, and the table as it was.
-#[derive(Drop)]
+#[derive(Clone, Copy)]
 pub struct Kept {
     pub number: u8,
     pub table: [Claim; Node::TABLE],

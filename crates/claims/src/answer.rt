@@ -3,7 +3,7 @@ use crate::claim::Claim;
 use keys::Store;
 
 // The answer to one claim. The store stands beside it, in `Replied`.
-#[derive(Drop)]
+#[derive(Clone, Copy)]
 pub enum Answer {
     Refused(u8),
     Match,
@@ -18,7 +18,7 @@ pub struct Entered {
     pub store: Store,
 }
 
-#[derive(Drop)]
+#[derive(Clone, Copy)]
 pub struct Made {
     pub number: u8,
     pub claim: Claim,

@@ -8,7 +8,7 @@ ghost use Rattle.claims.specs.Call.{judged, judged_formerly};
 use keys::Store;
 
 // What a claim says: "from lo to hi I hold cnt keys, whose XOR is sum".
-#[derive(Drop)]
+#[derive(Clone, Copy)]
 pub struct Claim {
     pub lo: u64,
     pub hi: u64,

@@ -11,7 +11,7 @@ use crate::claim::{Claim, judge, middle_key, same};
 use keys::{Store, add_both_in, add_in, at_least, capped, places_in, resum_in};
 
 // A claim heard: the count then, and where its lo and hi stand; or the number of the first question answered no, and the count as it was.
-#[derive(Drop)]
+#[derive(Clone, Copy)]
 pub struct Heard {
     pub number: u8,
     pub count: usize,
@@ -20,7 +20,7 @@ pub struct Heard {
 }
 
 // A claim replied to: the count then, how far the sums are right, and the answer.
-#[derive(Drop)]
+#[derive(Clone, Copy)]
 pub struct Told {
     pub count: usize,
     pub mark: usize,

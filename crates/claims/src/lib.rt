@@ -1,5 +1,7 @@
 // The lower library: claims and the reply to one claim (document 01, "Claims", "The reply to one claim"); the store comes with it from `keys`.
 // Each public call takes any content and states its whole result by one equation with a definition of specs/.
+#![tactic(auto)]
+
 mod answer;
 mod calls;
 mod claim;

@@ -8,7 +8,7 @@ use claims::{Answer, Claim, Store};
 use rule::{Beaten, Met, Node};
 
 // What came of a call: whether it could be made, and the number and the count of its answer.
-#[derive(Drop)]
+#[derive(Clone, Copy)]
 struct Said {
     made: bool,
     number: u8,
@@ -139,7 +139,7 @@ fn make(words: &mut [u64; MOST]) -> Said {
 }
 
 // The number, the kind and both claims of a reply.
-#[derive(Drop)]
+#[derive(Clone, Copy)]
 struct Parts(u8, usize, Claim, Claim);
 
 fn parts_of(answer: Answer) -> Parts {

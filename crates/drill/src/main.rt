@@ -24,6 +24,8 @@
 // The calls: 1 enter, 2 make, 3 reply, 4 judge, 5 take, 6 beat, 7 round_words, 8 read_frame, 9 write_frame, 10 read_image, 11 write_image,
 // 12 image_length, 13 ordered, 14 Store::empty, 15 round_record, 16 write_sheet, 17 opening_cost. Calls 8 to 12 and 16 are lent the
 // first of the request's bytes.
+#![tactic(auto)]
+
 mod calls;
 mod card;
 mod raw;

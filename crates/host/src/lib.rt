@@ -1,4 +1,6 @@
 // What the kiosk daemon links: six calls on images and frames (document 01, "Host calls"; document 02, slips 4 and 9), and one for planners (slip 5).
+#![tactic(auto)]
+
 mod enter;
 mod join;
 mod load;

@@ -9,7 +9,7 @@ use crate::search::{NEAR, both_quartered, far_both, quartered};
 use crate::store::Store;
 
 // Where a key stands, or would stand.
-#[derive(Drop)]
+#[derive(Clone, Copy)]
 pub struct Place {
     pub at: usize,
     pub held: bool,
@@ -21,14 +21,14 @@ impl Place {
 }
 
 // The places of two keys in one run.
-#[derive(Drop)]
+#[derive(Clone, Copy)]
 pub struct Places {
     pub lower: Place,
     pub upper: Place,
 }
 
 // Keys added: the count then, and where the lesser and the greater one stand; or that they do not fit, and the count as it was.
-#[derive(Drop)]
+#[derive(Clone, Copy)]
 pub struct Added {
     pub fits: bool,
     pub count: usize,

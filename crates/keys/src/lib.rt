@@ -1,5 +1,7 @@
 // Keys and the store (document 01, the section of that name): the store, and the calls on a lent run of its keys. What is asked and answered of a
 // store is in `claims`, where `enter` is. Each public call takes any content and states its whole result by equations with definitions of specs/.
+#![tactic(auto)]
+
 mod count;
 mod leaf;
 mod lent;

@@ -73,7 +73,7 @@ pub(crate) fn quartered(keys: &[u64], count: u16, key: u64) -> u16
 }
 
 // Two positions.
-#[derive(Drop)]
+#[derive(Clone, Copy)]
 pub(crate) struct Pair {
     pub(crate) lower: u16,
     pub(crate) upper: u16,
@@ -126,7 +126,7 @@ fn far_passed(part: &[u64], width: usize, key: u64) -> usize
 }
 
 // Where two parts of a run begin, and how many keys either has.
-#[derive(Drop)]
+#[derive(Clone, Copy)]
 struct Parts {
     lower: usize,
     upper: usize,
@@ -159,7 +159,7 @@ fn near(keys: &[u64], count: usize, lo: u64, hi: u64) -> Parts
 }
 
 // Two positions in a run of any length.
-#[derive(Drop)]
+#[derive(Clone, Copy)]
 pub(crate) struct Found {
     pub(crate) lower: usize,
     pub(crate) upper: usize,

@@ -52,7 +52,7 @@ fn copy_to(into: &mut [u64], at: usize, run: &[u64])
 }
 
 // How far a walk came: the keys passed of the one run and of the other, and the keys written.
-#[derive(Drop)]
+#[derive(Clone, Copy)]
 struct Reached {
     one: usize,
     other: usize,

@@ -13,7 +13,7 @@ use merging::merge_in;
 use rule::{Node, Rest};
 
 // The next claim of two tables, and how many of either are passed with it.
-#[derive(Drop)]
+#[derive(Clone, Copy)]
 struct Next {
     claim: Claim,
     one: usize,

@@ -1,6 +1,8 @@
 // Nodes (document 01, "Pending table and beat"): the in-order test of a node, what an image holds, taking a claim into the table, and two nodes in one (document
 // 02, slip 9). A beat is in `beats`.
 // Each public call takes any content and states its whole result, and every lent place, by an equation with a definition.
+#![tactic(auto)]
+
 mod admitting;
 mod joining;
 mod order;

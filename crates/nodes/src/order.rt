@@ -44,7 +44,7 @@ fn fits(keys: &[u64], held: usize, claim: Claim) -> bool
 }
 
 // Whether claims or a node are in order: as those in an image, which 16 is not asked of, and as those that are given.
-#[derive(Drop)]
+#[derive(Clone, Copy)]
 pub(crate) struct Order {
     pub(crate) saved: bool,
     pub(crate) given: bool,

@@ -11,7 +11,7 @@ use keys::{Store, capped};
 use rule::{Node, Rest, Taken};
 
 // A table, and how many claims are pending in it.
-#[derive(Drop)]
+#[derive(Clone, Copy)]
 pub(crate) struct Listed {
     pub(crate) table: [Claim; Node::TABLE],
     pub(crate) count: usize,

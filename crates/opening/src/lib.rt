@@ -1,11 +1,13 @@
 // What a new kiosk costs (document 02, slip 5): the deliveries of a round that fills an empty store.
+#![tactic(auto)]
+
 ghost use Rattle.std.specs.Prelude.{◌≡◌};
 ghost use Rattle.opening.specs.Cost.{opening_cost};
 ghost use Rattle.opening.specs.Call.{costed};
 
 use keys::Store;
 
-#[derive(Drop)]
+#[derive(Clone, Copy)]
 pub struct Costed {
     pub number: u8,
     pub deliveries: usize,

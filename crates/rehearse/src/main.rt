@@ -1,5 +1,7 @@
 // The rehearsal program (document 01): two images end to end on standard input, one round's deliveries on standard output.
 // What it decides and prints is `rehearsal::rehearse_text`; here are only the reading and the writing.
+#![tactic(auto)]
+
 ghost use Rattle.std.specs.Prelude.{◌≡◌, ◌+◌, ◌*◌, length};
 ghost use Rattle.wire.specs.Image.{image_limit};
 ghost use Rattle.rehearsal.specs.Text.{text_limit};

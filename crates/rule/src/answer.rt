@@ -10,7 +10,7 @@ pub struct Taken {
 }
 
 // A node but for its keys, which are lent: how many are held, the table's places, and how many of them are used.
-#[derive(Drop)]
+#[derive(Clone, Copy)]
 pub struct Rest {
     pub number: u8,
     pub held: usize,

@@ -3,7 +3,7 @@ use claims::Claim;
 use keys::Store;
 
 // The sender is 0 for the left end and 1 for the right one.
-#[derive(Drop)]
+#[derive(Clone, Copy)]
 pub struct Delivery {
     pub sender: u8,
     pub claim: Claim,

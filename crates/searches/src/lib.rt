@@ -1,5 +1,7 @@
 // For tests and measurements alone: the search of a lent run of keys as calls for programs in other languages. No daemon links it.
 // Each call takes any content, and states its whole result and every lent place by equations with the definitions of specs/Told.
+#![tactic(auto)]
+
 ghost use Rattle.std.specs.Prelude.{◌≡◌, ◌+◌, ◌<◌, ◌^◌, leb, length};
 ghost use Rattle.keys.specs.Lent.{place_in};
 ghost use Rattle.searches.specs.Told.{told_place, told_places};

@@ -1,5 +1,7 @@
 // The wall sheet (document 02, slip 4): the keys of a store laid out for the wall. Each public call takes any content and states its whole result, and every
 // lent place, by equations with definitions of specs/.
+#![tactic(auto)]
+
 mod call;
 mod layout;
 mod size;

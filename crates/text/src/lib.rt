@@ -1,5 +1,7 @@
 // Text in a lent buffer: numbers in base ten, words, and the line of a refusal, for every program and call that lays out lines. Each call takes any buffer
 // and any place, and puts a text whole or not at all: definitions in specs/. There too are things in groups, of which lines and frames are made.
+#![tactic(auto)]
+
 mod bytes;
 mod digits;
 mod refused;

@@ -13,14 +13,14 @@ use rule::Met;
 use words::claim_at;
 
 // What an end holds: how many keys, and below which place its sums are right.
-#[derive(Drop)]
+#[derive(Clone, Copy)]
 pub struct Held {
     pub count: usize,
     pub mark: usize,
 }
 
 // Where the core is: what both ends hold, and where the next record goes.
-#[derive(Drop)]
+#[derive(Clone, Copy)]
 pub struct Reached {
     pub left: Held,
     pub right: Held,

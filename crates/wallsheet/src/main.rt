@@ -1,5 +1,7 @@
 // The wall sheet of a kiosk (document 02, slip 4): its image on standard input, the sheet for the wall on standard output, or only `refused`, a space and the
 // number. What it decides and prints is `sheet::wall_text`; here are only the reading and the writing.
+#![tactic(auto)]
+
 ghost use Rattle.std.specs.Prelude.{◌≡◌, ◌+◌, length};
 ghost use Rattle.wire.specs.Image.{image_limit};
 ghost use Rattle.sheet.specs.Call.{sheet_limit};

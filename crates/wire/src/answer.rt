@@ -5,7 +5,7 @@ use keys::Store;
 use rule::Node;
 
 // The claims of a frame, zeros past the count; all zeros where it was refused.
-#[derive(Drop)]
+#[derive(Clone, Copy)]
 pub struct Framed {
     pub number: u8,
     pub claims: [Claim; Framed::CLAIMS],
@@ -26,7 +26,7 @@ impl Framed {
 }
 
 // How many bytes were written or are told; 0 where the call was refused.
-#[derive(Drop)]
+#[derive(Clone, Copy)]
 pub struct Length {
     pub number: u8,
     pub length: usize,

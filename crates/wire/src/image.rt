@@ -25,7 +25,7 @@ struct Part {
 }
 
 // An image as its counts tell it: whether both are there and not too high, the counts and the length.
-#[derive(Drop)]
+#[derive(Clone, Copy)]
 struct Sizes {
     fits: bool,
     keys: usize,

@@ -1,4 +1,6 @@
 // What travels by radio and what lies on a memory card: frames and images, both ways (document 01, "Frame and image").
+#![tactic(auto)]
+
 mod answer;
 mod claim;
 mod frame;

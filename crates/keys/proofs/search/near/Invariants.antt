@@ -1,0 +1,12 @@
+-- `keys::search::near` meets its contract. The invariant: for either key, what is found in the part that is left is what is found in the run.
+-- Assumes nothing.
+use Rattle.keys.proofs.SearchPaths.{Narrowed}
+use Rattle.keys.proofs.search.near.Given as goal
+
+abbrev pub invariant-loop-size : goal.invariant-loop-size
+invariant-loop-size l =
+    Narrowed l.keys l.count l.lo l.low l.lower l.size × Narrowed l.keys l.count l.hi l.high l.upper l.size
+
+abbrev pub decreases-loop-size : goal.decreases-loop-size
+decreases-loop-size l =
+    l.size
