@@ -12,7 +12,7 @@ pub enum Answer {
     Two(Claim, Claim),
 }
 
-#[derive(Drop)]
+#[derive(Clone, Copy)]
 pub struct Entered {
     pub number: u8,
     pub store: Store,
@@ -24,7 +24,7 @@ pub struct Made {
     pub claim: Claim,
 }
 
-#[derive(Drop)]
+#[derive(Clone, Copy)]
 pub struct Replied {
     pub store: Store,
     pub answer: Answer,

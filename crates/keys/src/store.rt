@@ -7,7 +7,7 @@ use crate::lent::resum_in;
 
 // A count from 0 to the limit, and the places: a key in each, and beside it the XOR of all keys up to and with that place. In order: the count is at most
 // the limit, the keys below it rise strictly, the sums beside them are theirs, every other place is 0 and so is the sum beside it.
-#[derive(Drop)]
+#[derive(Clone, Copy)]
 pub struct Store {
     pub keys: [u64; Store::LIMIT],
     pub sums: [u64; Store::LIMIT],

@@ -9,7 +9,7 @@ const LINE: usize = 1 + 4 * FIELD + 1;
 const LAST: usize = 4 + FIELD + (6 + FIELD) + (7 + FIELD) + 1;
 
 // Both counts after the round and the number of deliveries; zeros where the rehearsal was refused.
-#[derive(Drop)]
+#[derive(Clone, Copy)]
 pub struct Rehearsed {
     pub number: u8,
     pub left: usize,

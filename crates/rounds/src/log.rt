@@ -79,7 +79,7 @@ pub fn round(left: Store, right: Store, log: &mut [Delivery]) -> Met
 }
 
 // What a round returned, and one record of its transcript.
-#[derive(Drop)]
+#[derive(Clone, Copy)]
 pub struct Recorded {
     pub met: Met,
     pub delivery: Delivery,

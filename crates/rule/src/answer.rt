@@ -3,7 +3,7 @@ use crate::node::Node;
 use claims::Claim;
 use keys::Store;
 
-#[derive(Drop)]
+#[derive(Clone, Copy)]
 pub struct Taken {
     pub number: u8,
     pub node: Node,
@@ -18,14 +18,14 @@ pub struct Rest {
     pub count: usize,
 }
 
-#[derive(Drop)]
+#[derive(Clone, Copy)]
 pub struct Beaten {
     pub number: u8,
     pub node: Node,
     pub written: usize,
 }
 
-#[derive(Drop)]
+#[derive(Clone, Copy)]
 pub struct Met {
     pub number: u8,
     pub left: Store,

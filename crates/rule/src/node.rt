@@ -3,7 +3,7 @@ use claims::Claim;
 use keys::Store;
 
 // A store and up to 64 pending claims: the table's places, and how many of them are used.
-#[derive(Drop)]
+#[derive(Clone, Copy)]
 pub struct Node {
     pub store: Store,
     pub pending: [Claim; Node::TABLE],

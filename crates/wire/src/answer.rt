@@ -33,7 +33,7 @@ pub struct Length {
 }
 
 // The node of an image; the empty node where it was refused.
-#[derive(Drop)]
+#[derive(Clone, Copy)]
 pub struct Imaged {
     pub number: u8,
     pub node: Node,

@@ -18,7 +18,7 @@ use nodes::{admit_in, ordered};
 use rule::{Node, Rest};
 
 // A section as its count tells it: whether the count is there and not too high, and the count.
-#[derive(Drop)]
+#[derive(Clone, Copy)]
 struct Part {
     fits: bool,
     count: usize,
