@@ -1,0 +1,6 @@
+-- `sheet::layout::put_column` meets its contract. Assumes nothing.
+use Rattle.sheet.proofs.LayoutPaths.{column_put}
+use Rattle.sheet.proofs.layout.put_column.Goals as goal
+
+pub returns : goal.returns
+returns c = column_put _ _ _ _ _ c.put_field.ensures (c.shared_slice_known-1.given _).fits c.requires _
