@@ -10,4 +10,4 @@ pub returns : goal.returns
 returns c =
     let a = c.args in
     let r = c.round_words in
-    front_met a.words.now a.records c.capped-n.result c.capped-n.ensures a.left a.right r.result r.new.1.1.0 r.ensures
+    front_met a.words.now a.records c.capped-n.result c.capped-n.ensures a.left a.right r.result r.new.words r.ensures
