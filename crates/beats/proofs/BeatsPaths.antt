@@ -32,7 +32,7 @@ use Rattle.rule.proofs.NodeLaws.{length_blanks, drop_blanks, node_in_order_order
 use Rattle.nodes.specs.Lent.{node_by}
 use Rattle.beats.specs.declared.beats.Turn.{Turn}
 use Rattle.beats.specs.declared.beats.Kept.{Kept}
-use Rattle.beats.specs.Lent.{serve_in, whole_in, sending_in, wrote_at, Wrote, sent_for, stays, left_after, Turned, kept_with, ServedAt}
+use Rattle.beats.specs.Lent.{serve_in, whole_in, sending_in, wrote_at, Wrote, sent_for, left_after, Turned, kept_with, ServedAt}
 use Rattle.beats.specs.Lent.{beaten_with, unbeaten, beat_in, beat_in_lent, BeatsIn}
 use Rattle.beats.proofs.LentLaws.{put_claim_wrote_at, wrote_at_append, length_wrote_at, length_whole_in, turn_of, serve_by_none, serve_by_turn}
 use Rattle.beats.proofs.LentLaws.{beat_in_beaten, beat_in_lent_beaten_lent}

@@ -235,7 +235,7 @@ module _ (l sums : List ℕ) (mark : ℕ) (r : RightTo l sums mark) where
           let far : 3 ≤ b - a = ltb-false (b - a) 3 e in
           ap₂ Two (claim_by_right l sums mark r a (a + z_of a b) (omega arith) (omega arith)) (claim_by_right l sums mark r (a + z_of a b + 1) b (omega arith) g)
 
-  module _ (rise : Rising l) (c : Claim) (good : Passes c) (held-lo : Memᴰ c.lo l) (held-hi : Memᴰ c.hi l) (read : position c.hi l < mark) where
+  module _ (rise : Rising l) (c : Claim) (good : Passes c) (held_lo : Memᴰ c.lo l) (held_hi : Memᴰ c.hi l) (read : position c.hi l < mark) where
     first_le_last : position c.lo l ≤ position c.hi l
     first_le_last = position_mono c.lo c.hi l good.ordered
 
@@ -245,7 +245,7 @@ module _ (l sums : List ℕ) (mark : ℕ) (r : RightTo l sums mark) where
     decide_right true more? e f = refl
     decide_right false true e f = refl
     decide_right false false e f =
-        let room : position c.lo l + 1 ≤ position c.hi l - 1 = helper_positions c l rise good held-lo held-hi e f in
+        let room : position c.lo l + 1 ≤ position c.hi l - 1 = helper_positions c l rise good held_lo held_hi e f in
         rw (lt-ltb (position c.lo l + 1) (position c.hi l) (omega arith))
         (help_right (position c.lo l + 1) (position c.hi l - 1) room (omega arith))
 
@@ -257,9 +257,9 @@ module _ (l sums : List ℕ) (mark : ℕ) (r : RightTo l sums mark) where
         ∙ decide_right (same (own c l) c) (ltb (own c l).cnt c.cnt) refl refl
 
 module _ (l : List ℕ) (short : length l ≤ limit) (rise : Rising l) (c : Claim) (good : Passes c)
-    (held-lo : Memᴰ c.lo l) (held-hi : Memᴰ c.hi l) where
+    (held_lo : Memᴰ c.lo l) (held_hi : Memᴰ c.hi l) where
   last_lt : position c.hi l < length l
-  last_lt = (get_d_position c.hi l rise held-hi).0
+  last_lt = (get_d_position c.hi l rise held_hi).0
 
   -- where a key is sought
   place : (k : ℕ) → (place_in (store_of l).keys (store_of l).count k).at ≡ position k l
@@ -274,7 +274,7 @@ module _ (l : List ℕ) (short : length l ≤ limit) (rise : Rising l) (c : Clai
       ∙ and_both (leb (position c.lo l) (position c.hi l)) (ltb (position c.hi l) (length l))
       (le-leb (position c.lo l) (position c.hi l) le) (lt-ltb (position c.hi l) (length l) last_lt) in
       rw (place c.lo, place c.hi, w)
-      (answer_at_right l (store_of l).sums (length l) (right_store l short) rise c good held-lo held-hi last_lt)
+      (answer_at_right l (store_of l).sums (length l) (right_store l short) rise c good held_lo held_hi last_lt)
 
 -- ---- the reply
 

@@ -265,13 +265,13 @@ module _ (keys sums : List ℕ) (count mark : ℕ) (c : Claim) (h : Heard) (afte
     heard_end = omega (arith, heard_last)
 
     -- lo and hi stand at positions then
-    pub heard_positions : (after-sums : List ℕ) → length after ≡ limit → length after-sums ≡ limit → Positions after after-sums h.first h.last
-    heard_positions after-sums long summed =
+    pub heard_positions : (after_sums : List ℕ) → length after ≡ limit → length after_sums ≡ limit → Positions after after_sums h.first h.last
+    heard_positions after_sums long summed =
         record { rise = omega (arith, first_is, last_is, stands.rise); short = heard_last; inside = omega (arith, heard_last); summed = omega (arith, heard_last) }
 
-    module _ (known : ℕ) (marks : known ≡ mark_heard mark count h.count h.first) (after-sums : List ℕ)
-        (anew : after-sums ≡ resummed after sums known (h.last + 1)) where
-      pub reply_told : (most : ℕ) → most ≡ max known (h.last + 1) → (a : Answer) → a ≡ answer_at after after-sums h.first h.last c
-          → replied_with after after-sums (record { count = h.count; mark = most; answer = a }) ≡ reply_in given c
+    module _ (known : ℕ) (marks : known ≡ mark_heard mark count h.count h.first) (after_sums : List ℕ)
+        (anew : after_sums ≡ resummed after sums known (h.last + 1)) where
+      pub reply_told : (most : ℕ) → most ≡ max known (h.last + 1) → (a : Answer) → a ≡ answer_at after after_sums h.first h.last c
+          → replied_with after after_sums (record { count = h.count; mark = most; answer = a }) ≡ reply_in given c
       unfolding reply_in
       reply_told most e a f = rw (← heard, eq-eqb h.number 0 pass, f, e, ← marks, ← anew)

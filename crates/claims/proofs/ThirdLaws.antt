@@ -1,6 +1,6 @@
 -- The middle key of three (document 02, slip 1): what follows where it is wanted, or added. In order: it is not held; where it is added the reply is a
 -- match; a match of at most three keys is never false. Not here: what is added (ReplyLaws). Assumes nothing.
-use Prim.Native.Nat.{ℕ, zero, suc, ◌+◌, ◌≤◌, ◌<◌}
+use Prim.Native.Nat.{ℕ, zero, suc, ◌≤◌, ◌<◌}
 use mathlib.Core.Bool.{false}
 use mathlib.Core.List.{List, [], ◌∷◌, Memᴰ}
 use mathlib.Core.Path.{◌≡◌, refl, sym, ap, ap₂, ◌∙◌}

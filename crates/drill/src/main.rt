@@ -30,96 +30,118 @@ mod calls;
 mod card;
 mod raw;
 
-use libc::{STDIN_FILENO, STDOUT_FILENO};
+use reading::read_full;
+use std::io;
+use std::io::{Read, Write};
 
 // The bytes of a request's head.
 const HEAD: usize = 24;
 
 // Says that the request could not be read, and that the program ends.
-fn malformed() -> bool {
-    io::write_all(STDOUT_FILENO, &[b'?']);
-    false
+fn malformed<O: Write>(to: &mut O) -> io::Result<bool> {
+    to.write_all(&[b'?'])?;
+    Ok(false)
 }
 
 // Fills some bytes from the input, and says whether there were so many.
-fn fill(bytes: &mut [u8]) -> bool {
-    io::read_full(STDIN_FILENO, bytes) == bytes.len()
+fn fill<I: Read>(from: &mut I, bytes: &mut [u8]) -> io::Result<bool> {
+    let got = read_full(from, bytes)?;
+    Ok(got == bytes.len())
 }
 
 // Reads the words of a request.
-fn read_words(words: &mut [u64; raw::MOST], n: usize) -> bool {
+fn read_words<I: Read>(from: &mut I, words: &mut [u64; raw::MOST], n: usize) -> io::Result<bool> {
     if raw::MOST < n {
-        return false;
+        return Ok(false);
     }
     let mut space = raw::space();
     let end = 8 * n;
     let part = &mut space[0..end];
-    if !fill(part) {
-        return false;
+    if !fill(from, part)? {
+        return Ok(false);
     }
     raw::decode(part, words, n);
-    true
+    Ok(true)
 }
 
 // Writes the mark and the words of a reply.
-fn tell_words(words: &[u64; raw::MOST], n: usize) -> bool {
+fn tell_words<O: Write>(to: &mut O, words: &[u64; raw::MOST], n: usize) -> io::Result<bool> {
     if raw::MOST < n {
-        return false;
+        return Ok(false);
     }
     let mut space = raw::space();
     raw::encode(words, n, &mut space);
     let end = 8 * n + 1;
-    io::write_all(STDOUT_FILENO, &space[0..end])
+    to.write_all(&space[0..end])?;
+    Ok(true)
 }
 
 // One request, after its head: it has the first n of these words, and all of these bytes.
-fn answer(call: u64, words: &mut [u64; raw::MOST], n: usize, bytes: &mut [u8]) -> bool {
-    if !read_words(words, n) {
-        return malformed();
+fn answer<I: Read, O: Write>(
+    from: &mut I,
+    to: &mut O,
+    call: u64,
+    words: &mut [u64; raw::MOST],
+    n: usize,
+    bytes: &mut [u8],
+) -> io::Result<bool> {
+    if !read_words(from, words, n)? {
+        return malformed(to);
     }
-    if !fill(bytes) {
-        return malformed();
+    if !fill(from, bytes)? {
+        return malformed(to);
     }
     if !calls::serve(call, words, n, bytes) {
-        return malformed();
+        return malformed(to);
     }
-    if !tell_words(words, n) {
-        return false;
+    if !tell_words(to, words, n)? {
+        return Ok(false);
     }
-    io::write_all(STDOUT_FILENO, bytes)
+    to.write_all(bytes)?;
+    Ok(true)
 }
 
 // One request, after its head, of n words and m bytes.
-fn body(call: u64, n: usize, m: usize) -> bool {
+fn body<I: Read, O: Write>(
+    from: &mut I,
+    to: &mut O,
+    call: u64,
+    n: usize,
+    m: usize,
+) -> io::Result<bool> {
     if raw::BYTES < m {
-        return malformed();
+        return malformed(to);
     }
     let mut words = [0u64; raw::MOST];
     let mut bytes = [0u8; raw::BYTES];
-    answer(call, &mut words, n, &mut bytes[0..m])
+    answer(from, to, call, &mut words, n, &mut bytes[0..m])
 }
 
 // One request; false where there is none or it could not be read.
-fn turn() -> bool {
+fn turn<I: Read, O: Write>(from: &mut I, to: &mut O) -> io::Result<bool> {
     let mut head = [0u8; HEAD];
-    let got = io::read_full(STDIN_FILENO, &mut head);
+    let got = read_full(from, &mut head)?;
     if got == 0 {
-        return false;
+        return Ok(false);
     }
     if got < HEAD {
-        return malformed();
+        return malformed(to);
     }
     let told = &head[..];
     let call = raw::word_at(told, 0);
     let n = raw::word_at(told, 8) as usize;
     let m = raw::word_at(told, 16) as usize;
-    body(call, n, m)
+    body(from, to, call, n, m)
 }
 
-// Nothing says that the input ends, so the turns are counted down from a number that no run uses up.
-fn main() {
-    let mut turns = u64::MAX;
-    while turns > 0 && turn() {
-        turns -= 1;
+// Nothing says that the input ends, so the turns are counted, up to a number that no run uses up.
+fn main(rt: HostRuntime) -> io::Result<()> {
+    let mut from = rt.stdin();
+    let mut to = rt.stdout();
+    for _ in 0..u64::MAX {
+        if !turn(&mut from, &mut to)? {
+            break;
+        }
     }
+    Ok(())
 }

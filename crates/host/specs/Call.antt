@@ -118,8 +118,8 @@ images_joined_out first second out = saved_out (joining_questions first second) 
 -- "A beat needs 17 places, and its host call 462 bytes of frames (15)" (document 02, slip 8), and as before the longest image's bytes "for the image, whatever is
 -- pending"
 abbrev pub beat_image_questions : List ℕ → ℕ → ℕ → List Question
-beat_image_questions image room framesRoom =
-    read_image_questions image ++ (question15 room image_limit ∷ question15 framesRoom frames_limit ∷ [])
+beat_image_questions image room frames_room =
+    read_image_questions image ++ (question15 room image_limit ∷ question15 frames_room frames_limit ∷ [])
 
 -- the node after a beat, and the frames of the claims that it sends
 abbrev pub node_served : Node → Node
@@ -129,14 +129,14 @@ abbrev pub frames_sent : Node → List ℕ
 frames_sent n = frames_bytes (sending (node_keys n) (pending_of n))
 
 unfoldable pub image_beaten : List ℕ → ℕ → ℕ → ℤ
-image_beaten image room framesRoom =
-    settle (first_no (beat_image_questions image room framesRoom))
+image_beaten image room frames_room =
+    settle (first_no (beat_image_questions image room frames_room))
     (pos (length (frames_sent (node_in image))))
     minus
 
 unfoldable pub image_beaten_out : List ℕ → List ℕ → ℕ → List ℕ
-image_beaten_out image out framesRoom =
-    settle (first_no (beat_image_questions image (length out) framesRoom))
+image_beaten_out image out frames_room =
+    settle (first_no (beat_image_questions image (length out) frames_room))
     (put_at out 0 (node_bytes (node_served (node_in image))))
     (λ k. out)
 

@@ -1,6 +1,6 @@
 -- A frame near the limit: the middle key of three that an earlier claim brought is held when 6 is put to the next one. That it comes out so is computed
 -- (`near_limit` of proofs/Cases). Assumes nothing.
-use Rattle.std.specs.Prelude.{ℕ, ◌-◌, List, [], ◌∷◌}
+use Rattle.std.specs.Prelude.{ℕ, ◌-◌, List}
 use Rattle.keys.specs.Store.{limit}
 use Rattle.claims.specs.declared.claim.Claim.{Claim}
 use Rattle.claims.specs.Cases.{claim, up_from}

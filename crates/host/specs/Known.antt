@@ -82,11 +82,11 @@ pub record FramesWritten (cs : List Claim) (before after : List ℕ) (r : ℕ) :
   pub frames : after ≡ put_at before 0 (frames_bytes cs)
 
 -- given: a node in order, its run of keys with all places, and room for any image and for the frames of any beat
-pub record SendGiven (n : Node) (room framesRoom : ℕ) : Type 0 where
+pub record SendGiven (n : Node) (room frames_room : ℕ) : Type 0 where
   pub long : length n.store.keys ≡ limit
   pub ordered : node_in_order n ≡ true
   pub image : image_limit ≤ room
-  pub frames : frames_limit ≤ framesRoom
+  pub frames : frames_limit ≤ frames_room
 
 -- told: the length of the frames that the node sends; they and the image of the node after the beat stand at the front of their buffers
 pub record Sent (n : Node) (out out₁ frames frames₁ : List ℕ) (r : ℕ) : Type 0 where

@@ -27,8 +27,7 @@ use wire::Imaged;
 
 // Takes an image and a frame, takes each claim in turn, writes the new image to the front of `out` and returns its length; or minus the number of the
 // first question answered no, and then nothing is written. Asks 14, 1, 10 to 13, 6 claim by claim, and 15.
-#[unsafe(no_mangle)]
-pub extern "C" fn minutefrost_take_frame(image: &[u8], frame: &[u8], out: &mut [u8]) -> i64
+pub fn minutefrost_take_frame(image: &[u8], frame: &[u8], out: &mut [u8]) -> i64
     ensures { (result ≡ frame_taken image.now frame.now (length out.old))
         × (out.new ≡ frame_taken_out image.now frame.now out.old) }
 {
@@ -39,8 +38,7 @@ pub extern "C" fn minutefrost_take_frame(image: &[u8], frame: &[u8], out: &mut [
 
 // Takes an image and a key, enters the key, writes the new image to the front of `out` and returns its length; or minus the number of the first question
 // answered no, and then nothing is written. Asks 14, 1, 6 and 15. Pending claims stay, save those that fail 16.
-#[unsafe(no_mangle)]
-pub extern "C" fn minutefrost_enter(image: &[u8], key: u64, out: &mut [u8]) -> i64
+pub fn minutefrost_enter(image: &[u8], key: u64, out: &mut [u8]) -> i64
     ensures { (result ≡ key_entered image.now key (length out.old))
         × (out.new ≡ key_entered_out image.now key out.old) }
 {
@@ -52,8 +50,7 @@ pub extern "C" fn minutefrost_enter(image: &[u8], key: u64, out: &mut [u8]) -> i
 // Takes two images, joins their nodes, writes the image of the joined node to the front of `out` and returns its length; or minus the number of the first
 // question answered no, and then nothing is written. Asks 14 and 1 of the first image, then of the second, 8 and 15. Pending claims that fail 16 are left out of
 // either.
-#[unsafe(no_mangle)]
-pub extern "C" fn minutefrost_join(first: &[u8], second: &[u8], out: &mut [u8]) -> i64
+pub fn minutefrost_join(first: &[u8], second: &[u8], out: &mut [u8]) -> i64
     ensures { (result ≡ images_joined first.now second.now (length out.old))
         × (out.new ≡ images_joined_out first.now second.now out.old) }
 {
@@ -63,8 +60,7 @@ pub extern "C" fn minutefrost_join(first: &[u8], second: &[u8], out: &mut [u8]) 
 }
 
 // How many keys an image holds; or minus the number of the first question answered no. Asks 14 and 1.
-#[unsafe(no_mangle)]
-pub extern "C" fn minutefrost_count(image: &[u8]) -> i64
+pub fn minutefrost_count(image: &[u8]) -> i64
     ensures { result ≡ image_counted image.now }
 {
     let mut keys = [0; Store::LIMIT];
@@ -77,8 +73,7 @@ pub extern "C" fn minutefrost_count(image: &[u8]) -> i64
 
 // Takes an image, writes the wall sheet of the keys that it holds to the front of `out` and returns its length; or minus the number of the first question
 // answered no, and then nothing is written. Asks 14, 1, and 15 for the sheet's own length.
-#[unsafe(no_mangle)]
-pub extern "C" fn minutefrost_sheet(image: &[u8], out: &mut [u8]) -> i64
+pub fn minutefrost_sheet(image: &[u8], out: &mut [u8]) -> i64
     ensures { (result ≡ image_sheet image.now (length out.old))
         × (out.new ≡ image_sheet_out image.now out.old) }
 {
@@ -97,8 +92,7 @@ pub extern "C" fn minutefrost_sheet(image: &[u8], out: &mut [u8]) -> i64
 }
 
 // The deliveries of a round that fills an empty store with so many keys; or minus the number of the first question answered no. Asks 17.
-#[unsafe(no_mangle)]
-pub extern "C" fn minutefrost_opening_cost(keys: usize) -> i64
+pub fn minutefrost_opening_cost(keys: usize) -> i64
     ensures { result ≡ opening_told keys }
 {
     let cost = opening_cost(keys);
@@ -110,8 +104,7 @@ pub extern "C" fn minutefrost_opening_cost(keys: usize) -> i64
 
 // Takes an image, runs a beat, writes the new image to the front of `out` and the claims to the front of `frames`, four to a frame and the rest in a last
 // one, and returns the length of the frames; or minus the number of the first question answered no, and then nothing is written. Asks 14, 1 and 15.
-#[unsafe(no_mangle)]
-pub extern "C" fn minutefrost_beat(image: &[u8], out: &mut [u8], frames: &mut [u8]) -> i64
+pub fn minutefrost_beat(image: &[u8], out: &mut [u8], frames: &mut [u8]) -> i64
     ensures { (result ≡ image_beaten image.now (length out.old) (length frames.old))
         × (out.new ≡ image_beaten_out image.now out.old (length frames.old))
         × (frames.new ≡ image_beaten_frames image.now (length out.old) frames.old) }

@@ -2,14 +2,12 @@
 -- What halving finds among rising keys is in FindingLaws. Assumes nothing.
 use mathlib.Core.Path.{◌≡◌, refl, sym, ◌∙◌, ap}
 use mathlib.Core.Bool.{Bool, true, false, cond}
-use mathlib.Core.Logic.{⊎_elim}
 use mathlib.Core.List.{List}
 use Prim.Native.Nat.{ℕ, zero, suc, ◌+◌, ◌-◌, ◌/◌, ◌≤◌, ◌<◌}
 use native.Mathlib.Omega.{arith}
 use lib.Dec.{leb}
 use lib.ListN.{get_or}
 use Rattle.keys.specs.Lent.{halved}
-use Rattle.keys.proofs.Tests.{lt_or_le}
 
 pub cond_same : {A : Type 0} (t : Bool) (x y : A) → x ≡ y → cond t x y ≡ y
 cond_same true x y e = e

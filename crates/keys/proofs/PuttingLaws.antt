@@ -1,9 +1,8 @@
 -- Putting elements in at a place (specs/Lent, `inserted_at`), over the type of the elements: the loop that moves those above it up, from the last one down.
 -- In order: the run while it moves (`Moved`), by any number of places; one element put in; two put in by one pass. Assumes nothing.
 use mathlib.Core.Path.{◌≡◌, refl, sym, ◌∙◌, ap, ap₂}
-use mathlib.Core.List.{List, [], ◌∷◌, ◌++◌, append_assoc}
+use mathlib.Core.List.{List, ◌∷◌, ◌++◌, append_assoc}
 use Prim.Native.Nat.{ℕ, zero, suc, ◌+◌, ◌-◌, ◌≤◌, ◌<◌}
-use native.Mathlib.Numerals.{add-one}
 use native.Mathlib.Omega.{arith}
 use lib.ListN.{length, take, drop, get_or, set, length-append, length-take, length-drop, length-set, take-append-drop}
 use lib.Seq.{set_split, get_or-set_same, get_or-take, drop-cons, take-take, take-add, drop-drop, take-set-le, drop-set-lt, length-take-le, split_at}

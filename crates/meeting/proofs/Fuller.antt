@@ -1,7 +1,7 @@
 -- Where one of two stores has all keys of the other, a round makes them equal, whatever matches (`round_fuller`). The idea: a key that the fuller end has is
 -- held by the other end, or lies in the range of something that waits; every delivery keeps this, and at the end nothing waits. In order: the fuller end; a
 -- half in which one end has all keys; a key on its way; one delivery; a run; a half; a round; the call. Assumes nothing.
-use Prim.Native.Nat.{ℕ, zero, suc, ◌-◌, ◌≤◌, ◌<◌}
+use Prim.Native.Nat.{ℕ, zero, suc, ◌≤◌, ◌<◌}
 use mathlib.Core.List.{List, [], ◌∷◌, ◌++◌, Memᴰ}
 use mathlib.Core.Logic.{◌⊎◌, inl, inr, ⊎_elim}
 use mathlib.Core.Path.{◌≡◌, refl, sym, ap, ◌∙◌, subst}
@@ -131,11 +131,11 @@ module _ (s : End) (u : List ℕ) (p : Pair) (e : Entry) (q : List Entry) (flow 
   k_rises : Rising k
   k_rises = hear_rising c (keys_before e p) (flow.fine.rises (receiver e))
 
-  uᶜ-rises : Rising uᶜ
-  uᶜ-rises = between_rising c.lo c.hi u flow.fine.whole
+  uᶜ_rises : Rising uᶜ
+  uᶜ_rises = between_rising c.lo c.hi u flow.fine.whole
 
-  x-uᶜ : Memᴰ x uᶜ
-  x-uᶜ = mem_between c.lo c.hi u x here from-lo to-hi
+  x_uᶜ : Memᴰ x uᶜ
+  x_uᶜ = mem_between c.lo c.hi u x here from-lo to-hi
 
   k_u : Sub k u
   k_u = hear_sub c (keys_before e p) u (adding_within u p e sound flow.fine.within) (flow.fine.within (receiver e))
@@ -152,8 +152,8 @@ module _ (s : End) (u : List ℕ) (p : Pair) (e : Entry) (q : List Entry) (flow 
   came z g w =
       let n : c.cnt ≡ length uᶜ = sound_cnt p e sound ∙ ap length (flow.fresh e (mathlib.Core.List.Memᴰ.head refl) z) in
       let same : kᶜ ≡ uᶜ
-      = rising_same kᶜ uᶜ (between_rising c.lo c.hi k k_rises) uᶜ-rises (sub_between c.lo c.hi k u k_u) (omega arith) in
-      let m : Memᴰ x k = between_sub c.lo c.hi k x (subst (λ (l : List ℕ). Memᴰ x l) (sym same) x-uᶜ) in
+      = rising_same kᶜ uᶜ (between_rising c.lo c.hi k k_rises) uᶜ_rises (sub_between c.lo c.hi k u k_u) (omega arith) in
+      let m : Memᴰ x k = between_sub c.lo c.hi k x (subst (λ (l : List ℕ). Memᴰ x l) (sym same) x_uᶜ) in
       inl
       (subst (λ (t : End). Memᴰ x (keys_at t (delivered e p))) (ap other z)
       (subst (λ (l : List ℕ). Memᴰ x l) (sym (keys_at_receiver e p)) m))
@@ -177,9 +177,9 @@ module _ (s : End) (u : List ℕ) (p : Pair) (e : Entry) (q : List Entry) (flow 
     alike n =
         let n' : length kᶜ ≡ length uᶜ = ap (λ (l : List ℕ). length (between c.lo c.hi l)) k_is in
         let same : e.claimed ≡ uᶜ
-        = rising_same e.claimed uᶜ sound.rises uᶜ-rises (sound_sub_between p e u sound (sound_within u p e sound flow.fine.within))
+        = rising_same e.claimed uᶜ sound.rises uᶜ_rises (sound_sub_between p e u sound (sound_within u p e sound flow.fine.within))
         (omega (arith, sound_cnt p e sound)) in
-        kept (subst (λ (l : List ℕ). Memᴰ x l) (sym same) x-uᶜ) []
+        kept (subst (λ (l : List ℕ). Memᴰ x l) (sym same) x_uᶜ) []
 
     -- a help tells of what lies strictly between lo and hi, and these two were claimed
     helps : (w : List Entry) → (Memᴰ x (inside c.lo c.hi k) → Told x w) → Next w

@@ -19,7 +19,6 @@ use Rattle.claims.specs.Claim.{claim_of}
 use Rattle.claims.specs.Question.{first_no}
 use Rattle.claims.specs.Reply.{hear, reply, claims_of}
 use Rattle.claims.specs.Call.{enter_questions, make_questions, reply_questions}
-use Rattle.claims.proofs.QuestionLaws.{passes}
 use Rattle.claims.proofs.ReplyLaws.{hear_rising, hear_old, hear_sub, hear_fits}
 use Rattle.rule.specs.declared.node.Node.{Node}
 use Rattle.rule.specs.declared.delivery.Delivery.{Delivery}

@@ -28,21 +28,21 @@ use Rattle.nodes.specs.Lent.{Enlisted, node_held, taken_with}
 use Rattle.nodes.specs.Joining.{next_of, tables_in, CopiedBehind, join_in}
 use Rattle.nodes.proofs.TakingPaths.{drop_take, take_least}
 
--- ---- the next of two claims: asked-f and asked-g are what comparing them said
+-- ---- the next of two claims: asked_f and asked_g are what comparing them said
 
-module _ (a b : Claim) {f : Bool} (asked-f : f ≡ before a b) where
+module _ (a b : Claim) {f : Bool} (asked_f : f ≡ before a b) where
   pub next_first : f ≡ true → record { claim = a; one = 1; other = 0 } ≡ next_of a b
   unfolding next_of
-  next_first h = rw (← asked-f, h)
+  next_first h = rw (← asked_f, h)
 
-  module _ (past : f ≡ false) {g : Bool} (asked-g : g ≡ before b a) where
+  module _ (past : f ≡ false) {g : Bool} (asked_g : g ≡ before b a) where
     pub next_second : g ≡ true → record { claim = b; one = 0; other = 1 } ≡ next_of a b
     unfolding next_of
-    next_second h = rw (← asked-f, past, ← asked-g, h)
+    next_second h = rw (← asked_f, past, ← asked_g, h)
 
     pub next_same : g ≡ false → record { claim = a; one = 1; other = 1 } ≡ next_of a b
     unfolding next_of
-    next_same h = rw (← asked-f, past, ← asked-g, h)
+    next_same h = rw (← asked_f, past, ← asked_g, h)
 
 -- ---- claims copied behind others
 

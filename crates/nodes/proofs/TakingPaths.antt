@@ -20,7 +20,7 @@ use Rattle.keys.proofs.LentLaws.{store_with_store_of}
 use Rattle.claims.specs.declared.claim.Claim.{Claim}
 use Rattle.claims.specs.Claim.{no_claim}
 use Rattle.claims.specs.Question.{first_no}
-use Rattle.claims.specs.Reply.{same, hear}
+use Rattle.claims.specs.Reply.{hear}
 use Rattle.claims.specs.declared.lent.Heard.{Heard}
 use Rattle.claims.specs.Lent.{Hearing, hearing_with, hear_in}
 use Rattle.claims.proofs.ReplyLaws.{hear_fits, length_hear_ge}

@@ -6,8 +6,10 @@ ghost use Rattle.std.specs.Prelude.{◌≡◌, ◌+◌, ◌*◌, length};
 ghost use Rattle.wire.specs.Image.{image_limit};
 ghost use Rattle.rehearsal.specs.Text.{text_limit};
 
-use libc::{STDIN_FILENO, STDOUT_FILENO};
+use reading::read_full;
 use rehearsal::{Rehearsed, rehearse_text};
+use std::io;
+use std::io::Write;
 use wire::Imaged;
 
 // Room for two of the longest images and one byte more: longer input is then too long for them, and gets 14 without being read to its end.
@@ -25,10 +27,10 @@ fn room_for_text() -> [u8; Rehearsed::TEXT]
     [0; Rehearsed::TEXT]
 }
 
-fn main() {
+fn main(rt: HostRuntime) -> io::Result<()> {
     let mut input = room_for_input();
-    let read = io::read_full(STDIN_FILENO, &mut input);
+    let read = read_full(&mut rt.stdin(), &mut input)?;
     let mut text = room_for_text();
     let length = rehearse_text(&input[0..read], &mut text);
-    io::write_all(STDOUT_FILENO, &text[0..length]);
+    rt.stdout().write_all(&text[0..length])
 }

@@ -1,7 +1,6 @@
 // The lent run of transcript records, as a slice of delivery structs (document 01, "A round"): a record stored, a record read, and the round over them.
 // The round's core works on words (`transcript`). Its words stand in a local array here, ten for each key that a store can hold, and each record is stored
 // once.
-// put, get, copy_out, round and round_record hold or make a reference to structs, so their proofs are walks by hand; the others are covered.
 ghost use Rattle.std.specs.Prelude.{◌≡◌, length, set, get_or};
 ghost use Rattle.rule.specs.Call.{met, met_lent};
 ghost use Rattle.rounds.specs.Log.{no_delivery, delivery_in, copied, front_records, front_words, recorded};

@@ -18,8 +18,7 @@ fn told_place(place: Place) -> usize
 }
 
 // The place of a key among the first `count` keys.
-#[unsafe(no_mangle)]
-pub extern "C" fn minutefrost_place_in(keys: &[u64], count: usize, key: u64) -> usize
+pub fn minutefrost_place_in(keys: &[u64], count: usize, key: u64) -> usize
     ensures { result ≡ told_place (place_in keys.now count key) }
 {
     let place = place_in(keys, count, key);
@@ -27,8 +26,7 @@ pub extern "C" fn minutefrost_place_in(keys: &[u64], count: usize, key: u64) -> 
 }
 
 // The places of two keys, in the first two places of `told`; where these are not lent, false, and nothing is written.
-#[unsafe(no_mangle)]
-pub extern "C" fn minutefrost_places_in(
+pub fn minutefrost_places_in(
     keys: &[u64],
     count: usize,
     lo: u64,

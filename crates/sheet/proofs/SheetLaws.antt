@@ -1,6 +1,6 @@
 -- Laws of the lines of a sheet and of its text (specs/Sheet). In order: the text of lines; rows; pages; how many lines there are; how long the text is.
 -- Assumes nothing.
-use Prim.Native.Nat.{ℕ, zero, suc, ◌+◌, ◌-◌, ◌*◌, ◌≤◌, ◌<◌}
+use Prim.Native.Nat.{ℕ, zero, suc, ◌+◌, ◌*◌, ◌≤◌, ◌<◌}
 use native.Mathlib.Omega.{arith}
 use mathlib.Core.List.{List, [], ◌∷◌, ◌++◌, flatten, append-nil, append_assoc}
 use mathlib.Core.Logic.{⊎_elim}

@@ -278,9 +278,9 @@ whole_half : (x : End) (lent : List ℕ) (p : Pair) (done : List Delivery) (s : 
     → length done + length (union_of p) ≤ records_in lent → Laid lent p (opening x p) done s
     → Whole lent (half x p).stores (done ++ transcript (half x p)) (settled (finish s))
 whole_half x lent p done s rises fits room laid =
-    let open-half = halfway_opening x p rises fits in
-    let ran = laid_finish (length (union_of p)) lent (union_of p) p (opening x p) done s open-half.fine laid
-    (omega (arith, open-half.light)) open-half.light in
+    let open_half = halfway_opening x p rises fits in
+    let ran = laid_finish (length (union_of p)) lent (union_of p) p (opening x p) done s open_half.fine laid
+    (omega (arith, open_half.light)) open_half.light in
     let q : Pair = (half x p).stores in
     let after : Rises q = (half_fine x p rises fits).rises in
     let n : length (union_of q) ≡ length (union_of p) = ap length (half_union x p rises fits) in

@@ -48,40 +48,40 @@ module _ (keys sums : List ℕ) (count : ℕ) (a : Bool) (said : a ≡ summed_in
   found_rising = rising_true (take count keys) (ordered_in_rising keys count in_order_lem)
 
 -- a and b are what `summed_in` said of the left store and of the right one, n what `union_count_in` counted
-module _ (left left-sums : List ℕ) (left-count : ℕ) (right right-sums : List ℕ) (right-count : ℕ) (records : ℕ)
-    (a : Bool) (said-a : a ≡ summed_in left left-sums left-count) where
+module _ (left left_sums : List ℕ) (left_count : ℕ) (right right_sums : List ℕ) (right_count : ℕ) (records : ℕ)
+    (a : Bool) (said_a : a ≡ summed_in left left_sums left_count) where
   -- the questions' number
   abbrev number : ℕ
-  number = asked (store_by left left-sums left-count) (store_by right right-sums right-count) records
+  number = asked (store_by left left_sums left_count) (store_by right right_sums right_count) records
 
   pub asked_left : not a ≡ true → 1 ≡ number
   unfolding asked
-  asked_left e = rw (← said-a, not-true a e)
+  asked_left e = rw (← said_a, not-true a e)
 
-  module _ (yes-a : not a ≡ false) (b : Bool) (said-b : b ≡ summed_in right right-sums right-count) where
+  module _ (yes_a : not a ≡ false) (b : Bool) (said_b : b ≡ summed_in right right_sums right_count) where
     pub asked_right : not b ≡ true → 1 ≡ number
     unfolding asked
-    asked_right f = rw (← said-a, not-false a yes-a, ← said-b, not-true b f)
+    asked_right f = rw (← said_a, not-false a yes_a, ← said_b, not-true b f)
 
-    module _ (yes-b : not b ≡ false) (n : ℕ) (merged-count : n ≡ length (merged ltb (take left-count left) (take right-count right))) where
-      counted : n ≡ length (union (take left-count left) (take right-count right))
+    module _ (yes_b : not b ≡ false) (n : ℕ) (merged-count : n ≡ length (merged ltb (take left_count left) (take right_count right))) where
+      counted : n ≡ length (union (take left_count left) (take right_count right))
       counted =
           merged-count
           ∙ ap length
-          (merged_union (take left-count left) (take right-count right) (found_rising left left-sums left-count a said-a yes-a)
-          (found_rising right right-sums right-count b said-b yes-b))
+          (merged_union (take left_count left) (take right_count right) (found_rising left left_sums left_count a said_a yes_a)
+          (found_rising right right_sums right_count b said_b yes_b))
 
       pub asked_8 : limit < n → 8 ≡ number
       unfolding asked
-      asked_8 h = rw (← said-a, not-false a yes-a, ← said-b, not-false b yes-b, ← counted, lt-leb n limit h)
+      asked_8 h = rw (← said_a, not-false a yes_a, ← said_b, not-false b yes_b, ← counted, lt-leb n limit h)
 
       pub asked_9 : n ≤ limit → records < 2 * n → 9 ≡ number
       unfolding asked
-      asked_9 h g = rw (← said-a, not-false a yes-a, ← said-b, not-false b yes-b, ← counted, le-leb n limit h, lt-leb (2 * n) records g)
+      asked_9 h g = rw (← said_a, not-false a yes_a, ← said_b, not-false b yes_b, ← counted, le-leb n limit h, lt-leb (2 * n) records g)
 
       pub asked_0 : n ≤ limit → 2 * n ≤ records → 0 ≡ number
       unfolding asked
-      asked_0 h g = rw (← said-a, not-false a yes-a, ← said-b, not-false b yes-b, ← counted, le-leb n limit h, le-leb (2 * n) records g)
+      asked_0 h g = rw (← said_a, not-false a yes_a, ← said_b, not-false b yes_b, ← counted, le-leb n limit h, le-leb (2 * n) records g)
 
 -- ---- `put_whole`
 
@@ -105,23 +105,23 @@ whole_fits s words at sender w end h fits =
 
 -- ---- `deliver`: the claim c is read, the receiver tells t, and its claims are put
 
-module _ (left left-sums right right-sums words : List ℕ) (head : ℕ) (at : Reached)
-    (c : Claim) (read : c ≡ claim_in words head) (t : Told) (after after-sums then : List ℕ) (end : ℕ) where
+module _ (left left_sums right right_sums words : List ℕ) (head : ℕ) (at : Reached)
+    (c : Claim) (read : c ≡ claim_in words head) (t : Told) (after after_sums then : List ℕ) (end : ℕ) where
   -- the state before
   abbrev before : Core
-  before = core_by left left-sums right right-sums words head at
+  before = core_by left left_sums right right_sums words head at
 
-  pub step_right : sender_in words head ≡ 0 → replied_with after after-sums t ≡ reply_in (marked_by right right-sums at.right) c
+  pub step_right : sender_in words head ≡ 0 → replied_with after after_sums t ≡ reply_in (marked_by right right_sums at.right) c
       → log_with then end ≡ put_records (log_with words at.tail) 1 (claims_of t.answer)
-      → Stepped (record { left = at.left; right = record { count = t.count; mark = t.mark }; tail = end }) left left-sums after after-sums then (step before)
+      → Stepped (record { left = at.left; right = record { count = t.count; mark = t.mark }; tail = end }) left left_sums after after_sums then (step before)
   unfolding step
   step_right z told put =
       rw (eq-eqb (sender_in words head) 0 z, ← read, ← told)
       (record { left_is = refl; right_is = refl; log_is = put })
 
-  pub step_left : (sender_in words head ≡ 0 → ⊥) → replied_with after after-sums t ≡ reply_in (marked_by left left-sums at.left) c
+  pub step_left : (sender_in words head ≡ 0 → ⊥) → replied_with after after_sums t ≡ reply_in (marked_by left left_sums at.left) c
       → log_with then end ≡ put_records (log_with words at.tail) 0 (claims_of t.answer)
-      → Stepped (record { left = record { count = t.count; mark = t.mark }; right = at.right; tail = end }) after after-sums right right-sums then (step before)
+      → Stepped (record { left = record { count = t.count; mark = t.mark }; right = at.right; tail = end }) after after_sums right right_sums then (step before)
   unfolding step
   step_left z told put =
       rw (ne_eqb (sender_in words head) 0 z, ← read, ← told)
@@ -130,12 +130,12 @@ module _ (left left-sums right right-sums words : List ℕ) (head : ℕ) (at : R
 -- ---- `deliver_all`
 
 -- what the code says of a state is the state
-stepped_core : (r : Reached) (left left-sums right right-sums words : List ℕ) (head : ℕ) (s : Core) → Stepped r left left-sums right right-sums words s
-    → head ≡ s.head → core_by left left-sums right right-sums words head r ≡ s
-stepped_core r left left-sums right right-sums words head s h e = λ i. core_of (h.left_is i) (h.right_is i) (h.log_is i) (e i)
+stepped_core : (r : Reached) (left left_sums right right_sums words : List ℕ) (head : ℕ) (s : Core) → Stepped r left left_sums right right_sums words s
+    → head ≡ s.head → core_by left left_sums right right_sums words head r ≡ s
+stepped_core r left left_sums right right_sums words head s h e = λ i. core_of (h.left_is i) (h.right_is i) (h.log_is i) (e i)
 
 -- a turn of the loop
-module _ (s : Core) (r : Reached) (left left-sums right right-sums words : List ℕ) (h : Stepped r left left-sums right right-sums words (step s))
+module _ (s : Core) (r : Reached) (left left_sums right right_sums words : List ℕ) (h : Stepped r left left_sums right right_sums words (step s))
     (less : s.head < s.log.tail) (fits : s.log.tail ≤ records_in s.log.words) where
   same : length words ≡ length s.log.words
   same = ap (λ (l : Log). length l.words) h.log_is ∙ length_step s
@@ -150,15 +150,15 @@ module _ (s : Core) (r : Reached) (left left-sums right right-sums words : List 
   turn_same n e = same ∙ e
 
   pub turn_on : (start : Core) → finish start ≡ finish s → (head : ℕ) → head ≡ s.head + 1
-      → finish start ≡ finish (core_by left left-sums right right-sums words head r)
+      → finish start ≡ finish (core_by left left_sums right right_sums words head r)
   turn_on start e head on =
-      e ∙ (finish_on s less fits ∙ ap finish (sym (stepped_core r left left-sums right right-sums words head (step s) h (on ∙ sym (head_step s)))))
+      e ∙ (finish_on s less fits ∙ ap finish (sym (stepped_core r left left_sums right right_sums words head (step s) h (on ∙ sym (head_step s)))))
 
 -- its end, where no record waits
-pub stopped : (start : Core) (left left-sums right right-sums words : List ℕ) (head : ℕ) (r : Reached) → r.tail ≤ head
-    → finish start ≡ finish (core_by left left-sums right right-sums words head r) → Stepped r left left-sums right right-sums words (finish start)
-stopped start left left-sums right right-sums words head r h e =
-    let s : Core = core_by left left-sums right right-sums words head r in
+pub stopped : (start : Core) (left left_sums right right_sums words : List ℕ) (head : ℕ) (r : Reached) → r.tail ≤ head
+    → finish start ≡ finish (core_by left left_sums right right_sums words head r) → Stepped r left left_sums right right_sums words (finish start)
+stopped start left left_sums right right_sums words head r h e =
+    let s : Core = core_by left left_sums right right_sums words head r in
     rw (e ∙ steps_off (records_in words - head) s h) (record { left_is = refl; right_is = refl; log_is = refl })
 
 -- ---- `settle`
@@ -169,11 +169,11 @@ settled_end keys sums h after e = λ i. record { store = store_by keys (e i) h.c
 
 -- ---- `deliver_half`, by what was delivered and what settling told of both ends
 
-pub half_settled : (s : Core) (r : Reached) (left left-sums right right-sums words : List ℕ) → Stepped r left left-sums right right-sums words (finish s)
-    → (a : Held) (all : List ℕ) → marked_by left all a ≡ marked_all (finish_in (marked_by left left-sums r.left))
-    → (b : Held) (rest : List ℕ) → marked_by right rest b ≡ marked_all (finish_in (marked_by right right-sums r.right))
+pub half_settled : (s : Core) (r : Reached) (left left_sums right right_sums words : List ℕ) → Stepped r left left_sums right right_sums words (finish s)
+    → (a : Held) (all : List ℕ) → marked_by left all a ≡ marked_all (finish_in (marked_by left left_sums r.left))
+    → (b : Held) (rest : List ℕ) → marked_by right rest b ≡ marked_all (finish_in (marked_by right right_sums r.right))
     → Stepped (record { left = a; right = b; tail = r.tail }) left all right rest words (settled (finish s))
-half_settled s r left left-sums right right-sums words h a all e b rest f = record {
+half_settled s r left left_sums right right_sums words h a all e b rest f = record {
   left_is = e ∙ ap (λ (m : Marked). marked_all (finish_in m)) h.left_is;
   right_is = f ∙ ap (λ (m : Marked). marked_all (finish_in m)) h.right_is;
   log_is = h.log_is;
@@ -183,16 +183,16 @@ half_settled s r left left-sums right right-sums words h a all e b rest f = reco
 
 module _ (s t : Store) (words : List ℕ) where
   pub left_half : (w : List ℕ) (end : ℕ) → log_with w end ≡ put_whole s (log_with words 0) 0
-      → (r : Reached) (left left-sums right right-sums after : List ℕ)
-      → Stepped r left left-sums right right-sums after (settled (finish (core_of (marked_all s) (marked_all t) (log_with w end) 0)))
-      → Stepped r left left-sums right right-sums after (settled (finish (opened s t words)))
+      → (r : Reached) (left left_sums right right_sums after : List ℕ)
+      → Stepped r left left_sums right right_sums after (settled (finish (core_of (marked_all s) (marked_all t) (log_with w end) 0)))
+      → Stepped r left left_sums right right_sums after (settled (finish (opened s t words)))
   unfolding opened
-  left_half w end put r left left-sums right right-sums after h =
-      subst (λ (l : Log). Stepped r left left-sums right right-sums after (settled (finish (core_of (marked_all s) (marked_all t) l 0)))) put h
+  left_half w end put r left left_sums right right_sums after h =
+      subst (λ (l : Log). Stepped r left left_sums right right_sums after (settled (finish (core_of (marked_all s) (marked_all t) l 0)))) put h
 
   -- the first half stays among the records
-  module _ (r : Reached) (left left-sums right right-sums after : List ℕ)
-      (first : Stepped r left left-sums right right-sums after (settled (finish (opened s t words)))) where
+  module _ (r : Reached) (left left_sums right right_sums after : List ℕ)
+      (first : Stepped r left left_sums right right_sums after (settled (finish (opened s t words)))) where
     pub half_fits : r.tail ≤ records_in after
     half_fits =
         let b = opened_bound s t words in
@@ -200,26 +200,26 @@ module _ (s t : Store) (words : List ℕ) where
         omega (arith, ap (λ (l : Log). l.tail) first.log_is, b.1)
 
     -- the second goes on from it
-    pub both_halves : (q : Reached) (left' left-sums' right' right-sums' after' : List ℕ)
-        → Stepped q left' left-sums' right' right-sums' after' (settled (finish (reopened (core_by left left-sums right right-sums after r.tail r))))
-        → Stepped q left' left-sums' right' right-sums' after' (both s t words)
+    pub both_halves : (q : Reached) (left' left_sums' right' right_sums' after' : List ℕ)
+        → Stepped q left' left_sums' right' right_sums' after' (settled (finish (reopened (core_by left left_sums right right_sums after r.tail r))))
+        → Stepped q left' left_sums' right' right_sums' after' (both s t words)
     unfolding both reopened
-    both_halves q left' left-sums' right' right-sums' after' h =
+    both_halves q left' left_sums' right' right_sums' after' h =
         let s' : Core = settled (finish (opened s t words)) in
-        let same = stepped_core r left left-sums right right-sums after s'.head s' first refl in
+        let same = stepped_core r left left_sums right right_sums after s'.head s' first refl in
         rw (ap (λ (c : Core). settled (finish (reopened c))) same) at h
 
-pub right_half : (left left-sums right right-sums words : List ℕ) (done : Reached) (w : List ℕ) (end : ℕ)
-    → log_with w end ≡ put_whole (store_by right right-sums done.right.count) (log_with words done.tail) 1
-    → (r : Reached) (left' left-sums' right' right-sums' after : List ℕ)
-    → Stepped r left' left-sums' right' right-sums' after
-    (settled (finish (core_by left left-sums right right-sums w done.tail (record { left = done.left; right = done.right; tail = end }))))
-    → Stepped r left' left-sums' right' right-sums' after
-    (settled (finish (reopened (core_by left left-sums right right-sums words done.tail done))))
+pub right_half : (left left_sums right right_sums words : List ℕ) (done : Reached) (w : List ℕ) (end : ℕ)
+    → log_with w end ≡ put_whole (store_by right right_sums done.right.count) (log_with words done.tail) 1
+    → (r : Reached) (left' left_sums' right' right_sums' after : List ℕ)
+    → Stepped r left' left_sums' right' right_sums' after
+    (settled (finish (core_by left left_sums right right_sums w done.tail (record { left = done.left; right = done.right; tail = end }))))
+    → Stepped r left' left_sums' right' right_sums' after
+    (settled (finish (reopened (core_by left left_sums right right_sums words done.tail done))))
 unfolding reopened
-right_half left left-sums right right-sums words done w end put r left' left-sums' right' right-sums' after h =
-    subst (λ (l : Log). Stepped r left' left-sums' right' right-sums' after
-    (settled (finish (core_of (marked_by left left-sums done.left) (marked_by right right-sums done.right) l done.tail)))) put h
+right_half left left_sums right right_sums words done w end put r left' left_sums' right' right_sums' after h =
+    subst (λ (l : Log). Stepped r left' left_sums' right' right_sums' after
+    (settled (finish (core_of (marked_by left left_sums done.left) (marked_by right right_sums done.right) l done.tail)))) put h
 
 -- ---- `round_words`: from what the code says to the core
 
@@ -227,11 +227,11 @@ right_half left left-sums right right-sums words done w end put r left' left-sum
 abbrev pub met_by : Core → Met
 met_by s = record { number = 0; left = s.left.store; right = s.right.store; deliveries = s.log.tail }
 
-module _ (r : Reached) (left left-sums right right-sums after : List ℕ) (s : Core) (h : Stepped r left left-sums right right-sums after s) where
+module _ (r : Reached) (left left_sums right right_sums after : List ℕ) (s : Core) (h : Stepped r left left_sums right right_sums after s) where
   pub meet_met : record {
     number = 0;
-    left = store_by left left-sums r.left.count;
-    right = store_by right right-sums r.right.count;
+    left = store_by left left_sums r.left.count;
+    right = store_by right right_sums r.right.count;
     deliveries = r.tail;
   }
       ≡ met_by s
@@ -242,12 +242,12 @@ module _ (r : Reached) (left left-sums right right-sums after : List ℕ) (s : C
 
 -- .. and from the core to the rule
 
-module _ (s t : Store) (sized-s : Sized s) (sized-t : Sized t) (words : List ℕ)
+module _ (s t : Store) (sized_s : Sized s) (sized_t : Sized t) (words : List ℕ)
     (n : ℕ) (put : n ≡ asked (store_by s.keys s.sums s.count) (store_by t.keys t.sums t.count) (records_in words)) where
   -- the questions that the code puts are those of a round
   first_no_lem : n ≡ first_no (round_questions s t (records_in words))
   unfolding asked
-  first_no_lem = put ∙ rw (summed_in_in_order s sized-s.keys, summed_in_in_order t sized-t.keys)
+  first_no_lem = put ∙ rw (summed_in_in_order s sized_s.keys, summed_in_in_order t sized_t.keys)
 
   module _ (f : n ≡ 0 → ⊥) where
     some_no : first_no (round_questions s t (records_in words)) ≡ 0 → ⊥
@@ -267,7 +267,7 @@ module _ (s t : Store) (sized-s : Sized s) (sized-t : Sized t) (words : List ℕ
     whole : Whole words (round_by s t).stores (transcript (round_by s t)) (both s t words)
     whole =
         let yes : RoundYes s t (records_in words) = round_questions_yes s t (records_in words) none in
-        rw (ap₂ (λ (a b : Store). both a b words) (store_of_keys_of s sized-s yes.left) (store_of_keys_of t sized-t yes.right))
+        rw (ap₂ (λ (a b : Store). both a b words) (store_of_keys_of s sized_s yes.left) (store_of_keys_of t sized_t yes.right))
         (whole_both words (keys_of s) (keys_of t) (in_order_rising s yes.left) (in_order_rising t yes.right) yes.fits yes.room)
 
     pub met_round : (m : Met) → m ≡ met_by (both s t words) → m ≡ met s t (records_in words)

@@ -131,10 +131,10 @@ marked_by keys sums h = record { store = store_by keys sums h.count; mark = h.ma
 
 -- the state, by all that is lent
 abbrev pub core_by : List ℕ → List ℕ → List ℕ → List ℕ → List ℕ → ℕ → Reached → Core
-core_by left leftSums right rightSums words head r =
-    core_of (marked_by left leftSums r.left) (marked_by right rightSums r.right) (log_with words r.tail) head
+core_by left left_sums right right_sums words head r =
+    core_of (marked_by left left_sums r.left) (marked_by right right_sums r.right) (log_with words r.tail) head
 
-pub record Stepped (r : Reached) (left leftSums right rightSums words : List ℕ) (s : Core) : Type 0 where
-  pub left_is : marked_by left leftSums r.left ≡ s.left
-  pub right_is : marked_by right rightSums r.right ≡ s.right
+pub record Stepped (r : Reached) (left left_sums right right_sums words : List ℕ) (s : Core) : Type 0 where
+  pub left_is : marked_by left left_sums r.left ≡ s.left
+  pub right_is : marked_by right right_sums r.right ≡ s.right
   pub log_is : log_with words r.tail ≡ s.log

@@ -6,8 +6,10 @@ ghost use Rattle.std.specs.Prelude.{◌≡◌, ◌+◌, length};
 ghost use Rattle.wire.specs.Image.{image_limit};
 ghost use Rattle.sheet.specs.Call.{sheet_limit};
 
-use libc::{STDIN_FILENO, STDOUT_FILENO};
+use reading::read_full;
 use sheet::{SHEET, wall_text};
+use std::io;
+use std::io::Write;
 use wire::Imaged;
 
 // Room for the longest image and one byte more: longer input is then too long for it, and gets 14 without being read to its end.
@@ -25,10 +27,10 @@ fn room_for_text() -> [u8; SHEET]
     [0; SHEET]
 }
 
-fn main() {
+fn main(rt: HostRuntime) -> io::Result<()> {
     let mut input = room_for_input();
-    let read = io::read_full(STDIN_FILENO, &mut input);
+    let read = read_full(&mut rt.stdin(), &mut input)?;
     let mut text = room_for_text();
     let length = wall_text(&input[0..read], &mut text);
-    io::write_all(STDOUT_FILENO, &text[0..length]);
+    rt.stdout().write_all(&text[0..length])
 }

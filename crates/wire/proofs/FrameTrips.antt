@@ -18,7 +18,6 @@ use Rattle.claims.specs.Question.{first_no}
 use Rattle.wire.specs.Number.{byte, Below}
 use Rattle.wire.specs.Claim.{claim_size, ClaimFits}
 use Rattle.wire.specs.Run.{claim, read_run, write_run, Each}
-use Rattle.wire.specs.Frame
 use Rattle.wire.specs.Frame.{version, version_place, frame_limit, head_size, frame_length, frame_most, head_bytes, frame_bytes, frame_count}
 use Rattle.wire.specs.Frame.{frame_claims, marked, sized, head_questions, all_pass, four_of, read_frame, write_frame_questions, write_frame, frame_lent}
 use Rattle.wire.proofs.RunLaws.{each_take, claim_faithful, length_read_run, length_write_run, read_run_write_run, write_run_read_run}

@@ -134,11 +134,11 @@ module _ (m n : ℕ) where
   unfolding counts_fit told_length
   question14_within bs h few =
       let same = eqb (length bs) (told_length (sections_under m) bs) in
-      let behind-fit = count_fits table_limit (behind key_section bs) && true in
+      let behind_fit = count_fits table_limit (behind key_section bs) && true in
       let counts = and_left (counts_fit (sections_under m) bs) same h in
-      let there = (count_fits_yes m bs (and_left (count_fits m bs) behind-fit counts)).0 in
+      let there = (count_fits_yes m bs (and_left (count_fits m bs) behind_fit counts)).0 in
       and_both (counts_fit (sections_under n) bs) same
-      (and_both (count_fits n bs) behind-fit (count_fits_of n bs there few) (and_right (count_fits m bs) behind-fit counts))
+      (and_both (count_fits n bs) behind_fit (count_fits_of n bs there few) (and_right (count_fits m bs) behind_fit counts))
       (and_right (counts_fit (sections_under m) bs) same h)
 
 -- what is accepted under some limit has passed 14 and 1

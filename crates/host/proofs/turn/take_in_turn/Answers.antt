@@ -1,11 +1,9 @@
-use Rattle.std.proofs.Common.{List, arith, get_or-take, length, length-take-le, refl, rules, sym, take, true, ℕ, ◌∙◌, ◌≡◌, ◌≤◌}
+use Rattle.std.proofs.Common.{arith, get_or-take, length, length-take-le, refl, rules, sym, take, ◌∙◌, ◌≡◌, ◌≤◌}
 use Rattle.keys.proofs.LentLaws.{sized_store_with}
 use Rattle.claims.specs.Claim.{no_claim}
-use Rattle.rule.specs.declared.node.Node.{Node}
-use Rattle.rule.specs.declared.answer.Rest.{Rest}
 use Rattle.rule.specs.Table.{table_limit}
 use Rattle.rule.proofs.NodeLaws.{length_mapped}
-use Rattle.nodes.specs.Lent.{node_with, taken_with}
+use Rattle.nodes.specs.Lent.{taken_with}
 use Rattle.host.proofs.TurnPaths.{Turn, turn_refused, turn_done, turn_ordered, turn_long, taken_until_end}
 use Rattle.host.proofs.turn.take_in_turn.Invariants.{node}
 use Rattle.host.proofs.turn.take_in_turn.Goals as goal

@@ -5,10 +5,10 @@ use Rattle.sheet.proofs.call.put_whole.Goals as goal
 
 pub put_sheet-requires : goal.put_sheet-requires
 put_sheet-requires c =
-    let fit : KeysFit c.args.keys.now = λ i. (c.shared_slice_known-1.given i).fits in
+    let fit : KeysFit c.args.keys.now = λ i. (c.type_inv.keys i).fits in
     whole_given c.args.out.now _ c.requires.0 fit c.requires.1
 
 pub returns : goal.returns
 returns c =
-    let fit : KeysFit c.args.keys.now = λ i. (c.shared_slice_known-1.given i).fits in
+    let fit : KeysFit c.args.keys.now = λ i. (c.type_inv.keys i).fits in
     whole_put c.args.out.now _ c.requires.0 fit c.requires.1 c.sheet_length.ensures.0 c.put_sheet.ensures

@@ -3,4 +3,4 @@ use Rattle.sheet.proofs.LayoutPaths.{column_put}
 use Rattle.sheet.proofs.layout.put_column.Goals as goal
 
 pub returns : goal.returns
-returns c = column_put _ _ _ _ _ c.put_field.ensures (c.shared_slice_known-1.given _).fits c.requires _
+returns c = column_put _ _ _ _ _ c.put_field.ensures (c.type_inv.keys _).fits c.requires _

@@ -8,7 +8,7 @@ pub returns-then-keys-i : goal.returns-then-keys-i
 returns-then-keys-i c = search unused_put
 
 pub put_right-requires : goal.put_right-requires
-put_right-requires c = (length_decimal_most _ (c.shared_slice_known-2-1.given _).fits, search rules)
+put_right-requires c = (length_decimal_most _ (c.type_inv.keys _).fits, search rules)
 
 pub returns : goal.returns
 returns c = search used_put

@@ -3,4 +3,4 @@ use Rattle.sheet.proofs.LayoutPaths.{row_put}
 use Rattle.sheet.proofs.layout.put_row.Goals as goal
 
 pub returns : goal.returns
-returns d = row_put _ _ _ (λ i. (d.shared_slice_known-1.given i).fits) d.requires d.put_column.ensures d.put_column-2.ensures d.put_column-3.ensures
+returns d = row_put _ _ _ (λ i. (d.type_inv.keys i).fits) d.requires d.put_column.ensures d.put_column-2.ensures d.put_column-3.ensures

@@ -8,12 +8,12 @@ loop-i-init c = search (rules, rows_none)
 
 pub put_row-requires : goal.put_row-requires
 put_row-requires c =
-    let fit : KeysFit c.args.keys.now = λ i. (c.shared_slice_known-1.given i).fits in
+    let fit : KeysFit c.args.keys.now = λ i. (c.type_inv.keys i).fits in
     rows_room _ _ _ _ _ _ c.loop-i.invariant.1 c.loop-i-test.true c.requires fit
 
 pub loop-i-preserved : goal.loop-i-preserved
 loop-i-preserved c =
-    let fit : KeysFit c.args.keys.now = λ i. (c.shared_slice_known-1.given i).fits in
+    let fit : KeysFit c.args.keys.now = λ i. (c.type_inv.keys i).fits in
     (search rules, rows_more _ _ _ _ _ _ c.loop-i.invariant.1 c.loop-i-test.true c.requires fit _ c.put_row.ensures)
 
 pub returns : goal.returns

@@ -11,4 +11,3 @@ shape_of-out c = simp length-set (search rules)
 
 pub returns : goal.returns
 returns c = search (refused_end, refused_put)
-

@@ -1,18 +1,14 @@
 -- `claim::read` meets its contract: four numbers, each read at its place. Assumes nothing.
 use Rattle.std.proofs.Common.{arith, lit≤, ◌*◌, ◌+◌}
-use Rattle.wire.specs.Number.{byte, Below}
 use Rattle.wire.specs.Claim.{key_width, count_width}
 use Rattle.wire.proofs.NumberLaws.{number_at_below}
 use Rattle.wire.proofs.ClaimLaws.{claim_from_at}
 use Rattle.wire.proofs.claim.read.Goals as goal
 
-are_bytes : (c : goal.After-read-4) → Below byte c.args.s.now
-are_bytes c k = (c.shared_slice_known-1.given k).fits
-
 pub overflow_cast-result : goal.overflow_cast-result
 overflow_cast-result c =
     let a = c.args in
-    let small = number_at_below a.s.now (a.at + 3 * key_width) count_width count_width (lit≤ tt) (are_bytes c) in
+    let small = number_at_below a.s.now (a.at + 3 * key_width) count_width count_width (lit≤ tt) (λ k. (c.type_inv.s k).fits) in
     omega (arith, c.read-4.ensures)
 
 pub returns : goal.returns

@@ -7,7 +7,7 @@ pub bounds-bytes-3 : goal.bounds-bytes-3
 bounds-bytes-3 c = search head_count
 
 pub overflow_cast-n : goal.overflow_cast-n
-overflow_cast-n c = omega (arith, c.shared_slice_known-2-1.given 3)
+overflow_cast-n c = omega (arith, c.type_inv.bytes 3)
 
 pub four-claims-requires : goal.four-claims-requires
 four-claims-requires c = search (head_few, head_room)

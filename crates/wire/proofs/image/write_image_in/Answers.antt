@@ -6,8 +6,8 @@ use Rattle.rule.proofs.NodeLaws.{length_mapped}
 use Rattle.wire.proofs.ImagePaths.{within_limits_told, write_in_1, write_in_15, write_in_room, write_in_0}
 use Rattle.wire.proofs.image.write_image_in.Goals as goal
 
-told : (e : goal.Else-not-within_limits) → ((let asked = e in asked).args.held ≤ limit) × ((let asked = e in asked).args.count ≤ table_limit)
-told e = within_limits_told (e).args.keys.now _ _ e.within_limits.ensures (ap not e.if-not-within_limits.false)
+told : (e : goal.Else-not-within_limits) → (e.args.held ≤ limit) × (e.args.count ≤ table_limit)
+told e = within_limits_told e.args.keys.now _ _ e.within_limits.ensures (ap not e.if-not-within_limits.false)
 
 pub returns-then-not-within_limits : goal.returns-then-not-within_limits
 returns-then-not-within_limits c = write_in_1 _ _ c.within_limits.ensures (ap not c.if-not-within_limits.true)

@@ -8,7 +8,7 @@ loop-i-init c = (search rules, search rules, sym (put_at_nil _ _))
 
 pub loop-i-preserved : goal.loop-i-preserved
 loop-i-preserved c =
-    let l = (c).loop-i in
+    let l = c.loop-i in
     (search rules, search rules, put_at_write_run key_faithful _ _ _ _ 0 (search rules) (search rules) l.invariant.2 c.write.ensures)
 
 pub returns : goal.returns

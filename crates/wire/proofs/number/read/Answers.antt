@@ -9,14 +9,14 @@ loop-i-init c = (search rules, number_none)
 
 pub overflow_mul-n : goal.overflow_mul-n
 overflow_mul-n c =
-    let are_bytes : Below byte c.args.s.now = λ k. (c.shared_slice_known-1.given k).fits in
+    let are_bytes : Below byte c.args.s.now = λ k. (c.type_inv.s k).fits in
     let a = c.args in
     let l = c.loop-i in
     record { fits = number_at_shift a.s.now a.at l.i l.invariant.1 7 (search rules) are_bytes }
 
 pub overflow_add-n : goal.overflow_add-n
 overflow_add-n c =
-    let are_bytes : Below byte c.args.s.now = λ k. (c.shared_slice_known-1.given k).fits in
+    let are_bytes : Below byte c.args.s.now = λ k. (c.type_inv.s k).fits in
     let a = c.args in
     let l = c.loop-i in
     record { fits = number_at_more a.s.now a.at l.i l.invariant.1 key_width (search rules) are_bytes (search rules) c.wide.ensures }

@@ -1,0 +1,12 @@
+-- `card::put_table` is safe and ends. The measure is the places that are left. Assumes nothing.
+use Rattle.std.proofs.Common.{◌-◌, ◌≤◌}
+use Rattle.rule.specs.Table.{table_limit}
+use Rattle.drill.proofs.card.put_table.Given as goal
+
+abbrev pub invariant-loop-i : goal.invariant-loop-i
+invariant-loop-i l =
+    l.i ≤ table_limit
+
+abbrev pub decreases-loop-i : goal.decreases-loop-i
+decreases-loop-i l =
+    table_limit - l.i
