@@ -1,8 +1,8 @@
-# The two commands of the README. Everything else is `rt` and `cargo`.
+# The two commands of the README. Everything else is `rt`, `tools/build` and `cargo`.
 .PHONY: rehearse test
 
 rehearse:
-	rt check rehearse
+	tools/build rehearse
 	target/bin/rehearse < crates/rehearse/stdin
 
 test:

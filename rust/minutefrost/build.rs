@@ -6,7 +6,7 @@ use std::path::{Path, PathBuf};
 /// Names the folder of the archive, where that isn't the repository's own.
 const OVERRIDE: &str = "MINUTEFROST_ARCHIVE_DIR";
 
-/// Where `rt staticlib host` writes it, from the root of the repository.
+/// Where `tools/build host` writes it, from the root of the repository.
 const OWN: &str = "target/staticlib";
 
 fn main() {
@@ -30,7 +30,7 @@ fn main() {
         Err(why) => {
             println!("cargo::error=no archive at {}: {why}", archive.display());
             println!(
-                "cargo::error=run `rt staticlib host` at the root of the repository to make it,"
+                "cargo::error=run `tools/build host` at the root of the repository to make it,"
             );
             println!("cargo::error=or set {OVERRIDE} to the folder that has libhost.a");
         }

@@ -3,7 +3,7 @@
 use std::env;
 use std::path::{Path, PathBuf};
 
-/// Where `rt staticlib searches` writes it, from the root of the repository.
+/// Where `tools/build searches` writes it, from the root of the repository.
 const OWN: &str = "target/staticlib/libsearches.a";
 
 fn main() {
@@ -22,7 +22,7 @@ fn main() {
         Err(why) => {
             println!("cargo::error=no archive at {}: {why}", archive.display());
             println!(
-                "cargo::error=run `rt staticlib searches` at the root of the repository to make it"
+                "cargo::error=run `tools/build searches` at the root of the repository to make it"
             );
         }
     }

@@ -1,7 +1,8 @@
 //! The calls of this checkout against those of another, in one process:
-//! `cargo run --release -p bench -- against FOLDER`. In both `rt staticlib
-//! host` and `rt staticlib rehearsal` have been run, and `rt staticlib
-//! searches` where that crate is there: an early checkout has none.
+//! `cargo run --release -p bench -- against FOLDER`. In both
+//! `target/staticlib` has the archives of host and rehearsal, and of searches
+//! where that crate is there: `tools/build` makes them, and in a checkout of
+//! the older Rattle `rt staticlib NAME` did.
 //!
 //! Where code happens to stand in memory moves a time by some hundredths, and
 //! where a call's arrays stand on the stack, a short call's by a tenth. So each

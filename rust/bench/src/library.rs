@@ -35,13 +35,13 @@ struct Library {
 }
 
 impl Library {
-    /// What `rt staticlib NAME` wrote in a checkout, its code moved up.
+    /// What `tools/build NAME` wrote in a checkout, its code moved up.
     fn of(checkout: &Path, name: &str, up: usize) -> io::Result<Library> {
         let folder = checkout.join("target/staticlib");
         let archive = folder.join(format!("lib{name}.a"));
         if !archive.exists() {
             let told = format!(
-                "no {}: `rt staticlib {name}` there makes it",
+                "no {}: `tools/build {name}` there makes it",
                 archive.display()
             );
             return Err(io::Error::other(told));

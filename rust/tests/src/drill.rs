@@ -70,7 +70,7 @@ pub fn made_by_rt(file: &str, command: &str) -> PathBuf {
 impl Drill {
     /// Starts the program.
     pub fn start() -> Drill {
-        let path = made_by_rt("bin/drill", "rt check drill");
+        let path = made_by_rt("bin/drill", "tools/build drill");
         let mut child = Command::new(&path)
             .stdin(Stdio::piped())
             .stdout(Stdio::piped())

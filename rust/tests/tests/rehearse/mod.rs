@@ -29,5 +29,5 @@ pub fn number_of(union: usize) -> u8 {
 }
 
 pub fn program() -> PathBuf {
-    made_by_rt("bin/rehearse", "rt check rehearse")
+    made_by_rt("bin/rehearse", "tools/build rehearse")
 }

@@ -19,5 +19,5 @@ pub fn compare(program: &Path, input: &[u8]) -> String {
 }
 
 pub fn program() -> PathBuf {
-    made_by_rt("bin/wallsheet", "rt check wallsheet")
+    made_by_rt("bin/wallsheet", "tools/build wallsheet")
 }
