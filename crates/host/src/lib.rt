@@ -1,4 +1,5 @@
-// What the kiosk daemon links: six calls on images and frames (document 01, "Host calls"; document 02, slips 4 and 9), and one for planners (slip 5).
+// What the kiosk daemon calls: six calls on images and frames (document 01, "Host calls"; document 02, slips 4 and 9), and one for planners (slip 5). `host_c`
+// exports them to other languages.
 #![tactic(auto)]
 
 mod enter;

@@ -51,7 +51,7 @@ pub record Copying (table : List Claim) (at : ℕ) (run : List Claim) (i : ℕ) 
   pub laid : places ≡ put_at table at (take i run)
 
 module _ (table : List Claim) (at : ℕ) (from : List Claim) (first count : ℕ) {more : ℕ} (told : more ≡ min (count - first) (table_limit - at))
-    (inside : first ≤ count) (few : count ≤ table_limit) (few-at : at ≤ table_limit) (IsWhole-from : length from ≡ table_limit) where
+    (inside : first ≤ count) (few : count ≤ table_limit) (few-at : at ≤ table_limit) (whole_from : length from ≡ table_limit) where
   abbrev run : List Claim
   run = take more (drop first from)
 

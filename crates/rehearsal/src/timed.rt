@@ -1,4 +1,4 @@
-// For measurements alone: the rehearsal of two images as a call for programs in other languages. No daemon links it.
+// For measurements alone: the rehearsal of two images as a call for programs in other languages, to which `rehearsal_c` exports it.
 ghost use Rattle.std.specs.Prelude.{◌≡◌};
 ghost use Rattle.rule.specs.Call.{records_in};
 ghost use Rattle.rehearsal.specs.Rehearsal.{rehearsed, rehearsed_words};

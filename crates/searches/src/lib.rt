@@ -1,4 +1,4 @@
-// For tests and measurements alone: the search of a lent run of keys as calls for programs in other languages. No daemon links it.
+// For tests and measurements alone: the search of a lent run of keys as calls for programs in other languages, to which `searches_c` exports them.
 // Each call takes any content, and states its whole result and every lent place by equations with the definitions of specs/Told.
 #![tactic(auto)]
 
