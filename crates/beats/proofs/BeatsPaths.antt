@@ -9,21 +9,24 @@ use native.Mathlib.Numerals.{add-one}
 use native.Mathlib.Omega.{arith}
 use borrow.Author.Tests.{le-leb, lt-leb, eq-eqb, ne_eqb, eqb-false, not-true, not-false}
 use lib.Dec.{eqb}
-use lib.ListN.{length, take, drop, get_or, set, length-append, drop_of_length-le}
-use lib.Seq.{sets, drop-cons, length-take-le, get_or-take}
+use lib.ListN.{length, take, drop, get_or, set, length-append, length-take, drop_of_length-le}
+use lib.Seq.{sets, drop-cons}
 use Rattle.keys.specs.Lent.{store_by}
 use Rattle.keys.specs.declared.store.Store.{Store}
 use Rattle.keys.specs.Store.{Sized}
 use Rattle.keys.proofs.PlaceLaws.{put_at_nil, put_at_zero, sets_put_at}
 use Rattle.claims.specs.declared.claim.Claim.{Claim}
-use Rattle.claims.specs.declared.answer.Answer.{Answer}
-use Rattle.claims.specs.declared.answer.Made.{Made}
+use Rattle.std.specs.Prelude.{Result, Ok, Err}
+use Rattle.std.specs.Result.{result_unwrap_or}
+use Rattle.claims.specs.declared.refusal.Refusal.{Refusal}
+use Rattle.claims.specs.Answer.{Answer, made_by}
 use Rattle.claims.specs.Claim.{no_claim}
 use Rattle.claims.specs.Reply.{claims_of, matches}
 use Rattle.claims.specs.Lent.{make_in, answer_in}
 use Rattle.claims.specs.Words.{claim_width, put_claim}
 use Rattle.rule.specs.declared.node.Node.{Node}
-use Rattle.rule.specs.declared.answer.Beaten.{Beaten}
+use Rattle.rule.specs.declared.node.Table.{Table}
+use Rattle.rule.specs.Answer.{Beaten}
 use Rattle.rule.specs.Table.{table_limit, beat_replies, beat_limit, remains, Served}
 use Rattle.rule.specs.Node.{blanks, node_in_order}
 use Rattle.rule.specs.Call.{beaten, beaten_lent}
@@ -31,9 +34,8 @@ use Rattle.rule.proofs.TableLaws.{length_claims_of}
 use Rattle.rule.proofs.NodeLaws.{length_blanks, drop_blanks, node_in_order_ordered}
 use Rattle.nodes.specs.Lent.{node_by}
 use Rattle.beats.specs.declared.beats.Turn.{Turn}
-use Rattle.beats.specs.declared.beats.Kept.{Kept}
 use Rattle.beats.specs.Lent.{serve_in, whole_in, sending_in, wrote_at, Wrote, sent_for, left_after, Turned, kept_with, ServedAt}
-use Rattle.beats.specs.Lent.{beaten_with, unbeaten, beat_in, beat_in_lent, BeatsIn}
+use Rattle.beats.specs.Lent.{Kept, beaten_with, unbeaten, beat_in, beat_in_lent, BeatsIn}
 use Rattle.beats.proofs.LentLaws.{put_claim_wrote_at, wrote_at_append, length_wrote_at, length_whole_in, turn_of, serve_by_none, serve_by_turn}
 use Rattle.beats.proofs.LentLaws.{beat_in_beaten, beat_in_lent_beaten_lent}
 
@@ -112,7 +114,7 @@ module _ (s : Store) (table : List Claim) (pending at : ℕ) (lent₀ : List ℕ
 
   -- Before claim i, with so many replies left, n claims kept and the place `next` to write to: what is left computes what comes out, and there are words for it.
   pub record Left (i left next : ℕ) (lent : List ℕ) (n : ℕ) (kept : List Claim) : Type 0 where
-    pub passed : i ≤ pending
+    pub passed : i ≤ length (take pending table)
     pub few : n ≤ i
     pub long : length lent ≡ length lent₀
     pub room : claim_width * (next + 2 * left) ≤ length lent
@@ -133,16 +135,12 @@ module _ (s : Store) (table : List Claim) (pending at : ℕ) (lent₀ : List ℕ
     stayed = omega arith;
   }
 
-  module _ (full : length table ≡ table_limit) (small : pending ≤ table_limit) {i left next : ℕ} {lent : List ℕ} {n : ℕ} {kept : List Claim}
-      (before : Left i left next lent n kept) where
-    all : length (take pending table) ≡ pending
-    all = length-take-le pending table (omega arith)
-
+  module _ {i left next : ℕ} {lent : List ℕ} {n : ℕ} {kept : List Claim} (before : Left i left next lent n kept) where
     -- a turn: claim i gets its answer, and is served by it
-    module _ (inside : i < pending) {a : Answer} (answered : a ≡ answer_in s (get_or table i no_claim)) {turn : Turn} {lent' : List ℕ}
+    module _ (inside : i < length (take pending table)) {a : Answer} (answered : a ≡ answer_in s (get_or (take pending table) i no_claim)) {turn : Turn} {lent' : List ℕ}
         (turned : Turned next left a lent turn lent') where
       abbrev c : Claim
-      c = get_or table i no_claim
+      c = get_or (take pending table) i no_claim
 
       -- the claims behind it, served with the replies that are left then
       abbrev behind : Served
@@ -150,9 +148,8 @@ module _ (s : Store) (table : List Claim) (pending at : ℕ) (lent₀ : List ℕ
 
       more : rest left i ≡ turn_of left a c behind
       more =
-          let got : get_or (take pending table) i no_claim ≡ c = get_or-take pending table i no_claim inside in
           let e : drop i (take pending table) ≡ c ∷ drop (i + 1) (take pending table)
-          = rw (add-one i, ← got) (drop-cons (take pending table) i no_claim (omega (arith, all))) in
+          = rw (add-one i) (drop-cons (take pending table) i no_claim inside) in
           rw (e, turned.left, answered) (serve_by_turn (answer_in s) left c (drop (i + 1) (take pending table)))
 
       sent_is : (rest left i).sent ≡ sent_for left a ++ behind.sent
@@ -195,17 +192,16 @@ module _ (s : Store) (table : List Claim) (pending at : ℕ) (lent₀ : List ℕ
           on (omega (arith, before.few)) (ap (λ (l : List Claim). sets kept n l) (sym k)) (omega (arith, ap length k))
 
     -- the end
-    pub left_none : pending ≤ i → ServedAt at (serve_in s beat_replies (take pending table)) lent₀ (record { number = 0; table = kept; count = n; written = next }) lent
+    pub left_none : pending ≤ table_limit → length (take pending table) ≤ i → ServedAt at (serve_in s beat_replies (take pending table)) lent₀ (record { number = 0; table = kept; count = n; written = next }) lent
     unfolding kept_with
-    left_none h =
-        let past : length (take pending table) ≤ i = omega (arith, all) in
+    left_none small past =
         let none : rest left i ≡ record { sent = []; kept = [] } = rw (drop_of_length-le (take pending table) past) (serve_by_none (answer_in s) left) in
         let no_more : (rest left i).sent ≡ [] = ap (λ (x : Served). x.sent) none in
         let none_kept : (rest left i).kept ≡ [] = ap (λ (x : Served). x.kept) none in
         let count_is : n ≡ length every.kept = omega (arith, before.stayed, ap length none_kept) in
         let written_is : next ≡ at + length every.sent = omega (arith, before.written, ap length no_more) in
         let places : kept ≡ every.kept ++ blanks (table_limit - length every.kept)
-        = ap (λ (l : List Claim). sets kept n l) (sym none_kept) ∙ (before.places ∙ sets_blanks every.kept (omega (arith, before.few, before.passed))) in
+        = ap (λ (l : List Claim). sets kept n l) (sym none_kept) ∙ (before.places ∙ sets_blanks every.kept (omega (arith, before.few, before.passed, length-take pending table))) in
         record {
           result = λ j. record { number = 0; table = places j; count = count_is j; written = written_is j };
           words = sym (put_at_nil lent (claim_width * next)) ∙ (ap (λ (cs : List Claim). wrote_at next cs lent) (sym no_more) ∙ before.words);
@@ -213,23 +209,36 @@ module _ (s : Store) (table : List Claim) (pending at : ℕ) (lent₀ : List ℕ
 
 -- ---- `write_whole`
 
+-- a claim that was made, and the claim of zeros where it was refused
+unwrap_told : (made : Result Claim Refusal) → result_unwrap_or made no_claim ≡ (made_by made).claim
+unwrap_told (Ok c) = refl
+unwrap_told (Err r) = refl
+
 module _ (keys sums : List ℕ) (count : ℕ) (lent : List ℕ) where
   pub whole_none : count ≡ 0 → Wrote 0 (whole_in (store_by keys sums count)) lent 0 lent
   unfolding whole_in
   whole_none e = rw (eq-eqb count 0 e) (record { place = refl; words = sym (put_at_nil lent 0) })
 
-  pub whole_one : (count ≡ 0 → ⊥) → (made : Made) → made ≡ make_in (store_by keys sums count) 0 (count - 1)
-      → claim_width ≤ length lent → (after : List ℕ) → after ≡ put_claim lent 0 made.claim → Wrote 0 (whole_in (store_by keys sums count)) lent 1 after
+  pub whole_one : (count ≡ 0 → ⊥) → (made : Result Claim Refusal) → made_by made ≡ make_in (store_by keys sums count) 0 (count - 1)
+      → claim_width ≤ length lent → {whole : Claim} → whole ≡ result_unwrap_or made no_claim → (after : List ℕ) → after ≡ put_claim lent 0 whole
+      → Wrote 0 (whole_in (store_by keys sums count)) lent 1 after
   unfolding whole_in
-  whole_one f made e room after g =
-      rw (ne_eqb count 0 f, ← e) (record { place = refl; words = g ∙ put_claim_wrote_at 0 made.claim lent (omega arith) })
+  whole_one f made e room {whole} w after g =
+      let told : whole ≡ (made_by made).claim = w ∙ unwrap_told made in
+      rw (ne_eqb count 0 f, ← e, ← told) (record { place = refl; words = g ∙ put_claim_wrote_at 0 whole lent (omega arith) })
 
 -- ---- `beat_in`
 
-module _ (keys sums : List ℕ) (held : ℕ) (table : List Claim) (count : ℕ) (lent : List ℕ) where
-  -- the node that beats
+module _ (keys sums : List ℕ) (held : ℕ) (pending : Table) (lent : List ℕ) where
+  -- the node that beats, its table, and how many claims are pending
   abbrev node : Node
-  node = node_by keys sums held table count
+  node = node_by keys sums held pending
+
+  abbrev table : List Claim
+  table = pending.claims
+
+  abbrev count : ℕ
+  count = pending.count
 
   pub beat_many : table_limit < count → BeatsIn node lent (unbeaten node 1) lent
   unfolding beat_in beat_in_lent

@@ -15,7 +15,7 @@ use Rattle.keys.proofs.Rising.{Rising}
 use Rattle.keys.proofs.StoreLaws.{in_order_count, in_order_rising, length_keys_of, store_of_keys_of, count_store_of}
 use Rattle.keys.proofs.PlaceLaws.{length_put_at, put_at_append}
 use Rattle.claims.specs.declared.claim.Claim.{Claim}
-use Rattle.claims.specs.declared.answer.Answer.{Answer}
+use Rattle.claims.specs.Answer.{Answer}
 use Rattle.claims.specs.Claim.{claim_of, whole_claim}
 use Rattle.claims.specs.Question.{first_no, settle}
 use Rattle.claims.specs.Reply.{answer, claims_of, matches}
@@ -25,9 +25,9 @@ use Rattle.claims.proofs.QuestionLaws.{settle_kept}
 use Rattle.claims.proofs.LentLaws.{make_in_store, answer_in_store}
 use Rattle.claims.proofs.WordsLaws.{put_claim_fits}
 use Rattle.rule.specs.declared.node.Node.{Node}
-use Rattle.rule.specs.declared.answer.Beaten.{Beaten}
+use Rattle.rule.specs.Answer.{Beaten}
 use Rattle.rule.specs.Table.{table_limit, beat_replies, beat_limit, remains, Served, unmatched, replies_to, asking, serve_by, serve, sending}
-use Rattle.rule.specs.Node.{blanks, pending_of, node_keys, node_of}
+use Rattle.rule.specs.Node.{blanks, table_by, pending_of, node_keys, node_of}
 use Rattle.rule.specs.Call.{claim_words, beaten, beaten_lent}
 use Rattle.rule.proofs.NodeLaws.{Fits, fits_passes, fits_lo, fits_hi, Ordered, ordered_node_in_order}
 use Rattle.rule.proofs.Words.{length_claim_words, claim_words_append}
@@ -174,14 +174,13 @@ module _ (n : Node) (lent : List ℕ) (sized : Sized n.store) (o : Ordered n) wh
   pub beat_in_beaten : beat_in n lent ≡ beaten n lent
   unfolding beat_in kept_with beaten node_of
   beat_in_beaten =
-      rw (le-leb n.count table_limit o.count, ordered_node_in_order n o)
+      rw (le-leb n.pending.count table_limit o.count, ordered_node_in_order n o)
       (λ i. settle (cond (leb beat_limit (length lent / claim_width)) 0 15)
       (record {
         number = 0;
         node = record {
           store = store_is i;
-          pending = (served_is i).kept ++ blanks (table_limit - length (served_is i).kept);
-          count = length (served_is i).kept;
+          pending = table_by ((served_is i).kept ++ blanks (table_limit - length (served_is i).kept)) (length (served_is i).kept);
         };
         written = written_is i;
       })
@@ -190,5 +189,5 @@ module _ (n : Node) (lent : List ℕ) (sized : Sized n.store) (o : Ordered n) wh
   pub beat_in_lent_beaten_lent : beat_in_lent n lent ≡ beaten_lent n lent
   unfolding beat_in_lent beaten_lent
   beat_in_lent_beaten_lent =
-      rw (le-leb n.count table_limit o.count, ordered_node_in_order n o)
+      rw (le-leb n.pending.count table_limit o.count, ordered_node_in_order n o)
       (λ i. settle (cond (leb beat_limit (length lent / claim_width)) 0 15) (put_at lent 0 (claim_words (sent_is i))) (λ x. lent))

@@ -3,24 +3,26 @@
 -- Whatever can be refused is asked before the first write, so a number other than 0 means that node and words are what they were (`beat_in_kept`,
 -- `beat_in_lent_kept` of proofs/LentLaws). What it means where the node is in order is said by laws (proofs/LentLaws), by Table and Call of `rule`.
 -- In order: the table served; claims in lent words; one pending claim's turn; a table's; the beat. Assumes nothing.
-use Rattle.std.specs.Prelude.{◌≡◌, ℕ, ◌+◌, ◌*◌, ◌-◌, ◌/◌, Bool, true, false, cond, List, [], ◌∷◌, ◌++◌, leb, eqb, length}
+use Rattle.std.specs.Prelude.{◌≡◌, ℕ, ◌+◌, ◌*◌, ◌-◌, ◌/◌, Bool, true, false, cond, List, [], ◌∷◌, ◌++◌, leb, eqb, length, Result}
 use Rattle.keys.specs.declared.store.Store.{Store}
 use Rattle.keys.specs.Place.{put_at}
 use Rattle.claims.specs.declared.claim.Claim.{Claim}
-use Rattle.claims.specs.declared.answer.Answer.{Answer}
+use Rattle.claims.specs.declared.refusal.Refusal.{Refusal}
+use Rattle.claims.specs.Refusal.{number_told, value_told}
+use Rattle.claims.specs.Answer.{Answer}
 use Rattle.claims.specs.Question.{Question, first_no, settle, question}
 use Rattle.claims.specs.Reply.{claims_of, matches}
 use Rattle.claims.specs.Lent.{make_in, answer_in}
 use Rattle.claims.specs.Words.{claim_width}
 use Rattle.rule.specs.declared.node.Node.{Node}
-use Rattle.rule.specs.declared.answer.Beaten.{Beaten}
+use Rattle.rule.specs.declared.node.Table.{Table}
+use Rattle.rule.specs.Answer.{Beaten}
 use Rattle.rule.specs.Table.{table_limit, beat_replies, beat_limit, Served, serve_by, remains}
-use Rattle.rule.specs.Node.{blanks, pending_of}
+use Rattle.rule.specs.Node.{blanks, table_by, pending_of}
 use Rattle.rule.specs.Question.{question15}
 use Rattle.rule.specs.Call.{claim_words}
 use Rattle.nodes.specs.Lent.{node_by}
 use Rattle.beats.specs.declared.beats.Turn.{Turn}
-use Rattle.beats.specs.declared.beats.Kept.{Kept}
 
 -- ---- the table served
 
@@ -71,6 +73,18 @@ pub record Turned (at n : ℕ) (a : Answer) (lent : List ℕ) (turn : Turn) (aft
 
 -- ---- a table's turn
 
+-- A table once it is served: its places, how many claims are kept, and the place after those sent. Or the number of the first question answered no, and the
+-- table as it was.
+pub record Kept : Type 0 where
+  pub number : ℕ
+  pub table : List Claim
+  pub count : ℕ
+  pub written : ℕ
+
+-- by the lent table as it is then, and what a call returns: the place after those sent
+abbrev pub kept_by : Table → Result ℕ Refusal → Kept
+kept_by t r = record { number = number_told r; table = t.claims; count = t.count; written = value_told 0 r }
+
 -- what is kept of a served table, then zeros; how many claims that is; and the place after those sent, if they are written from the place `at` on
 unfoldable pub kept_with : ℕ → Served → Kept
 kept_with at s = record { number = 0; table = s.kept ++ blanks (table_limit - length s.kept); count = length s.kept; written = at + length s.sent }
@@ -82,16 +96,16 @@ pub record ServedAt (at : ℕ) (s : Served) (lent : List ℕ) (kept : Kept) (aft
 
 -- ---- the beat
 
--- what a beat gives, by keys and sums and what the call returns; and what it gives where it is refused
+-- what a beat gives, by keys and sums and what is kept; and what it gives where it is refused
 abbrev pub beaten_with : List ℕ → List ℕ → ℕ → Kept → Beaten
-beaten_with keys sums held k = record { number = k.number; node = node_by keys sums held k.table k.count; written = k.written }
+beaten_with keys sums held k = record { number = k.number; node = node_by keys sums held (table_by k.table k.count); written = k.written }
 
 abbrev pub unbeaten : Node → ℕ → Beaten
 unbeaten n x = record { number = x; node = n; written = 0 }
 
 -- asked is whether the count of pending claims is that of a table, which is a part of question 1; and 15
 abbrev pub beat_in_questions : Node → List ℕ → List Question
-beat_in_questions n lent = question 1 (leb n.count table_limit) ∷ question15 (length lent / claim_width) beat_limit ∷ []
+beat_in_questions n lent = question 1 (leb n.pending.count table_limit) ∷ question15 (length lent / claim_width) beat_limit ∷ []
 
 -- `beat_in`: what it returns ..
 unfoldable pub beat_in : Node → List ℕ → Beaten

@@ -4,4 +4,4 @@
 
 mod beats;
 
-pub use beats::{Kept, beat, beat_in};
+pub use beats::{beat, beat_in};

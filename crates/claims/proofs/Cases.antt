@@ -11,7 +11,7 @@ use borrow.Author.Tests.{le-leb}
 use Rattle.keys.specs.Store.{limit, zeros, store_of, empty_store, in_order}
 use Rattle.keys.specs.Place.{put_at}
 use Rattle.keys.specs.Lent.{place_in, inserted_at, add_in, add_both_in, resummed}
-use Rattle.claims.specs.declared.answer.Answer.TheVariants.{Match}
+use Rattle.claims.specs.Answer.{Match}
 use Rattle.claims.specs.Claim.{between}
 use Rattle.claims.specs.Reply.{third, answer, reply, false_match}
 use Rattle.claims.specs.Call.{made, replied, judged}

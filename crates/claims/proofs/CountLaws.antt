@@ -9,7 +9,7 @@ use borrow.Author.Tests.{lt-ltb, le-ltb}
 use lib.ListN.{length}
 use Rattle.keys.proofs.Rising.{Rising}
 use Rattle.claims.specs.declared.claim.Claim.{Claim}
-use Rattle.claims.specs.declared.answer.Answer.TheVariants.{Match, Ask}
+use Rattle.claims.specs.Answer.{Match, Ask}
 use Rattle.claims.specs.Claim.{between}
 use Rattle.claims.specs.Reply.{same, answer}
 use Rattle.claims.proofs.Between.{inside}

@@ -22,8 +22,7 @@ use Rattle.keys.proofs.Position.{position_mono, get_d_position, position_insert_
 use Rattle.keys.proofs.StoreLaws.{count_store_of, length_keys_store_of, length_sums_store_of}
 use Rattle.keys.proofs.SumLaws.{RightTo, right_store, right_less, right_grown, resummed_past, resummed_right, MarkedOf}
 use Rattle.keys.proofs.LentLaws.{store_with_store_of, place_in_store, add_in_fits, add_in_full, add_both_in_fits, add_both_in_full, add_in_count, Laid, add_both_in_laid}
-use Rattle.claims.specs.declared.answer.Answer.TheVariants.{Refused, Match, Ask, One, Two}
-use Rattle.claims.specs.declared.answer.Made.{Made}
+use Rattle.claims.specs.Answer.{Refused, Match, Ask, One, Two, Made}
 use Rattle.claims.specs.declared.claim.Claim.{Claim}
 use Rattle.claims.specs.Claim.{claim_of, no_claim, middle_key, middle_inside}
 use Rattle.claims.specs.Question.{question, first_no, claim_questions}

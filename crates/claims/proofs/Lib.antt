@@ -5,6 +5,7 @@
 --   Span          the keys at positions i to j, which are those from key i to key j
 --   Stretch       all keys from one of them to one of them
 --   QuestionLaws  the first question answered no; a claim that passes 2 to 5 and 16
+--   RefusalLaws   what the number of a refusal says
 --   ClaimLaws     claims of spans
 --   ReplyLaws     what a reply says; a match that is not false
 --   ThirdLaws     the middle key of three: where it is added the reply is a match
@@ -23,6 +24,7 @@ pub mod Between
 pub mod Span
 pub mod Stretch
 pub mod QuestionLaws
+pub mod RefusalLaws
 pub mod ClaimLaws
 pub mod ReplyLaws
 pub mod ThirdLaws

@@ -23,8 +23,7 @@ use Rattle.keys.proofs.Insert.{insert_all_rising, insert_all_held, insert_all_sa
 use Rattle.keys.proofs.Position.{get_d_position, position_mono}
 use Rattle.keys.proofs.StoreLaws.{same_keys_equal, same_keys_refl}
 use Rattle.claims.specs.declared.claim.Claim.{Claim}
-use Rattle.claims.specs.declared.answer.Answer.{Answer}
-use Rattle.claims.specs.declared.answer.Answer.TheVariants.{Refused, Match, Ask, One, Two}
+use Rattle.claims.specs.Answer.{Answer, Refused, Match, Ask, One, Two}
 use Rattle.claims.specs.Claim.{span, xor_all, claim_of, between, middle_key, middle_inside}
 use Rattle.claims.specs.Reply.{ends, with_ends, wants_middle, has_space, third, adding, hear}
 use Rattle.claims.specs.Reply.{own, same, z_of, help, decide, answer, reply, number_of, claims_of, matches, false_match}

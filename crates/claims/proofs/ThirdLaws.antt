@@ -11,8 +11,7 @@ use Rattle.keys.proofs.Tests.{Order, less, equal, greater, order}
 use Rattle.keys.proofs.Rising.{Rising, mem_length}
 use Rattle.keys.proofs.Insert.{insert_after, insert_before, insert_rising, mem_insert_old}
 use Rattle.claims.specs.declared.claim.Claim.{Claim}
-use Rattle.claims.specs.declared.answer.Answer.{Answer}
-use Rattle.claims.specs.declared.answer.Answer.TheVariants.{Match, Ask, One, Two}
+use Rattle.claims.specs.Answer.{Answer, Match, Ask, One, Two}
 use Rattle.claims.specs.Claim.{xor_all, between, middle_key}
 use Rattle.claims.specs.Reply.{with_ends, third, hear, own, answer, reply, matches, false_match}
 use Rattle.claims.proofs.Xor.{xor_all_told}

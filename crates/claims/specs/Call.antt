@@ -4,10 +4,7 @@ use Rattle.std.specs.Prelude.{ℕ, List, [], ◌∷◌, ◌++◌, ◌≡◌}
 use Rattle.keys.specs.declared.store.Store.{Store}
 use Rattle.keys.specs.Store.{keys_of, store_of, insert}
 use Rattle.claims.specs.declared.claim.Claim.{Claim}
-use Rattle.claims.specs.declared.answer.Entered.{Entered}
-use Rattle.claims.specs.declared.answer.Made.{Made}
-use Rattle.claims.specs.declared.answer.Replied.{Replied}
-use Rattle.claims.specs.declared.answer.Answer.TheVariants.{Refused}
+use Rattle.claims.specs.Answer.{Entered, Made, Replied, Refused}
 use Rattle.claims.specs.Claim.{claim_of, no_claim}
 use Rattle.claims.specs.Question.{Question, first_no, settle, question1, question6, question7}
 use Rattle.claims.specs.Question.{former_questions, claim_questions}

@@ -6,10 +6,7 @@ use Rattle.keys.specs.declared.store.Store.{Store}
 use Rattle.keys.specs.Store.{limit, zeros, empty_store, store_of}
 use Rattle.keys.specs.Lent.{store_with, marked_all, finish_in}
 use Rattle.claims.specs.declared.claim.Claim.{Claim}
-use Rattle.claims.specs.declared.answer.Answer.{Answer}
-use Rattle.claims.specs.declared.answer.Answer.TheVariants.{Refused, Match, Ask, One, Two}
-use Rattle.claims.specs.declared.answer.Made.{Made}
-use Rattle.claims.specs.declared.answer.Replied.{Replied}
+use Rattle.claims.specs.Answer.{Answer, Refused, Match, Ask, One, Two, Made, Replied}
 use Rattle.claims.specs.Claim.{between}
 use Rattle.claims.specs.Reply.{false_match}
 use Rattle.claims.specs.Call.{made, replied, judged}

@@ -3,17 +3,17 @@
 -- are no rule of document 01. Whatever can be refused is asked before the first write, so a number other than 0 means that the store is what it was
 -- (`hear_in_kept`, `reply_in_kept` of proofs/LentLaws). What they mean where the store is in order is said by laws (proofs/LentLaws), by the definitions of
 -- Store, Claim and Reply. In order: a claim heard; a claim made; the answer; the reply. Assumes nothing.
-use Rattle.std.specs.Prelude.{ℕ, ◌+◌, ◌-◌, ◌≤◌, ◌<◌, min, max, Bool, cond, ◌&&◌, List, [], ◌∷◌, ◌++◌, ltb, leb, eqb, length, get_or}
+use Rattle.std.specs.Prelude.{ℕ, Result, Ok, Err, ◌+◌, ◌-◌, ◌≤◌, ◌<◌, min, max, Bool, cond, ◌&&◌, List, [], ◌∷◌, ◌++◌, ltb, leb, eqb, length, get_or}
 use Rattle.std.specs.Int.Bits.{bit_xor}
+use Rattle.keys.specs.declared.lent.Added.{Added}
 use Rattle.keys.specs.declared.store.Store.{Store}
 use Rattle.keys.specs.Store.{limit}
 use Rattle.keys.specs.Lent.{resummed, store_by, Marked, place_in, store_with, Grown, add_in, add_both_in}
 use Rattle.claims.specs.declared.claim.Claim.{Claim}
-use Rattle.claims.specs.declared.answer.Answer.{Answer}
-use Rattle.claims.specs.declared.answer.Answer.TheVariants.{Refused, Match, One, Two}
-use Rattle.claims.specs.declared.answer.Made.{Made}
-use Rattle.claims.specs.declared.lent.Heard.{Heard}
 use Rattle.claims.specs.declared.lent.Told.{Told}
+use Rattle.claims.specs.declared.refusal.Refusal.{Refusal}
+use Rattle.claims.specs.Refusal.{refusal_number}
+use Rattle.claims.specs.Answer.{Answer, Refused, Match, One, Two, said, Made}
 use Rattle.claims.specs.Claim.{no_claim, middle_key, middle_inside}
 use Rattle.claims.specs.Question.{Question, question, first_no, settle, claim_questions}
 use Rattle.claims.specs.Reply.{z_of, decide}
@@ -31,9 +31,14 @@ pub record Hearing : Type 0 where
   pub first : ℕ
   pub last : ℕ
 
--- that, by the run as it is then and what the call returns
-abbrev pub hearing_with : List ℕ → Heard → Hearing
-hearing_with keys h = record { number = h.number; store = store_with keys h.count; first = h.first; last = h.last }
+-- refused, with the number n: the store is what it was
+abbrev pub unheard : Store → ℕ → Hearing
+unheard s n = record { number = n; store = s; first = 0; last = 0 }
+
+-- that, by the run as it is then, how many keys it had before, and what the call returns
+abbrev pub hearing_with : List ℕ → ℕ → Result Added Refusal → Hearing
+hearing_with keys count (Ok h) = record { number = 0; store = store_with keys h.count; first = h.first; last = h.last }
+hearing_with keys count (Err r) = unheard (store_with keys count) (refusal_number r)
 
 -- Does the claim tell a third key to be added? It is of three keys, the ends stand side by side at first and last, and the key lies between them.
 abbrev pub tells_third : ℕ → ℕ → Claim → Bool
@@ -50,13 +55,6 @@ third_heard g t = record { number = 0; store = t.store; first = g.first; last = 
 -- what hearing gives once the ends are added: a third key that does not fit is left out, and no number says so
 abbrev pub heard : Claim → Grown → Hearing
 heard c g = cond (tells_third g.first g.last c) (third_heard g (add_in g.store (middle_key c))) (ends_heard g)
-
-abbrev pub unheard : Store → ℕ → Hearing
-unheard s n = record { number = n; store = s; first = 0; last = 0 }
-
--- what the call returns then
-abbrev pub not_heard : ℕ → ℕ → Heard
-not_heard n count = record { number = n; count = count; first = 0; last = 0 }
 
 -- `hear_in`: what hearing a claim adds, its ends and the middle key of three
 unfoldable pub hear_in : Store → Claim → Hearing
@@ -139,9 +137,10 @@ pub record RepliedIn : Type 0 where
   pub marked : Marked
   pub answer : Answer
 
--- that, by keys and sums as they are then and what the call returns
-abbrev pub replied_with : List ℕ → List ℕ → Told → RepliedIn
-replied_with keys sums t = record { marked = record { store = store_by keys sums t.count; mark = t.mark }; answer = t.answer }
+-- that, by the store as it is then, the mark as it was, and what the call returns
+abbrev pub replied_with : Store → ℕ → Result Told Refusal → RepliedIn
+replied_with s mark (Ok t) = record { marked = record { store = s; mark = t.mark }; answer = said t.answer }
+replied_with s mark (Err r) = record { marked = record { store = s; mark = mark }; answer = Refused (refusal_number r) }
 
 -- the answer by a store that is ready
 abbrev pub answered : Claim → Hearing → Marked → RepliedIn

@@ -4,8 +4,7 @@
 use Rattle.std.specs.Prelude.{ℕ, ◌+◌, ◌-◌, ◌/◌, Bool, true, false, cond, not, ◌&&◌, List, [], ◌∷◌, ◌++◌, ltb, eqb, length}
 use Rattle.keys.specs.Store.{limit, same_keys, position, insert_all}
 use Rattle.claims.specs.declared.claim.Claim.{Claim}
-use Rattle.claims.specs.declared.answer.Answer.{Answer}
-use Rattle.claims.specs.declared.answer.Answer.TheVariants.{Refused, Match, Ask, One, Two}
+use Rattle.claims.specs.Answer.{Answer, Refused, Match, Ask, One, Two}
 use Rattle.claims.specs.Claim.{claim_of, between, middle_key, middle_inside}
 
 -- the ends of a claim, which question 6 counts where they are missing: "6 doesn't count the middle one" (document 02, slip 1)

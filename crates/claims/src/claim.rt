@@ -2,18 +2,19 @@
 ghost use Rattle.std.specs.Prelude.{◌≡◌, ◌≤◌};
 ghost use Rattle.claims.specs.Claim.{middle_key, middle_inside};
 ghost use Rattle.claims.specs.Question.{question3, question4, question5, question16};
-ghost use Rattle.claims.specs.Reply.{same};
+ghost use Rattle.claims.specs.Refusal.{number_told};
 ghost use Rattle.claims.specs.Call.{judged, judged_formerly};
 
+use crate::refusal::Refusal;
 use keys::Store;
 
-// What a claim says: "from lo to hi I hold cnt keys, whose XOR is sum".
-#[derive(Clone, Copy)]
+// What a claim says: "from lo to hi I hold cnt keys, whose XOR is sum". The fields stand in the order in which tables compare claims.
+#[derive(Clone, Copy, PartialEq, Eq, PartialOrd, Ord)]
 pub struct Claim {
+    pub cnt: u16,
     pub lo: u64,
     pub hi: u64,
     pub sum: u64,
-    pub cnt: u16,
 }
 
 impl Claim {
@@ -22,54 +23,49 @@ impl Claim {
 
     // The claim of zeros, which stands where there is none.
     pub const NONE: Claim = Claim {
+        cnt: 0,
         lo: 0,
         hi: 0,
         sum: 0,
-        cnt: 0,
     };
 }
 
-// The number of the first question of 2 to 5 and 16 that the claim answers no, or 0.
-pub fn judge(claim: Claim) -> u8
-    ensures { result ≡ judged claim }
+// Asks 2 to 5 and 16.
+pub fn judge(claim: Claim) -> Result<(), Refusal>
+    ensures { number_told result ≡ judged claim }
 {
-    let number = judge_formerly(claim);
-    if number != 0 {
-        return number;
-    }
+    judge_formerly(claim)?;
     if !tells(claim) {
-        return 16;
+        return Err(Refusal::MiddleOutside);
     }
-    0
+    Ok(())
 }
 
-// The number of the first question of 2 to 5 that the claim answers no, or 0: as claims were judged before 16 came, and as those in an image still are.
-pub fn judge_formerly(claim: Claim) -> u8
-    ensures { result ≡ judged_formerly claim }
+// Asks 2 to 5: as claims were judged before 16 came, and as those in an image still are.
+#[tactic(auto, unfolding(crate::specs::Call::judged_formerly))]
+pub fn judge_formerly(claim: Claim) -> Result<(), Refusal>
+    ensures { number_told result ≡ judged_formerly claim }
 {
     if claim.hi < claim.lo {
-        return 2;
+        return Err(Refusal::LoAboveHi);
     }
     if !counted(claim) {
-        return 3;
+        return Err(Refusal::CountBeyondLimit);
     }
     if !spanned(claim) {
-        return 4;
+        return Err(Refusal::CountBeyondSpan);
     }
     if !summed(claim) {
-        return 5;
+        return Err(Refusal::WrongSum);
     }
-    0
+    Ok(())
 }
 
 // Question 3: is cnt from 1 to the limit?
 fn counted(claim: Claim) -> bool
     ensures { result ≡ (question3 claim).yes }
 {
-    if claim.cnt < 1 {
-        return false;
-    }
-    claim.cnt as usize <= Store::LIMIT
+    1 <= claim.cnt && claim.cnt as usize <= Store::LIMIT
 }
 
 // Question 4: is cnt 1 when lo = hi, and otherwise from 2 to hi - lo + 1?
@@ -78,51 +74,28 @@ fn spanned(claim: Claim) -> bool
     ensures { result ≡ (question4 claim).yes }
 {
     if claim.lo == claim.hi {
-        return claim.cnt == 1;
+        claim.cnt == 1
+    } else {
+        2 <= claim.cnt && claim.cnt as u64 - 1 <= claim.hi - claim.lo
     }
-    if claim.cnt < 2 {
-        return false;
-    }
-    claim.cnt as u64 - 1 <= claim.hi - claim.lo
 }
 
 // Question 5: is sum lo when cnt is 1, and lo XOR hi when cnt is 2?
 fn summed(claim: Claim) -> bool
     ensures { result ≡ (question5 claim).yes }
 {
-    if claim.cnt == 1 {
-        return claim.sum == claim.lo;
+    match claim.cnt {
+        1 => claim.sum == claim.lo,
+        2 => claim.sum == claim.lo ^ claim.hi,
+        _ => true,
     }
-    if claim.cnt == 2 {
-        return claim.sum == claim.lo ^ claim.hi;
-    }
-    true
 }
 
 // Question 16: is the key that a claim of three keys tells strictly between lo and hi?
 pub fn tells(claim: Claim) -> bool
     ensures { result ≡ (question16 claim).yes }
 {
-    if claim.cnt != 3 {
-        return true;
-    }
-    middle_inside(claim)
-}
-
-// Whether two claims are equal in all four fields.
-pub(crate) fn same(one: Claim, other: Claim) -> bool
-    ensures { result ≡ same one other }
-{
-    if one.lo != other.lo {
-        return false;
-    }
-    if one.hi != other.hi {
-        return false;
-    }
-    if one.sum != other.sum {
-        return false;
-    }
-    one.cnt == other.cnt
+    claim.cnt != 3 || middle_inside(claim)
 }
 
 // The key between lo and hi that a claim of three keys tells.
@@ -137,8 +110,5 @@ fn middle_inside(claim: Claim) -> bool
     ensures { result ≡ middle_inside claim }
 {
     let middle = middle_key(claim);
-    if middle <= claim.lo {
-        return false;
-    }
-    middle < claim.hi
+    claim.lo < middle && middle < claim.hi
 }

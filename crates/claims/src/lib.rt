@@ -6,9 +6,12 @@ mod answer;
 mod calls;
 mod claim;
 mod lent;
+mod piece;
+mod refusal;
 
-pub use answer::{Answer, Entered, Made, Replied};
+pub use answer::Answer;
 pub use calls::{enter, make, reply};
 pub use claim::{Claim, judge, judge_formerly, tells};
-pub use keys::Store;
-pub use lent::{Heard, Told, answer_in, hear_in, make_in, reply_in};
+pub use keys::{Added, LentStore, Store};
+pub use lent::{Told, answer_in, hear_in, make_in, reply_in};
+pub use refusal::Refusal;

@@ -1,359 +1,212 @@
-// Each call, on the words and bytes of a request: its arguments are read, the call is made, and its answer is put in place.
+// Each call, on the words and bytes of a request: its arguments are read, the call is made, and its answer is put in place. What a call answers is the count
+// of its answer, or the number of the first question answered no.
 ghost use Rattle.std.specs.Prelude.{◌≤◌, length};
-ghost use Rattle.drill.specs.Request.{past_node, past_both};
+ghost use Rattle.drill.specs.Request.{left, past_left, past_node, past_both};
+ghost use Rattle.drill.specs.Call.{needed};
 
+use crate::call::Call;
 use crate::card;
-use crate::raw::{MOST, get, put};
-use claims::{Answer, Claim, Store};
-use rule::{Beaten, Met, Node};
+use claims::{Answer, Claim, Refusal, Store};
+use rule::{Delivery, Node, Table};
+use wire::Frame;
+use words::{claim_at, put_claim};
 
-// What came of a call: whether it could be made, and the number and the count of its answer.
-#[derive(Clone, Copy)]
-struct Said {
-    made: bool,
-    number: u8,
-    count: usize,
-}
+// What a call answers. Each function below says how many words it reads and writes, which `Call::needed` told: a slice has any number.
+type Told = Result<usize, Refusal>;
 
-impl Said {
-    const NOTHING: Said = Said {
-        made: false,
-        number: 0,
-        count: 0,
+// Makes one call; none where there is none of this number, where it needs more words than these, or where more is lent than is there.
+pub fn serve(number: u64, words: &mut [u64], bytes: &mut [u8]) -> Option<()> {
+    let call = Call::try_from(number).ok()?;
+    if words.len() < call.needed() {
+        return None;
+    }
+    let (number, count) = match make_call(call, words, bytes)? {
+        Ok(count) => (0, count),
+        Err(refusal) => (refusal.number(), 0),
     };
+    words[card::NUMBER] = number as u64;
+    words[card::COUNT] = count as u64;
+    Some(())
 }
 
-// Makes one call; false where there is none of this number, or more is lent than is there.
-pub fn serve(call: u64, words: &mut [u64; MOST], n: usize, bytes: &mut [u8]) -> bool {
-    let said = make_call(call, words, n, bytes);
-    if !said.made {
-        return false;
-    }
-    put(words, card::NUMBER, said.number as u64);
-    put(words, card::COUNT, said.count as u64);
-    true
+fn make_call(call: Call, words: &mut [u64], bytes: &mut [u8]) -> Option<Told>
+    requires { needed call ≤ length words.old }
+{
+    let lent = bytes.get_mut(..words[card::SECOND] as usize);
+    Some(match call {
+        Call::Enter => enter(words),
+        Call::Make => make(words),
+        Call::Reply => reply(words),
+        Call::Judge => judge(words),
+        Call::Take => take(words),
+        Call::Beat => return beat(words),
+        Call::RoundWords => return round_words(words),
+        Call::ReadFrame => read_frame(words, lent?),
+        Call::WriteFrame => write_frame(words, lent?),
+        Call::ReadImage => read_image(words, lent?),
+        Call::WriteImage => write_image(words, lent?),
+        Call::ImageLength => wire::image_length(lent?),
+        Call::Ordered => ordered(words),
+        Call::Empty => empty(words),
+        Call::RoundRecord => round_record(words),
+        Call::WriteSheet => write_sheet(words, lent?),
+        Call::OpeningCost => opening_cost(words),
+    })
 }
 
-// How many words a call needs, without those that it is lent; where there is no such call, more than there are.
-fn needed(call: u64) -> usize {
-    let by_number = [
-        usize::MAX,
-        card::RIGHT, // enter
-        card::RIGHT, // make
-        card::RIGHT, // reply
-        card::LEFT, // judge
-        card::PAST_NODE, // take
-        card::PAST_NODE, // beat
-        card::PAST_BOTH, // round_words
-        card::LEFT, // read_frame
-        card::LEFT, // write_frame
-        card::PAST_NODE, // read_image
-        card::PAST_NODE, // write_image
-        card::LEFT, // image_length
-        card::PAST_NODE, // ordered
-        card::RIGHT, // Store::empty
-        card::PAST_BOTH, // round_record
-        card::RIGHT, // write_sheet
-        card::LEFT, // opening_cost
-    ];
-    if call < 18 {
-        return by_number[call as usize];
-    }
-    usize::MAX
+fn enter(words: &mut [u64]) -> Told
+    requires { past_left ≤ length words.old }
+{
+    let mut store = card::store_at(words, card::LEFT);
+    let entered = claims::enter(&mut store, words[card::FIRST]);
+    card::put_store(words, card::LEFT, &store);
+    entered.map(|()| 0)
 }
 
-// Whether a call is lent the first of the bytes.
-fn lent_bytes(call: u64) -> bool {
-    if call == 16 {
-        return true;
-    }
-    8 <= call && call <= 12
-}
-
-// Makes one call, if there is one of this number and all that it needs is there.
-fn make_call(call: u64, words: &mut [u64; MOST], n: usize, bytes: &mut [u8]) -> Said {
-    if n < needed(call) {
-        return Said::NOTHING;
-    }
-    if !lent_bytes(call) {
-        return on_words(call, words, n);
-    }
-    let lent = get(words, card::SECOND) as usize;
-    if bytes.len() < lent {
-        return Said::NOTHING;
-    }
-    on_bytes(call, words, &mut bytes[0..lent])
-}
-
-fn on_words(call: u64, words: &mut [u64; MOST], n: usize) -> Said {
-    match call {
-        1 => enter(words),
-        2 => make(words),
-        3 => reply(words),
-        4 => judge(words),
-        5 => take(words),
-        6 => beat(words, n),
-        7 => round_words(words, n),
-        13 => ordered(words),
-        14 => empty(words),
-        15 => round_record(words),
-        _ => opening_cost(words),
-    }
-}
-
-fn on_bytes(call: u64, words: &mut [u64; MOST], lent: &mut [u8]) -> Said {
-    match call {
-        8 => read_frame(words, lent),
-        9 => write_frame(words, lent),
-        10 => read_image(words, lent),
-        11 => write_image(words, lent),
-        12 => image_length(lent),
-        _ => write_sheet(words, lent),
-    }
-}
-
-fn enter(words: &mut [u64; MOST]) -> Said {
+fn make(words: &mut [u64]) -> Told
+    requires { past_left ≤ length words.old }
+{
     let store = card::store_at(words, card::LEFT);
-    let entered = claims::enter(store, get(words, card::FIRST));
-    let after = entered.store;
-    card::put_store(words, card::LEFT, after);
-    Said {
-        made: true,
-        number: entered.number,
-        count: 0,
-    }
+    let first = words[card::FIRST] as usize;
+    let last = words[card::SECOND] as usize;
+    let made = claims::make(&store, first, last);
+    put_claim(words, card::CLAIMS, made.unwrap_or(Claim::NONE));
+    made.map(|_| 0)
 }
 
-fn make(words: &mut [u64; MOST]) -> Said {
-    let store = card::store_at(words, card::LEFT);
-    let first = get(words, card::FIRST) as usize;
-    let last = get(words, card::SECOND) as usize;
-    let made = claims::make(store, first, last);
-    let claim = made.claim;
-    words::put_claim(words, card::CLAIMS, claim);
-    Said {
-        made: true,
-        number: made.number,
-        count: 0,
-    }
+fn reply(words: &mut [u64]) -> Told
+    requires { past_left ≤ length words.old }
+{
+    let mut store = card::store_at(words, card::LEFT);
+    let replied = claims::reply(&mut store, claim_at(words, card::CLAIMS));
+    card::put_store(words, card::LEFT, &store);
+    put_reply(words, replied)
 }
 
-// The number, the kind and both claims of a reply.
-#[derive(Clone, Copy)]
-struct Parts(u8, usize, Claim, Claim);
-
-fn parts_of(answer: Answer) -> Parts {
+// Puts a reply's claims behind the first one, and tells its kind.
+fn put_reply(words: &mut [u64], replied: Result<Answer, Refusal>) -> Told
+    requires { left ≤ length words.old }
+{
     let none = Claim::NONE;
-    match answer {
-        Answer::Refused(number) => Parts(number, 0, none, none),
-        Answer::Match => Parts(0, 0, none, none),
-        Answer::Ask(own) => Parts(0, 1, own, none),
-        Answer::One(claim) => Parts(0, 2, claim, none),
-        Answer::Two(one, two) => Parts(0, 3, one, two),
-    }
+    let (told, first, second) = match replied {
+        Ok(Answer::Match) => (Ok(0), none, none),
+        Ok(Answer::Ask(own)) => (Ok(1), own, none),
+        Ok(Answer::One(claim)) => (Ok(2), claim, none),
+        Ok(Answer::Two(one, two)) => (Ok(3), one, two),
+        Err(refusal) => (Err(refusal), none, none),
+    };
+    put_claim(words, card::CLAIMS + Claim::WORDS, first);
+    put_claim(words, card::CLAIMS + 2 * Claim::WORDS, second);
+    told
 }
 
-fn put_told(words: &mut [u64; MOST], answer: Answer) -> Said {
-    let parts = parts_of(answer);
-    let one = parts.2;
-    let two = parts.3;
-    words::put_claim(words, card::CLAIMS + Claim::WORDS, one);
-    words::put_claim(words, card::CLAIMS + 2 * Claim::WORDS, two);
-    Said {
-        made: true,
-        number: parts.0,
-        count: parts.1,
-    }
+fn judge(words: &[u64]) -> Told {
+    claims::judge(claim_at(words, card::CLAIMS)).map(|()| 0)
 }
 
-fn reply(words: &mut [u64; MOST]) -> Said {
-    let store = card::store_at(words, card::LEFT);
-    let claim = words::claim_at(words, card::CLAIMS);
-    let replied = claims::reply(store, claim);
-    let after = replied.store;
-    let answer = replied.answer;
-    card::put_store(words, card::LEFT, after);
-    put_told(words, answer)
-}
-
-fn judge(words: &[u64; MOST]) -> Said {
-    let claim = words::claim_at(words, card::CLAIMS);
-    Said {
-        made: true,
-        number: claims::judge(claim),
-        count: 0,
-    }
-}
-
-fn take(words: &mut [u64; MOST]) -> Said {
-    let node = card::node_in(words);
-    let claim = words::claim_at(words, card::CLAIMS);
-    let taken = nodes::take(node, claim);
-    let after = taken.node;
-    card::put_node(words, after);
-    Said {
-        made: true,
-        number: taken.number,
-        count: 0,
-    }
-}
-
-// A part can be lent of a slice, and not of an array behind a reference: so this and `met_on` take the words as a slice.
-fn beat_on(node: Node, words: &mut [u64], end: usize) -> Beaten
-    requires { (past_node ≤ end) × (end ≤ length words.old) }
+fn take(words: &mut [u64]) -> Told
+    requires { past_node ≤ length words.old }
 {
-    beats::beat(node, &mut words[card::PAST_NODE..end])
+    let mut node = card::node_in(words);
+    let taken = nodes::take(&mut node, claim_at(words, card::CLAIMS));
+    card::put_node(words, &node);
+    taken.map(|()| 0)
 }
 
-fn beat(words: &mut [u64; MOST], n: usize) -> Said {
-    let end = card::end_of_lent(words, n, card::PAST_NODE);
-    if end < card::PAST_NODE {
-        return Said::NOTHING;
-    }
-    let node = card::node_in(words);
-    let beaten = beat_on(node, &mut words[..], end);
-    let after = beaten.node;
-    card::put_node(words, after);
-    Said {
-        made: true,
-        number: beaten.number,
-        count: beaten.written,
-    }
-}
-
-fn met_on(left: Store, right: Store, words: &mut [u64], end: usize) -> Met
-    requires { (past_both ≤ end) × (end ≤ length words.old) }
+fn beat(words: &mut [u64]) -> Option<Told>
+    requires { past_node ≤ length words.old }
 {
-    transcript::round_words(left, right, &mut words[card::PAST_BOTH..end])
+    let end = card::end_of_lent(words, card::PAST_NODE)?;
+    let mut node = card::node_in(words);
+    let written = beats::beat(&mut node, &mut words[card::PAST_NODE..end]);
+    card::put_node(words, &node);
+    Some(written)
 }
 
-fn round_words(words: &mut [u64; MOST], n: usize) -> Said {
-    let end = card::end_of_lent(words, n, card::PAST_BOTH);
-    if end < card::PAST_BOTH {
-        return Said::NOTHING;
-    }
-    let left = card::store_at(words, card::LEFT);
-    let right = card::store_at(words, card::RIGHT);
-    let met = met_on(left, right, &mut words[..], end);
-    put_met(words, met)
+fn round_words(words: &mut [u64]) -> Option<Told>
+    requires { past_both ≤ length words.old }
+{
+    let end = card::end_of_lent(words, card::PAST_BOTH)?;
+    let mut left = card::store_at(words, card::LEFT);
+    let mut right = card::store_at(words, card::RIGHT);
+    let lent = &mut words[card::PAST_BOTH..end];
+    let deliveries = transcript::round_words(&mut left, &mut right, lent);
+    card::put_store(words, card::LEFT, &left);
+    card::put_store(words, card::RIGHT, &right);
+    Some(deliveries)
 }
 
-fn put_met(words: &mut [u64; MOST], met: Met) -> Said {
-    let left = met.left;
-    let right = met.right;
-    card::put_store(words, card::LEFT, left);
-    card::put_store(words, card::RIGHT, right);
-    Said {
-        made: true,
-        number: met.number,
-        count: met.deliveries,
-    }
+fn round_record(words: &mut [u64]) -> Told
+    requires { past_both ≤ length words.old }
+{
+    let mut left = card::store_at(words, card::LEFT);
+    let mut right = card::store_at(words, card::RIGHT);
+    let at = words[card::FIRST] as usize;
+    let recorded = rounds::round_record(&mut left, &mut right, at);
+    card::put_store(words, card::LEFT, &left);
+    card::put_store(words, card::RIGHT, &right);
+    let delivery = recorded.map_or(Delivery::NONE, |record| record.delivery);
+    put_claim(words, card::CLAIMS, delivery.claim);
+    words[card::CLAIMS + Claim::WORDS] = delivery.sender as u64;
+    recorded.map(|record| record.deliveries)
 }
 
-fn round_record(words: &mut [u64; MOST]) -> Said {
-    let left = card::store_at(words, card::LEFT);
-    let right = card::store_at(words, card::RIGHT);
-    let recorded = rounds::round_record(left, right, get(words, card::FIRST) as usize);
-    let met = recorded.met;
-    let delivery = recorded.delivery;
-    let claim = delivery.claim;
-    words::put_claim(words, card::CLAIMS, claim);
-    put(words, card::CLAIMS + Claim::WORDS, delivery.sender as u64);
-    put_met(words, met)
+fn read_frame(words: &mut [u64], lent: &[u8]) -> Told
+    requires { left ≤ length words.old }
+{
+    let read = wire::read_frame(lent);
+    let four = read.map_or([Claim::NONE; Frame::CLAIMS], |frame| frame.claims);
+    card::put_claims(words, card::CLAIMS, &four);
+    read.map(|frame| frame.count)
 }
 
-fn read_frame(words: &mut [u64; MOST], lent: &[u8]) -> Said {
-    let framed = wire::read_frame(lent);
-    let four = framed.claims;
-    card::put_four(words, four);
-    Said {
-        made: true,
-        number: framed.number,
-        count: framed.count,
-    }
+fn write_frame(words: &[u64], lent: &mut [u8]) -> Told
+    requires { left ≤ length words.now }
+{
+    let claims = card::claims_at(words, card::CLAIMS);
+    let count = words[card::FIRST] as usize;
+    wire::write_frame(Frame { claims, count }, lent)
 }
 
-fn write_frame(words: &[u64; MOST], lent: &mut [u8]) -> Said {
-    let four = card::four_in(words);
-    let written = wire::write_frame(four, get(words, card::FIRST) as usize, lent);
-    Said {
-        made: true,
-        number: written.number,
-        count: written.length,
-    }
+fn read_image(words: &mut [u64], lent: &[u8]) -> Told
+    requires { past_node ≤ length words.old }
+{
+    let empty = Node {
+        store: Store::EMPTY,
+        pending: Table::EMPTY,
+    };
+    let read = wire::read_image(lent);
+    card::put_node(words, &read.unwrap_or(empty));
+    read.map(|_| 0)
 }
 
-fn read_image(words: &mut [u64; MOST], lent: &[u8]) -> Said {
-    let imaged = wire::read_image(lent);
-    let node = imaged.node;
-    card::put_node(words, node);
-    Said {
-        made: true,
-        number: imaged.number,
-        count: 0,
-    }
+fn write_image(words: &[u64], lent: &mut [u8]) -> Told
+    requires { past_node ≤ length words.now }
+{
+    wire::write_image(&card::node_in(words), lent)
 }
 
-fn write_image(words: &[u64; MOST], lent: &mut [u8]) -> Said {
-    let node = card::node_in(words);
-    let written = wire::write_image(node, lent);
-    Said {
-        made: true,
-        number: written.number,
-        count: written.length,
-    }
+fn write_sheet(words: &[u64], lent: &mut [u8]) -> Told
+    requires { past_left ≤ length words.now }
+{
+    sheet::write_sheet(&card::store_at(words, card::LEFT), lent)
 }
 
-fn image_length(lent: &[u8]) -> Said {
-    let told = wire::image_length(lent);
-    Said {
-        made: true,
-        number: told.number,
-        count: told.length,
-    }
+fn opening_cost(words: &[u64]) -> Told
+    requires { left ≤ length words.now }
+{
+    opening::opening_cost(words[card::FIRST] as usize)
 }
 
-fn write_sheet(words: &[u64; MOST], lent: &mut [u8]) -> Said {
-    let store = card::store_at(words, card::LEFT);
-    let written = sheet::write_sheet(store, lent);
-    Said {
-        made: true,
-        number: written.number,
-        count: written.length,
-    }
+fn ordered(words: &[u64]) -> Told
+    requires { past_node ≤ length words.now }
+{
+    Ok(nodes::ordered(&card::node_in(words)) as usize)
 }
 
-fn opening_cost(words: &[u64; MOST]) -> Said {
-    let cost = opening::opening_cost(get(words, card::FIRST) as usize);
-    Said {
-        made: true,
-        number: cost.number,
-        count: cost.deliveries,
-    }
-}
-
-fn ordered(words: &[u64; MOST]) -> Said {
-    let node = card::node_in(words);
-    if nodes::ordered(node) {
-        return Said {
-            made: true,
-            number: 0,
-            count: 1,
-        };
-    }
-    Said {
-        made: true,
-        number: 0,
-        count: 0,
-    }
-}
-
-fn empty(words: &mut [u64; MOST]) -> Said {
-    let store = Store::empty();
-    card::put_store(words, card::LEFT, store);
-    Said {
-        made: true,
-        number: 0,
-        count: 0,
-    }
+fn empty(words: &mut [u64]) -> Told
+    requires { past_left ≤ length words.old }
+{
+    card::put_store(words, card::LEFT, &Store::empty());
+    Ok(0)
 }

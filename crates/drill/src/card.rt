@@ -1,10 +1,10 @@
 // Claims, stores and nodes in the words of a request, at the places that main.rt tells.
-ghost use Rattle.std.specs.Prelude.{◌≤◌};
-ghost use Rattle.drill.specs.Request.{most_words};
+ghost use Rattle.std.specs.Prelude.{◌≤◌, ◌+◌, ◌*◌, length, IfSome};
+ghost use Rattle.claims.specs.Words.{claim_width};
+ghost use Rattle.drill.specs.Request.{store_words, past_node};
 
-use crate::raw::{MOST, get, put};
 use claims::{Claim, Store};
-use rule::Node;
+use rule::{Node, Table};
 use words::{claim_at, put_claim};
 
 // The number and count of the answer, both arguments.
@@ -33,119 +33,73 @@ pub const PAST_NODE: usize = TABLE + Claim::WORDS * Node::TABLE;
 
 pub const PAST_BOTH: usize = RIGHT + STORE;
 
-// The four claims of a frame.
-pub fn four_in(words: &[u64; MOST]) -> [Claim; 4] {
-    [
-        claim_at(words, CLAIMS),
-        claim_at(words, CLAIMS + Claim::WORDS),
-        claim_at(words, CLAIMS + 2 * Claim::WORDS),
-        claim_at(words, CLAIMS + 3 * Claim::WORDS),
-    ]
-}
-
-pub fn put_four(words: &mut [u64; MOST], four: [Claim; 4]) {
-    let mut i: usize = 0;
-    while i < 4 {
-        put_claim(words, CLAIMS + Claim::WORDS * i, four[i]);
-        i += 1;
-    }
-}
-
-// The place after the last word that a call is lent from a place on; 0 where the n words of the request end before it.
-pub fn end_of_lent(words: &[u64; MOST], n: usize, from: usize) -> usize
-    ensures { result ≤ most_words }
+// The place after the last word that a call is lent from a place on; none where the words end before it.
+pub fn end_of_lent(words: &[u64], from: usize) -> Option<usize>
+    requires { (4 ≤ from) × (from ≤ length words.now) }
+    ensures { IfSome result (λ end. (from ≤ end) × (end ≤ length words.now)) }
 {
-    let lent = get(words, SECOND) as usize;
-    if MOST < n {
-        return 0;
+    let lent = words[SECOND] as usize;
+    if words.len() - from < lent {
+        return None;
     }
-    if n < from {
-        return 0;
-    }
-    if n - from < lent {
-        return 0;
-    }
-    from + lent
+    Some(from + lent)
 }
 
-// The numbers from a place on, one for each place of a store.
-fn run_at(words: &[u64; MOST], at: usize) -> [u64; Store::LIMIT]
-    requires { at ≤ 1000000 }
+// Some claims, one behind another from a place on.
+pub fn claims_at<const N: usize>(words: &[u64], at: usize) -> [Claim; N]
+    requires { at + claim_width * N ≤ length words.now }
 {
-    let mut run = [0; Store::LIMIT];
-    let mut i: usize = 0;
-    while i < Store::LIMIT {
-        run[i] = get(words, at + i);
-        i += 1;
+    let mut claims = [Claim::NONE; N];
+    for (i, claim) in claims.iter_mut().enumerate() {
+        *claim = claim_at(words, at + Claim::WORDS * i);
     }
-    run
+    claims
 }
 
-fn put_run(words: &mut [u64; MOST], at: usize, run: [u64; Store::LIMIT])
-    requires { at ≤ 1000000 }
+pub fn put_claims(words: &mut [u64], at: usize, claims: &[Claim])
+    requires { at + claim_width * length claims.now ≤ length words.old }
 {
-    let mut i: usize = 0;
-    while i < Store::LIMIT {
-        put(words, at + i, run[i]);
-        i += 1;
+    for (i, claim) in claims.iter().enumerate() {
+        put_claim(words, at + Claim::WORDS * i, *claim);
     }
 }
 
-pub fn store_at(words: &[u64; MOST], at: usize) -> Store
-    requires { at ≤ 900000 }
+pub fn store_at(words: &[u64], at: usize) -> Store
+    requires { at + store_words ≤ length words.now }
 {
-    let keys = run_at(words, at + 1);
-    let sums = run_at(words, at + 1 + Store::LIMIT);
-    Store {
-        keys,
-        sums,
-        count: get(words, at) as usize,
-    }
+    let mut store = Store::EMPTY;
+    store.count = words[at] as usize;
+    let runs = &words[at + 1..at + STORE];
+    let (keys, sums) = runs.split_at(Store::LIMIT);
+    store.keys.copy_from_slice(keys);
+    store.sums.copy_from_slice(sums);
+    store
 }
 
-pub fn put_store(words: &mut [u64; MOST], at: usize, store: Store)
-    requires { at ≤ 900000 }
+pub fn put_store(words: &mut [u64], at: usize, store: &Store)
+    requires { at + store_words ≤ length words.old }
 {
-    let keys = store.keys;
-    let sums = store.sums;
-    put(words, at, store.count as u64);
-    put_run(words, at + 1, keys);
-    put_run(words, at + 1 + Store::LIMIT, sums);
+    words[at] = store.count as u64;
+    words[at + 1..at + 1 + Store::LIMIT].copy_from_slice(&store.keys);
+    words[at + 1 + Store::LIMIT..at + STORE].copy_from_slice(&store.sums);
 }
 
-// The claims of a table.
-fn table_in(words: &[u64; MOST]) -> [Claim; Node::TABLE] {
-    let mut table = [Claim::NONE; Node::TABLE];
-    let mut i: usize = 0;
-    while i < Node::TABLE {
-        table[i] = claim_at(words, TABLE + Claim::WORDS * i);
-        i += 1;
-    }
-    table
-}
-
-fn put_table(words: &mut [u64; MOST], table: [Claim; Node::TABLE]) {
-    let mut i: usize = 0;
-    while i < Node::TABLE {
-        put_claim(words, TABLE + Claim::WORDS * i, table[i]);
-        i += 1;
-    }
-}
-
-pub fn node_in(words: &[u64; MOST]) -> Node {
-    let store = store_at(words, LEFT);
-    let pending = table_in(words);
+pub fn node_in(words: &[u64]) -> Node
+    requires { past_node ≤ length words.now }
+{
     Node {
-        store,
-        pending,
-        count: get(words, RIGHT) as usize,
+        store: store_at(words, LEFT),
+        pending: Table {
+            claims: claims_at(words, TABLE),
+            count: words[RIGHT] as usize,
+        },
     }
 }
 
-pub fn put_node(words: &mut [u64; MOST], node: Node) {
-    let store = node.store;
-    let pending = node.pending;
-    put_store(words, LEFT, store);
-    put(words, RIGHT, node.count as u64);
-    put_table(words, pending);
+pub fn put_node(words: &mut [u64], node: &Node)
+    requires { past_node ≤ length words.old }
+{
+    put_store(words, LEFT, &node.store);
+    words[RIGHT] = node.pending.count as u64;
+    put_claims(words, TABLE, &node.pending.claims);
 }

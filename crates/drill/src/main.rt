@@ -26,6 +26,10 @@
 // first of the request's bytes.
 #![tactic(auto)]
 
+ghost use Rattle.std.specs.Prelude.{◌≤◌, length};
+ghost use Rattle.drill.specs.Request.{most_words};
+
+mod call;
 mod calls;
 mod card;
 mod raw;
@@ -34,12 +38,14 @@ use reading::read_full;
 use std::io;
 use std::io::{Read, Write};
 
-// The bytes of a request's head.
-const HEAD: usize = 24;
+// The numbers of a request's head, and their bytes.
+const NUMBERS: usize = 3;
+
+const HEAD: usize = raw::WORD * NUMBERS;
 
 // Says that the request could not be read, and that the program ends.
 fn malformed<O: Write>(to: &mut O) -> io::Result<bool> {
-    to.write_all(&[b'?'])?;
+    to.write_all(b"?")?;
     Ok(false)
 }
 
@@ -49,89 +55,64 @@ fn fill<I: Read>(from: &mut I, bytes: &mut [u8]) -> io::Result<bool> {
     Ok(got == bytes.len())
 }
 
-// Reads the words of a request.
-fn read_words<I: Read>(from: &mut I, words: &mut [u64; raw::MOST], n: usize) -> io::Result<bool> {
-    if raw::MOST < n {
-        return Ok(false);
-    }
+// Reads the words of a request, and says whether there were so many.
+fn read_words<I: Read>(from: &mut I, words: &mut [u64]) -> io::Result<bool>
+    requires { length words.old ≤ most_words }
+{
     let mut space = raw::space();
-    let end = 8 * n;
-    let part = &mut space[0..end];
-    if !fill(from, part)? {
-        return Ok(false);
-    }
-    raw::decode(part, words, n);
-    Ok(true)
+    let part = &mut space[..raw::WORD * words.len()];
+    let full = fill(from, part)?;
+    raw::decode(part, words);
+    Ok(full)
 }
 
 // Writes the mark and the words of a reply.
-fn tell_words<O: Write>(to: &mut O, words: &[u64; raw::MOST], n: usize) -> io::Result<bool> {
-    if raw::MOST < n {
-        return Ok(false);
-    }
+fn tell_words<O: Write>(to: &mut O, words: &[u64]) -> io::Result<()>
+    requires { length words.now ≤ most_words }
+{
     let mut space = raw::space();
-    raw::encode(words, n, &mut space);
-    let end = 8 * n + 1;
-    to.write_all(&space[0..end])?;
-    Ok(true)
+    let reply = &mut space[..raw::WORD * words.len() + 1];
+    raw::encode(words, &mut reply[1..]);
+    to.write_all(reply)
 }
 
-// One request, after its head: it has the first n of these words, and all of these bytes.
+// One request, after its head, with its words and bytes still to be read.
 fn answer<I: Read, O: Write>(
     from: &mut I,
     to: &mut O,
     call: u64,
-    words: &mut [u64; raw::MOST],
-    n: usize,
+    words: &mut [u64],
     bytes: &mut [u8],
-) -> io::Result<bool> {
-    if !read_words(from, words, n)? {
+) -> io::Result<bool>
+    requires { length words.old ≤ most_words }
+{
+    if !read_words(from, words)? || !fill(from, bytes)? {
         return malformed(to);
     }
-    if !fill(from, bytes)? {
+    if calls::serve(call, words, bytes).is_none() {
         return malformed(to);
     }
-    if !calls::serve(call, words, n, bytes) {
-        return malformed(to);
-    }
-    if !tell_words(to, words, n)? {
-        return Ok(false);
-    }
+    tell_words(to, words)?;
     to.write_all(bytes)?;
     Ok(true)
 }
 
-// One request, after its head, of n words and m bytes.
-fn body<I: Read, O: Write>(
-    from: &mut I,
-    to: &mut O,
-    call: u64,
-    n: usize,
-    m: usize,
-) -> io::Result<bool> {
-    if raw::BYTES < m {
-        return malformed(to);
-    }
-    let mut words = [0u64; raw::MOST];
-    let mut bytes = [0u8; raw::BYTES];
-    answer(from, to, call, &mut words, n, &mut bytes[0..m])
-}
-
-// One request; false where there is none or it could not be read.
+// One request; false where there is none or it could not be read. A bool and no error of its own: the program ends by either, and writes all that is to be told.
 fn turn<I: Read, O: Write>(from: &mut I, to: &mut O) -> io::Result<bool> {
-    let mut head = [0u8; HEAD];
+    let mut head = [0; HEAD];
     let got = read_full(from, &mut head)?;
     if got == 0 {
         return Ok(false);
     }
-    if got < HEAD {
-        return malformed(to);
+    let mut numbers = [0; NUMBERS];
+    raw::decode(&head, &mut numbers);
+    let [call, n, m] = numbers;
+    let mut words = [0; raw::MOST];
+    let mut bytes = [0; raw::BYTES];
+    match (words.get_mut(..n as usize), bytes.get_mut(..m as usize)) {
+        (Some(words), Some(bytes)) if got == HEAD => answer(from, to, call, words, bytes),
+        _ => malformed(to),
     }
-    let told = &head[..];
-    let call = raw::word_at(told, 0);
-    let n = raw::word_at(told, 8) as usize;
-    let m = raw::word_at(told, 16) as usize;
-    body(from, to, call, n, m)
 }
 
 // Nothing says that the input ends, so the turns are counted, up to a number that no run uses up.

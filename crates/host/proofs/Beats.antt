@@ -18,21 +18,24 @@ use Rattle.claims.specs.declared.claim.Claim.{Claim}
 use Rattle.claims.specs.Question.{first_no}
 use Rattle.claims.specs.Words.{claim_width}
 use Rattle.rule.specs.declared.node.Node.{Node}
-use Rattle.rule.specs.declared.answer.Beaten.{Beaten}
-use Rattle.rule.specs.Table.{beat_limit, sending}
+use Rattle.rule.specs.declared.node.Table.{Table}
+use Rattle.rule.specs.Answer.{Beaten}
+use Rattle.rule.specs.Table.{beat_limit, serve, sending}
 use Rattle.rule.specs.Node.{node_keys, pending_of, node_in_order}
 use Rattle.rule.specs.Call.{claim_words, beat_questions}
 use Rattle.rule.proofs.NodeLaws.{Ordered, node_in_order_ordered, ordered_node_in_order}
-use Rattle.rule.proofs.CallLaws.{beaten_done, beaten_lent_done, ordered_beaten, length_pending_of}
-use Rattle.rule.proofs.TableLaws.{length_sending}
+use Rattle.rule.proofs.CallLaws.{beaten_done, beaten_lent_done, ordered_beaten, length_node_keys, length_pending_of}
+use Rattle.rule.proofs.TableLaws.{length_sending, length_kept}
 use Rattle.rule.proofs.Words.{length_claim_words}
 use Rattle.nodes.specs.Lent.{node_with}
 use Rattle.beats.specs.Lent.{beat_in, beat_in_lent}
 use Rattle.beats.proofs.LentLaws.{beat_in_beaten, beat_in_lent_beaten_lent}
 use Rattle.wire.specs.Frame.{all_pass}
 use Rattle.wire.specs.Run.{read_run}
+use Rattle.wire.specs.Image.{Shaped}
 use Rattle.host.specs.Frames.{frames_limit, in_words}
 use Rattle.host.specs.Call.{node_served, frames_sent}
+use Rattle.host.proofs.Fitting.{shaped_node_of}
 use Rattle.host.proofs.FramesLaws.{length_frames_bytes, frames_length_limit}
 use Rattle.host.proofs.Passing.{sending_passes}
 use Rattle.host.proofs.Words.{read_run_claim_words}
@@ -49,10 +52,10 @@ module _ (keys : List ℕ) (held : ℕ) (sums : List ℕ) (anew : sums ≡ resum
   pub sums_long : length sums ≡ limit
   sums_long = ap length anew ∙ length_resummed keys (replicate limit 0) 0 held (length-replicate {A = ℕ} limit 0)
 
-  pub sums_told : (table : List Claim) (count : ℕ) → length keys ≡ limit → node_in_order (node_with keys held table count) ≡ true → sums ≡ (store_with keys held).sums
+  pub sums_told : (pending : Table) → length keys ≡ limit → node_in_order (node_with keys held pending) ≡ true → sums ≡ (store_with keys held).sums
   unfolding zeros
-  sums_told table count long e =
-      anew ∙ resummed_zeros keys held long (in_order_count (store_with keys held) (node_in_order_ordered (node_with keys held table count) e).store)
+  sums_told pending long e =
+      anew ∙ resummed_zeros keys held long (in_order_count (store_with keys held) (node_in_order_ordered (node_with keys held pending) e).store)
 
 module _ (n : Node) (ordered : node_in_order n ≡ true) where
   o : Ordered n
@@ -63,6 +66,12 @@ module _ (n : Node) (ordered : node_in_order n ≡ true) where
 
   pub node_served_ordered : node_in_order (node_served n) ≡ true
   node_served_ordered = ordered_node_in_order (node_served n) (ordered_beaten n o (length_pending_of n o))
+
+  pub node_served_shaped : Shaped (node_served n)
+  node_served_shaped =
+      let fewer = length_kept (node_keys n) (pending_of n) in
+      let most = length_pending_of n o in
+      shaped_node_of (node_keys n) (serve (node_keys n) (pending_of n)).kept (length_node_keys n o) (omega arith)
 
   sent_count : length sent ≤ beat_limit
   sent_count = length_sending (node_keys n) (pending_of n)
@@ -78,6 +87,9 @@ module _ (n : Node) (ordered : node_in_order n ≡ true) where
 
     done : r ≡ record { number = 0; node = node_served n; written = length sent }
     done = beaten ∙ (beat_in_beaten n lent sized o ∙ beaten_done n lent asked)
+
+    pub beat_number : r.number ≡ 0
+    beat_number = ap (λ (b : Beaten). b.number) done
 
     beat_written : r.written ≡ length sent
     beat_written = ap (λ (b : Beaten). b.written) done

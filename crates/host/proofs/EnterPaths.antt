@@ -9,9 +9,8 @@ use mathlib.Core.Path.{◌≡◌, ap, sym, ◌∙◌, subst}
 use borrow.Author.Tests.{lt-ltb, le-ltb}
 use lib.ListN.{length}
 use Rattle.keys.specs.declared.store.Store.{Store}
-use Rattle.keys.specs.declared.lent.Added.{Added}
 use Rattle.keys.specs.Store.{limit, Sized, store_of, insert}
-use Rattle.keys.specs.Lent.{store_with, Grown, grown_with, add_in}
+use Rattle.keys.specs.Lent.{Grown, add_in}
 use Rattle.keys.proofs.Tests.{lt_or_le}
 use Rattle.keys.proofs.Rising.{Rising}
 use Rattle.keys.proofs.Insert.{insert_rising, mem_insert_old}
@@ -60,10 +59,10 @@ module _ (n : Node) (key : ℕ) where
       ordered_entered =
           subst Ordered (sym node_entered_is) (ordered_restored n grown o (insert_rising key (node_keys n) rise) fits (mem_insert_old key (node_keys n)))
 
-    -- ---- the key added to the lent keys: what that told, and the run of keys then
+    -- ---- the key added to the lent keys: what that told, and the store then
 
-    module _ (sized : Sized n.store) {h : Added} {after : List ℕ} (added : grown_with after h ≡ add_in n.store key) where
-      told : grown_with after h ≡ add_in (store_of (node_keys n)) key
+    module _ (sized : Sized n.store) {h : Grown} (added : h ≡ add_in n.store key) where
+      told : h ≡ add_in (store_of (node_keys n)) key
       told = added ∙ ap (λ (s : Store). add_in s key) (store_of_keys_of n.store sized o.store)
 
       -- 6 as it is asked, and as adding told it
@@ -74,7 +73,7 @@ module _ (n : Node) (key : ℕ) where
           (lt_or_le limit (length grown))
 
       -- a key that does not fit leaves the run with its places
-      pub unfit_long : h.fits ≡ false → length after ≡ limit
+      pub unfit_long : h.fits ≡ false → length h.store.keys ≡ limit
       unfit_long f =
           let kept = add_in_unfit n.store key (sym (ap (λ (g : Grown). g.fits) added) ∙ f) in
           rw (ap (λ (g : Grown). g.store.keys) added ∙ ap (λ (s : Store). s.keys) kept) sized.keys
@@ -83,11 +82,11 @@ module _ (n : Node) (key : ℕ) where
         pub added_fits : length grown ≤ limit
         added_fits = fits_six (added_six ∙ rw fit)
 
-        store_grown : store_with after h.count ≡ store_of grown
+        store_grown : h.store ≡ store_of grown
         store_grown = ap (λ (g : Grown). g.store) (told ∙ add_in_fits (node_keys n) rise key added_fits)
 
-        pub added_node : restored n (store_with after h.count) ≡ node_entered n key
+        pub added_node : restored n h.store ≡ node_entered n key
         added_node = ap (restored n) store_grown ∙ sym (node_entered_is added_fits)
 
-        pub added_long : length after ≡ limit
+        pub added_long : length h.store.keys ≡ limit
         added_long = rw (ap (λ (s : Store). s.keys) store_grown) (length_keys_store_of grown added_fits)

@@ -20,7 +20,7 @@ use Rattle.claims.proofs.ReplyLaws.{Wanted, adding_mem, hear_mem, hear_fits, Spa
 use Rattle.claims.proofs.Span.{mem_first, mem_last}
 use Rattle.claims.proofs.Xor.{xor_all_lt}
 use Rattle.rule.specs.declared.node.Node.{Node}
-use Rattle.rule.specs.declared.answer.Taken.{Taken}
+use Rattle.rule.specs.Answer.{Taken}
 use Rattle.rule.specs.Table.{table_limit, insert_claim, table_with, insert_claims, joined_table, serve, sending}
 use Rattle.rule.specs.Node.{blanks, node_keys, pending_of, node_of, telling}
 use Rattle.rule.specs.Round.{union}
@@ -30,7 +30,7 @@ use Rattle.rule.proofs.CallLaws.{take_questions_yes, taken_done, taken_refused, 
 use Rattle.rule.proofs.TableLaws.{insert_claim_mem, length_table_with, kept_mem, length_kept}
 use Rattle.rule.proofs.Union.{union_mem}
 use Rattle.rule.proofs.Joining.{insert_claims_mem}
-use Rattle.wire.specs.declared.answer.Imaged.{Imaged}
+use Rattle.wire.specs.Answer.{Imaged}
 use Rattle.wire.specs.Number.{byte, Below}
 use Rattle.wire.specs.Claim.{key_width, count_width, ClaimFits}
 use Rattle.wire.specs.Run.{Each}
@@ -57,7 +57,7 @@ none_fits : ClaimFits no_claim
 none_fits = record { lo = omega arith; hi = omega arith; sum = omega arith; cnt = omega arith }
 
 module _ (l : List ℕ) (t : List Claim) (few : length l ≤ limit) (several : length t ≤ table_limit) where
-  shaped_node_of : Shaped (node_of l t)
+  pub shaped_node_of : Shaped (node_of l t)
   unfolding node_of blanks
   shaped_node_of = record { store = sized_store_of l few; pending = simp (length-append, length-replicate) (omega arith) }
 

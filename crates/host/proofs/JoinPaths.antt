@@ -6,31 +6,27 @@ use mathlib.Core.List.{List, [], ◌∷◌, ◌++◌}
 use mathlib.Core.Path.{◌≡◌, sym, ap, ap₂, ◌∙◌, subst}
 use borrow.Author.Tests.{leb-true}
 use lib.Dec.{lit<}
-use lib.IntN.{ℤ}
 use lib.ListN.{length}
-use mir.Syntax.{w64}
-use mir.Val.{to_z, of_z}
 use Rattle.keys.specs.Store.{limit, zeros}
 use Rattle.keys.proofs.StoreLaws.{length_zeros}
 use Rattle.claims.specs.Question.{Question, first_no}
 use Rattle.claims.proofs.QuestionLaws.{Numbered, first_no_zero, first_no_append_no}
 use Rattle.rule.specs.declared.node.Node.{Node}
-use Rattle.rule.specs.declared.answer.Rest.{Rest}
-use Rattle.rule.specs.declared.answer.Taken.{Taken}
+use Rattle.rule.specs.Answer.{Rest}
+use Rattle.rule.specs.Answer.{Taken}
 use Rattle.rule.specs.Node.{node_keys, node_in_order}
 use Rattle.rule.specs.Question.{question8}
 use Rattle.rule.specs.Round.{union}
 use Rattle.rule.specs.Call.{joined_node}
 use Rattle.rule.proofs.NodeLaws.{Ordered, node_in_order_ordered, ordered_node_in_order}
 use Rattle.rule.proofs.Joining.{ordered_joined}
-use Rattle.nodes.specs.Lent.{node_held, taken_with}
+use Rattle.nodes.specs.Lent.{node_held, taken_beside}
 use Rattle.nodes.specs.Joining.{join_in}
 use Rattle.nodes.proofs.JoiningLaws.{join_in_number, join_in_long, join_in_node}
 use Rattle.wire.specs.Image.{read_image_questions}
-use Rattle.host.specs.Call.{node_in, joining_questions, node_joined, images_joined, images_joined_out}
-use Rattle.host.specs.Known.{Loaded, JoinedFrom, Saved}
-use Rattle.host.proofs.SignPaths.{handed_on}
-use Rattle.host.proofs.SavePaths.{known_refused, saved_known}
+use Rattle.host.specs.Call.{node_in, joining_questions, node_joined}
+use Rattle.host.specs.Known.{Loaded, JoinedFrom}
+use Rattle.host.proofs.SavePaths.{known_refused}
 use Rattle.host.proofs.LibPaths.{past_image}
 
 pub joining_numbered : (first second : List ℕ) → Numbered (joining_questions first second)
@@ -60,7 +56,7 @@ module _ (first second : List ℕ) {keys₀ : List ℕ} (empty : keys₀ ≡ zer
           (loaded₂.number ∙ (sym (first_no_append_no (read_image_questions second) (eight first second) (λ z. f (loaded₂.number ∙ z))) ∙ sym past)) whole f
 
       module _ (read₂ : brought.number ≡ 0) {keys : List ℕ} {r : Rest}
-          (told : taken_with keys r ≡ join_in (node_held run₁ own) (node_held run₂ brought) keys₀) where
+          (told : taken_beside keys r ≡ join_in (node_held run₁ own) (node_held run₂ brought) keys₀) where
         o : Ordered (node_held run₁ own)
         o = node_in_order_ordered (node_held run₁ own) (loaded₁.sound.ordered read₁)
 
@@ -106,12 +102,3 @@ module _ (first second : List ℕ) {keys₀ : List ℕ} (empty : keys₀ ≡ zer
             ordered = λ z. rw (node z) (ordered z);
           };
         }
-
--- ---- src/lib.rt: the joined node is saved, and what saving returned, z, is handed on
-
-module _ (first second : List ℕ) {keys : List ℕ} {r : Rest} (known : JoinedFrom first second keys r) {out after : List ℕ} {z : ℤ} (told : Saved keys r out after z) where
-  pub joined_returned : to_z w64 (of_z w64 z) ≡ images_joined first second (length out)
-  joined_returned = handed_on (saved_known (joining_numbered first second) known told).0 told.fits
-
-  pub joined_left : after ≡ images_joined_out first second out
-  joined_left = (saved_known (joining_numbered first second) known told).1

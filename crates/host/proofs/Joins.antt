@@ -17,7 +17,7 @@ use Rattle.keys.proofs.StoreLaws.{in_order_rising}
 use Rattle.claims.specs.Question.{Question, first_no, settle}
 use Rattle.claims.proofs.QuestionLaws.{first_no_yes, first_no_zero, first_no_front, first_no_rest, first_no_append_zero, settle_done, settle_refused}
 use Rattle.rule.specs.declared.node.Node.{Node}
-use Rattle.rule.specs.declared.answer.Taken.{Taken}
+use Rattle.rule.specs.Answer.{Taken}
 use Rattle.rule.specs.Node.{node_keys, node_in_order, all_tell}
 use Rattle.rule.specs.Round.{union}
 use Rattle.rule.specs.Question.{node_question1, question8, question15}
@@ -26,7 +26,7 @@ use Rattle.rule.proofs.NodeLaws.{Ordered, node_in_order_ordered, ordered_node_in
 use Rattle.rule.proofs.CallLaws.{length_node_keys}
 use Rattle.rule.proofs.Union.{union_self, union_comm}
 use Rattle.rule.proofs.Joining.{JoinYes, joined_done, joined_refused, ordered_joined, joined_node_comm, joined_node_self}
-use Rattle.wire.specs.declared.answer.Imaged.{Imaged}
+use Rattle.wire.specs.Answer.{Imaged}
 use Rattle.wire.specs.Number.{byte, Below}
 use Rattle.wire.specs.Image.{image_limit, node_bytes, NodeFits, parse, read_image_questions, read_image}
 use Rattle.wire.proofs.ImageLaws.{image_numbered, read_image_number}

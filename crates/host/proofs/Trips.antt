@@ -22,7 +22,7 @@ use Rattle.rule.specs.Node.{node_keys, pending_of, all_tell}
 use Rattle.rule.specs.Question.{question15}
 use Rattle.rule.proofs.NodeLaws.{Ordered, node_in_order_ordered, ordered_node_in_order, ordered_tells}
 use Rattle.rule.proofs.CallLaws.{ordered_beaten, length_node_keys, length_pending_of}
-use Rattle.wire.specs.declared.answer.Imaged.{Imaged}
+use Rattle.wire.specs.Answer.{Imaged}
 use Rattle.wire.specs.Number.{byte, Below}
 use Rattle.wire.specs.Claim.{key_width, ClaimFits}
 use Rattle.wire.specs.Frame.{head_size, frame_count, frame_claims, frame_bytes, four_of, read_frame_questions, read_frame}

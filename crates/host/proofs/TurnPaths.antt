@@ -11,8 +11,6 @@ use borrow.Author.Tests.{eqb-true, eqb-false, eq-eqb, ne_eqb}
 use lib.Dec.{eqb}
 use lib.ListN.{length, drop, get_or, drop_of_length-le}
 use lib.Seq.{drop-cons}
-use Rattle.keys.specs.Store.{limit}
-use Rattle.keys.proofs.StoreLaws.{length_keys_store_of}
 use Rattle.keys.proofs.Tests.{and_left, and_right, eq_or_ne}
 use Rattle.claims.specs.declared.claim.Claim.{Claim}
 use Rattle.claims.specs.Claim.{no_claim}
@@ -22,17 +20,19 @@ use Rattle.claims.specs.Reply.{ends, hear}
 use Rattle.claims.proofs.QuestionLaws.{Numbered, first_no_yes, first_no_no}
 use Rattle.claims.proofs.ReplyLaws.{hear_fits}
 use Rattle.rule.specs.declared.node.Node.{Node}
-use Rattle.rule.specs.declared.answer.Taken.{Taken}
+use Rattle.rule.specs.Answer.{Taken}
 use Rattle.rule.specs.Node.{node_in_order, node_keys, pending_of}
 use Rattle.rule.specs.Table.{table_with}
 use Rattle.rule.specs.Call.{take_questions, taken}
-use Rattle.rule.proofs.NodeLaws.{Ordered, node_in_order_ordered, ordered_node_in_order, node_keys_node_of, store_node_of}
+use Rattle.rule.proofs.NodeLaws.{Ordered, node_in_order_ordered, ordered_node_in_order, node_keys_node_of}
+use Rattle.rule.proofs.TableLaws.{length_table_with}
 use Rattle.rule.proofs.CallLaws.{take_questions_6, take_questions_yes, taken_done, taken_refused, ordered_taken}
 use Rattle.nodes.specs.Lent.{take_in}
 use Rattle.nodes.proofs.LentLaws.{take_in_taken, ordered_take_in}
 use Rattle.wire.specs.Frame.{all_pass}
 use Rattle.wire.specs.Image.{Shaped}
 use Rattle.host.specs.Taking.{questions6, taken_in_turn, taken_until}
+use Rattle.host.proofs.Fitting.{shaped_node_of}
 
 -- ---- one turn: r is what taking the claim at place i gave
 
@@ -41,6 +41,10 @@ pub record Turn (n : Node) (cs : List Claim) (i : ℕ) (r : Taken) : Type 0 wher
   pub shaped : Shaped n
   pub ordered : node_in_order n ≡ true
   pub next : r ≡ take_in n (get_or cs i no_claim)
+
+pub turn_of : {n : Node} {cs : List Claim} {i : ℕ} {r : Taken} → Shaped n → node_in_order n ≡ true → i < length cs → r ≡ take_in n (get_or cs i no_claim)
+    → Turn n cs i r
+turn_of shaped ordered below next = record { below = below; shaped = shaped; ordered = ordered; next = next }
 
 module _ {n : Node} {cs : List Claim} {i : ℕ} {r : Taken} (t : Turn n cs i r) where
   -- the claim
@@ -64,14 +68,14 @@ module _ {n : Node} {cs : List Claim} {i : ℕ} {r : Taken} (t : Turn n cs i r) 
       subst (λ (x : Taken). node_in_order x.node ≡ true) (sym t.next)
       (ordered_node_in_order (take_in n c).node (ordered_take_in n t.shaped.pending o c t.shaped.store))
 
-  -- the run of keys keeps its places
-  pub turn_long : length r.node.store.keys ≡ limit
-  turn_long =
-      ⊎_elim {C = length r.node.store.keys ≡ limit}
+  -- it keeps its places
+  pub turn_shaped : Shaped r.node
+  turn_shaped =
+      ⊎_elim {C = Shaped r.node}
       (λ (e : first_no (take_questions n c) ≡ 0).
-      rw (turn_taken ∙ taken_done n c e, store_node_of (hear c (node_keys n)) (table_with c (pending_of n)))
-      (length_keys_store_of (hear c (node_keys n)) (hear_fits c (node_keys n) (take_questions_yes n c e).room)))
-      (λ (f : first_no (take_questions n c) ≡ 0 → ⊥). rw (turn_taken ∙ taken_refused n c f) t.shaped.store.keys)
+      subst (λ (x : Taken). Shaped x.node) (sym (turn_taken ∙ taken_done n c e))
+      (shaped_node_of (hear c (node_keys n)) (table_with c (pending_of n)) (hear_fits c (node_keys n) (take_questions_yes n c e).room) (length_table_with c (pending_of n))))
+      (λ (f : first_no (take_questions n c) ≡ 0 → ⊥). subst (λ (x : Taken). Shaped x.node) (sym (turn_taken ∙ taken_refused n c f)) t.shaped)
       (eq_or_ne (first_no (take_questions n c)) 0)
 
 -- none is left

@@ -8,7 +8,7 @@ use mathlib.Core.Path.{◌≡◌, refl, ap, ◌∙◌}
 use lib.ListN.{length, take, drop, get_or}
 use lib.Seq.{drop-drop}
 use Rattle.claims.specs.declared.claim.Claim.{Claim}
-use Rattle.claims.specs.Words.{words_of}
+use Rattle.claims.specs.Words.{claim_width, words_of}
 use Rattle.claims.proofs.WordsLaws.{words_of_from_words}
 use Rattle.rule.specs.Call.{claim_words}
 use Rattle.wire.specs.Run.{Layout, read_run, write_run, Each}
@@ -45,7 +45,7 @@ module _ {A : Type 0} (l : Layout A) where
   get_d_read_run (suc n) zero bs d h = rw mul-zero
   get_d_read_run (suc n) (suc i) bs d h = get_d_read_run n i (drop l.size bs) d (omega arith) ∙ ap l.read (size_on i bs)
 
-  take_read_run : (m n : ℕ) (bs : List ℕ) → n ≤ m → take n (read_run l m bs) ≡ read_run l n bs
+  pub take_read_run : (m n : ℕ) (bs : List ℕ) → n ≤ m → take n (read_run l m bs) ≡ read_run l n bs
   take_read_run zero zero bs h = refl
   take_read_run (suc m) zero bs h = refl
   take_read_run zero (suc n) bs h = absurd (omega arith)
@@ -55,3 +55,13 @@ module _ {A : Type 0} (l : Layout A) where
   read_run_part m zero n bs h = rw mul-zero (take_read_run m n bs (omega arith))
   read_run_part zero (suc i) n bs h = absurd (omega arith)
   read_run_part (suc m) (suc i) n bs h = read_run_part m i n (drop l.size bs) (omega arith) ∙ ap (λ (ws : List ℕ). read_run l n ws) (size_on i bs)
+
+-- the claims of words that others follow
+pub read_run_front : (n : ℕ) (ws rest : List ℕ) → length ws ≡ claim_width * n → read_run in_words n (ws ++ rest) ≡ read_run in_words n ws
+read_run_front zero ws rest h = refl
+read_run_front (suc n) [] rest h = absurd (omega arith)
+read_run_front (suc n) (a ∷ []) rest h = absurd (omega arith)
+read_run_front (suc n) (a ∷ b ∷ []) rest h = absurd (omega arith)
+read_run_front (suc n) (a ∷ b ∷ c ∷ []) rest h = absurd (omega arith)
+read_run_front (suc n) (a ∷ b ∷ c ∷ d ∷ ws) rest h =
+    ap (λ (cs : List Claim). record { lo = a; hi = b; sum = c; cnt = d } ∷ cs) (read_run_front n ws rest (omega arith))

@@ -87,7 +87,7 @@ entering_questions image key = read_image_questions image ++ (question6 (key ∷
 
 -- the node with the key entered into its store
 abbrev pub node_entered : Node → ℕ → Node
-node_entered n key = record { store = (entered n.store key).store; pending = n.pending; count = n.count }
+node_entered n key = record { store = (entered n.store key).store; pending = n.pending }
 
 abbrev pub key_entered : List ℕ → ℕ → ℕ → ℤ
 key_entered image key room = saved (entering_questions image key) (node_entered (node_in image) key) room

@@ -1,12 +1,12 @@
 -- A beat's claims in frames (document 01, "Host calls"): "the claims to a second, four to a frame and the rest in a last one". Then how long the frames of so
 -- many claims are, and the claims in a lent run of words. Assumes nothing.
-use Rattle.std.specs.Prelude.{ℕ, ◌+◌, ◌*◌, List, [], ◌∷◌, ◌++◌}
+use Rattle.std.specs.Prelude.{ℕ, ◌+◌, ◌*◌, ◌/◌, List, [], ◌∷◌, ◌++◌, length}
 use Rattle.claims.specs.declared.claim.Claim.{Claim}
 use Rattle.claims.specs.Words.{claim_width, words_of, from_words}
 use Rattle.rule.specs.Table.{beat_limit}
 use Rattle.wire.specs.Claim.{claim_size}
 use Rattle.wire.specs.Frame.{frame_limit, head_size, frame_bytes}
-use Rattle.wire.specs.Run.{Layout}
+use Rattle.wire.specs.Run.{Layout, read_run}
 use Rattle.text.specs.Groups.{in_groups, group_count}
 
 -- "four to a frame and the rest in a last one"
@@ -35,3 +35,7 @@ frames_limit = frames_length beat_limit
 -- how a claim lies in a lent run of words
 abbrev pub in_words : Layout Claim
 in_words = record { size = claim_width; read = from_words; write = words_of }
+
+-- the claims that some words are
+abbrev pub claims_in : List ℕ → List Claim
+claims_in words = read_run in_words (length words / claim_width) words

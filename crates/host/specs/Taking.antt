@@ -5,7 +5,7 @@ use Rattle.claims.specs.declared.claim.Claim.{Claim}
 use Rattle.claims.specs.Question.{Question, question6}
 use Rattle.claims.specs.Reply.{ends, hear}
 use Rattle.rule.specs.declared.node.Node.{Node}
-use Rattle.rule.specs.declared.answer.Taken.{Taken}
+use Rattle.rule.specs.Answer.{Taken}
 use Rattle.rule.specs.Call.{taken}
 
 -- "In a frame, 6 is put claim by claim": each time of a store that has heard the claims before, and has the middle key of three that one of them brought.

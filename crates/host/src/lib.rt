@@ -5,6 +5,7 @@
 mod enter;
 mod join;
 mod load;
+mod read;
 mod save;
 mod sent;
 mod sign;
@@ -14,17 +15,13 @@ ghost use Rattle.std.specs.Prelude.{◌≡◌, length};
 ghost use Rattle.host.specs.Call.{opening_told, image_counted, image_sheet, image_sheet_out, frame_taken, frame_taken_out, key_entered, key_entered_out};
 ghost use Rattle.host.specs.Call.{images_joined, images_joined_out, image_beaten, image_beaten_out, image_beaten_frames};
 
-use crate::enter::entered_into;
-use crate::join::joined_from;
-use crate::load::load;
-use crate::save::save;
-use crate::sent::{FRAMES, send};
-use crate::sign::{minus, size};
-use crate::turn::taken_from;
-use keys::Store;
+use crate::enter::enter;
+use crate::join::join;
+use crate::read::{count, write_sheet};
+use crate::sent::beat;
+use crate::sign::told;
+use crate::turn::take_frame;
 use opening::opening_cost;
-use sheet::write_sheet_in;
-use wire::Imaged;
 
 // Takes an image and a frame, takes each claim in turn, writes the new image to the front of `out` and returns its length; or minus the number of the
 // first question answered no, and then nothing is written. Asks 14, 1, 10 to 13, 6 claim by claim, and 15.
@@ -32,9 +29,7 @@ pub fn minutefrost_take_frame(image: &[u8], frame: &[u8], out: &mut [u8]) -> i64
     ensures { (result ≡ frame_taken image.now frame.now (length out.old))
         × (out.new ≡ frame_taken_out image.now frame.now out.old) }
 {
-    let mut keys = [0; Store::LIMIT];
-    let taken = taken_from(image, frame, &mut keys);
-    save(&keys, taken, out)
+    told(take_frame(image, frame, out))
 }
 
 // Takes an image and a key, enters the key, writes the new image to the front of `out` and returns its length; or minus the number of the first question
@@ -43,9 +38,7 @@ pub fn minutefrost_enter(image: &[u8], key: u64, out: &mut [u8]) -> i64
     ensures { (result ≡ key_entered image.now key (length out.old))
         × (out.new ≡ key_entered_out image.now key out.old) }
 {
-    let mut keys = [0; Store::LIMIT];
-    let entered = entered_into(image, key, &mut keys);
-    save(&keys, entered, out)
+    told(enter(image, key, out))
 }
 
 // Takes two images, joins their nodes, writes the image of the joined node to the front of `out` and returns its length; or minus the number of the first
@@ -55,21 +48,14 @@ pub fn minutefrost_join(first: &[u8], second: &[u8], out: &mut [u8]) -> i64
     ensures { (result ≡ images_joined first.now second.now (length out.old))
         × (out.new ≡ images_joined_out first.now second.now out.old) }
 {
-    let mut keys = [0; Store::LIMIT];
-    let joined = joined_from(first, second, &mut keys);
-    save(&keys, joined, out)
+    told(join(first, second, out))
 }
 
 // How many keys an image holds; or minus the number of the first question answered no. Asks 14 and 1.
 pub fn minutefrost_count(image: &[u8]) -> i64
     ensures { result ≡ image_counted image.now }
 {
-    let mut keys = [0; Store::LIMIT];
-    let read = load(image, &mut keys);
-    if read.number != 0 {
-        return minus(read.number);
-    }
-    size(read.held)
+    told(count(image))
 }
 
 // Takes an image, writes the wall sheet of the keys that it holds to the front of `out` and returns its length; or minus the number of the first question
@@ -78,29 +64,14 @@ pub fn minutefrost_sheet(image: &[u8], out: &mut [u8]) -> i64
     ensures { (result ≡ image_sheet image.now (length out.old))
         × (out.new ≡ image_sheet_out image.now out.old) }
 {
-    let mut keys = [0; Store::LIMIT];
-    let read = load(image, &mut keys);
-    if read.number != 0 {
-        return minus(read.number);
-    }
-    let held = read.held;
-    let places = &keys[..];
-    let written = write_sheet_in(&places[..held], out);
-    if written.number != 0 {
-        return minus(written.number);
-    }
-    size(written.length)
+    told(write_sheet(image, out))
 }
 
 // The deliveries of a round that fills an empty store with so many keys; or minus the number of the first question answered no. Asks 17.
 pub fn minutefrost_opening_cost(keys: usize) -> i64
     ensures { result ≡ opening_told keys }
 {
-    let cost = opening_cost(keys);
-    if cost.number != 0 {
-        return minus(cost.number);
-    }
-    size(cost.deliveries)
+    told(opening_cost(keys))
 }
 
 // Takes an image, runs a beat, writes the new image to the front of `out` and the claims to the front of `frames`, four to a frame and the rest in a last
@@ -110,17 +81,5 @@ pub fn minutefrost_beat(image: &[u8], out: &mut [u8], frames: &mut [u8]) -> i64
         × (out.new ≡ image_beaten_out image.now out.old (length frames.old))
         × (frames.new ≡ image_beaten_frames image.now (length out.old) frames.old) }
 {
-    let mut keys = [0; Store::LIMIT];
-    let read = load(image, &mut keys);
-    if read.number != 0 {
-        return minus(read.number);
-    }
-    if out.len() < Imaged::LENGTH {
-        return minus(15);
-    }
-    if frames.len() < FRAMES {
-        return minus(15);
-    }
-    let table = read.table;
-    size(send(&keys, read.held, table, read.count, out, frames))
+    told(beat(image, out, frames))
 }

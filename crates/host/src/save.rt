@@ -1,22 +1,21 @@
 // The end of a call that writes one image.
+ghost use Rattle.std.specs.Prelude.{[]};
+ghost use Rattle.rule.specs.Answer.{rest_given};
+ghost use Rattle.nodes.specs.Lent.{node_held};
 ghost use Rattle.host.specs.Known.{Sound, Saved};
 
-use crate::sign::{minus, size};
+use claims::Refusal;
 use rule::Rest;
-use wire::{Imaged, write_image_in};
+use wire::{IMAGE, write_image_in};
 
-// Returns the refusal that is told with a node; otherwise writes the node's image to the front of `out` and returns its length. Asks 15.
-pub(crate) fn save(keys: &[u64], node: Rest, out: &mut [u8]) -> i64
-    requires { Sound keys.now node }
-    ensures { Saved keys.now node out.old out.new result }
+// Writes the image of a node to the front of `out`, and returns its length. Asks 15. Three calls end by it, after one line of their own: a function that took
+// that line as a closure would be no shorter.
+pub(crate) fn save(keys: &[u64], node: Rest, out: &mut [u8]) -> Result<usize, Refusal>
+    requires { Sound keys.now (rest_given node) }
+    ensures { Saved [] (node_held keys.now (rest_given node)) out.old out.new result }
 {
-    if node.number != 0 {
-        return minus(node.number);
+    if out.len() < IMAGE {
+        return Err(Refusal::OutputTooShort);
     }
-    if out.len() < Imaged::LENGTH {
-        return minus(15);
-    }
-    let table = node.table;
-    let written = write_image_in(keys, node.held, table, node.count, out);
-    size(written.length)
+    write_image_in(keys, &node, out)
 }

@@ -1,18 +1,16 @@
-// What a host call returns: a length or a count, or minus the number of a question.
-ghost use Rattle.std.specs.Prelude.{◌≡◌, ◌^◌, ◌<◌, pos};
-ghost use Rattle.host.specs.Call.{minus};
+// What a host call returns to C.
+ghost use Rattle.std.specs.Prelude.{◌≡◌, ◌^◌, ◌<◌, IfOk};
+ghost use Rattle.host.specs.Known.{told};
 
-// Minus the number of a question answered no.
-pub(crate) fn minus(number: u8) -> i64
-    ensures { result ≡ minus number }
-{
-    -(number as i64)
-}
+use claims::Refusal;
 
-// A length or a count. No buffer is so long that a signed number does not tell it.
-pub(crate) fn size(length: usize) -> i64
-    requires { length < 2 ^ 63 }
-    ensures { result ≡ pos length }
+// A length or a count, or minus the number of the question answered no. No buffer is so long that a signed number does not tell it.
+pub(crate) fn told(outcome: Result<usize, Refusal>) -> i64
+    requires { IfOk outcome (λ n. n < 2 ^ 63) }
+    ensures { result ≡ told outcome }
 {
-    length as i64
+    match outcome {
+        Ok(size) => size as i64,
+        Err(refusal) => -(refusal.number() as i64),
+    }
 }

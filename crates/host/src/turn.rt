@@ -1,66 +1,52 @@
 // The claims of a frame, taken in turn.
-ghost use Rattle.std.specs.Prelude.{◌≡◌, take};
+ghost use Rattle.std.specs.Prelude.{◌≡◌};
 ghost use Rattle.keys.specs.Store.{limit, zeros};
-ghost use Rattle.nodes.specs.Lent.{node_with};
-ghost use Rattle.host.specs.Known.{TurnsGiven, Turned, TakenFrom};
+ghost use Rattle.claims.specs.Refusal.{number_told};
+ghost use Rattle.rule.specs.Answer.{rest_given, rest_numbered};
+ghost use Rattle.nodes.specs.Lent.{node_held};
+ghost use Rattle.wire.specs.Answer.{read_by};
+ghost use Rattle.host.specs.Call.{taking_questions, node_after};
+ghost use Rattle.host.specs.Known.{TurnsGiven, Turned, TakenFrom, Saved};
 
 use crate::load::load;
-use claims::Claim;
+use crate::save::save;
+use claims::{Claim, Refusal};
 use keys::Store;
 use nodes::take_in;
-use rule::{Node, Rest};
-use wire::{Framed, read_frame};
+use rule::Rest;
+use wire::read_frame;
 
-// Takes the first n of four claims in turn into a node whose keys are lent, until one is refused, with 6.
+// Takes claims in turn into a node whose keys are lent, until one is refused, with 6.
 fn take_in_turn(
     keys: &mut [u64; Store::LIMIT],
-    held: usize,
-    table: [Claim; Node::TABLE],
-    count: usize,
-    claims: [Claim; Framed::CLAIMS],
-    n: usize,
-) -> Rest
-    requires { TurnsGiven (node_with keys.old held table count) claims n }
-    ensures { Turned (node_with keys.old held table count) (take n claims) keys.new result }
+    node: &mut Rest,
+    claims: &[Claim],
+) -> Result<(), Refusal>
+    requires { TurnsGiven (node_held keys.old (rest_given node.old)) }
+    ensures { Turned (node_held keys.old (rest_given node.old)) claims.now keys.new (rest_numbered (number_told result) node.new) }
 {
-    let mut taken = Rest {
-        number: 0,
-        held,
-        table,
-        count,
-    };
-    let mut i: usize = 0;
-    while i < n {
-        let places = taken.table;
-        let next = take_in(keys, taken.held, places, taken.count, claims[i]);
-        if next.number != 0 {
-            return next;
-        }
-        taken = next;
-        i += 1;
+    for claim in claims {
+        node.held = take_in(keys, node.held, &mut node.pending, *claim)?;
     }
-    taken
+    Ok(())
 }
 
 // The node of an image with the claims of a frame taken, in turn, its keys in a lent run of zeros. Asks 14, 1, 10 to 13, and 6 claim by claim.
-pub(crate) fn taken_from(image: &[u8], frame: &[u8], keys: &mut [u64; Store::LIMIT]) -> Rest
+fn taken_from(image: &[u8], frame: &[u8], keys: &mut [u64; Store::LIMIT]) -> Result<Rest, Refusal>
     requires { keys.old ≡ zeros limit }
-    ensures { TakenFrom image.now frame.now keys.new result }
+    ensures { TakenFrom image.now frame.now keys.new (read_by result) }
 {
-    let read = load(image, keys);
-    if read.number != 0 {
-        return read;
-    }
-    let framed = read_frame(frame);
-    let table = read.table;
-    if framed.number != 0 {
-        return Rest {
-            number: framed.number,
-            held: read.held,
-            table,
-            count: read.count,
-        };
-    }
-    let claims = framed.claims;
-    take_in_turn(keys, read.held, table, read.count, claims, framed.count)
+    let mut node = load(image, keys)?;
+    let frame = read_frame(frame)?;
+    take_in_turn(keys, &mut node, &frame.claims[..frame.count])?;
+    Ok(node)
+}
+
+// Takes the claims of a frame into the node of an image, and writes the new image. Asks 14, 1, 10 to 13, 6 claim by claim, and 15.
+pub(crate) fn take_frame(image: &[u8], frame: &[u8], out: &mut [u8]) -> Result<usize, Refusal>
+    ensures { Saved (taking_questions image.now frame.now) (node_after image.now frame.now) out.old out.new result }
+{
+    let mut keys = [0; Store::LIMIT];
+    let node = taken_from(image, frame, &mut keys)?;
+    save(&keys, node, out)
 }

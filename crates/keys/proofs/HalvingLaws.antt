@@ -1,6 +1,6 @@
--- Halving, by which the last few keys are searched (specs/Lent, `halved`): of one key, of two and of three, and that one of the keys is found.
+-- Halving, by which the last few keys are searched (specs/Lent, `halved`): of one key and of two, and that one of the keys is found.
 -- What halving finds among rising keys is in FindingLaws. Assumes nothing.
-use mathlib.Core.Path.{◌≡◌, refl, sym, ◌∙◌, ap}
+use mathlib.Core.Path.{◌≡◌, refl, ◌∙◌, ap}
 use mathlib.Core.Bool.{Bool, true, false, cond}
 use mathlib.Core.List.{List}
 use Prim.Native.Nat.{ℕ, zero, suc, ◌+◌, ◌-◌, ◌/◌, ◌≤◌, ◌<◌}
@@ -29,12 +29,9 @@ module _ (keys : List ℕ) (key : ℕ) where
       halved_one n (cond (leb (get_or keys (base + size / 2) 0) key) (base + size / 2) base) (size - size / 2) (omega arith)
       ∙ cond_same (leb (get_or keys (base + size / 2) 0) key) (base + size / 2) base (omega arith)
 
-  -- of two keys the second is found where it is at most `key`, and of three the last two are halved from there on
+  -- of two keys the second is found where it is at most `key`
   pub halved_two : (base : ℕ) → halved 2 keys key base 2 ≡ cond (leb (get_or keys (base + 1) 0) key) (base + 1) base
   halved_two base = halved_one 1 (cond (leb (get_or keys (base + 1) 0) key) (base + 1) base) 1 (omega arith)
-
-  pub halved_three : (base : ℕ) → halved 3 keys key base 3 ≡ halved 2 keys key (halved 2 keys key base 2) 2
-  halved_three base = ap (λ (b : ℕ). halved 2 keys key b 2) (sym (halved_two base))
 
 -- what halving finds is one of the keys
 pub halved_lt : (n : ℕ) (keys : List ℕ) (key base size : ℕ) → 0 < size → halved n keys key base size < base + size

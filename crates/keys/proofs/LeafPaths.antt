@@ -1,44 +1,53 @@
--- The leaves of src/leaf.rt. Of the loops `rising`, `all_zero`, `summed` and `resum`, in which what is left of a run computes the answer: how a turn goes on,
--- and what the answer is where it stops. Not here: the loops that put in, by the laws of their definition (PuttingLaws). Assumes nothing.
-use mathlib.Core.Path.{◌≡◌, refl, sym, ap, ◌∙◌}
-use mathlib.Core.Bool.{true, false, ◌&&◌, and-true, and_assoc}
+-- The leaves of src/leaf.rt: what `rising` and `all_zero` are told; and of the loop `resum`, by what is left of the run, how a turn goes on
+-- and what the answer is where it stops. Not here: what puts in, by the laws of its definition (PuttingLaws). Assumes nothing.
+use mathlib.Core.Path.{◌≡◌, refl, sym, ◌∙◌}
+use mathlib.Core.Bool.{Bool, true, false, ◌&&◌, and-true, and-false, and_assoc}
 use mathlib.Core.Logic.{⊎_elim}
-use mathlib.Core.List.{List, [], ◌∷◌}
-use Prim.Native.Nat.{ℕ, zero, suc, ◌+◌, ◌-◌, ◌≤◌, ◌<◌}
+use mathlib.Core.List.{List, [], ◌∷◌, ◌++◌, append_assoc, append-nil}
+use Prim.Native.Nat.{ℕ, zero, suc, ◌+◌, ◌≤◌, ◌<◌}
 use native.Mathlib.Numerals.{add-one}
 use native.Mathlib.Omega.{arith}
-use borrow.Author.Tests.{lt-ltb, le-ltb, eq-eqb, ne_eqb}
+use borrow.Author.Tests.{ne_eqb}
 use lib.Bits.{bit_xor, bit_or, or_zero_l, or_add_and, and_le_r}
-use lib.Dec.{eqb}
-use lib.ListN.{length, take, drop, get_or, set, drop_of_length-le}
-use lib.Seq.{drop-cons}
-use Rattle.keys.specs.Store.{running_from, running, rising, rises_from, all_zero, same_keys}
+use lib.Dec.{ltb, eqb}
+use lib.ListN.{length, take, drop, get_or, set}
+use lib.Seq.{drop-cons, take_all, take-suc-set}
+use borrow.Rule.Slice.PartMut.{put_mid}
+use Rattle.std.proofs.lemmas.List.{drop_all}
+use Rattle.std.specs.List.{AllAdjacentBelow, IsAllAdjacentAnswer, fold}
+use Rattle.keys.specs.Store.{running_from, rising, rises_from, all_zero}
 use Rattle.keys.specs.Place.{put_at}
-use Rattle.keys.specs.Lent.{sum_before}
 use Rattle.keys.proofs.Tests.{eq_or_ne}
-use Rattle.keys.proofs.PlaceLaws.{put_at_nil, put_at_cons}
 
--- `rising`: the keys rise if those from i on rise from above the last one
+-- `rising`: each key was answered to be below the next, or one was not
 
-pub rising_none : (l : List ℕ) → length l ≡ 0 → true ≡ rising l
-rising_none [] h = refl
-rising_none (k ∷ ks) h = absurd (omega arith)
+rises_each : (k : ℕ) (l : List ℕ) → AllAdjacentBelow (λ i j. true ≡ ltb i j) (k ∷ l) (length (k ∷ l)) → true ≡ rises_from k l
+rises_each k [] each = refl
+rises_each k (j ∷ js) each =
+    let less : ltb k j ≡ true = sym (each 0 0 (omega arith)) in
+    rw less (rises_each j js later)
+  where
+    later : AllAdjacentBelow (λ i j. true ≡ ltb i j) (j ∷ js) (length (j ∷ js))
+    later i d h =
+        let next : suc i + 1 ≡ suc (i + 1) = omega arith in
+        rw next at (each (suc i) d (omega arith))
 
-pub rising_first : (l : List ℕ) → 0 < length l → rising l ≡ rises_from (get_or l 0 0) (drop 1 l)
-rising_first [] h = absurd (omega arith)
-rising_first (k ∷ ks) h = refl
+rises_not : (k : ℕ) (l : List ℕ) (i : ℕ) → i + 1 < length (k ∷ l) → ((d : ℕ) → false ≡ ltb (get_or (k ∷ l) i d) (get_or (k ∷ l) (i + 1) d))
+    → false ≡ rises_from k l
+rises_not k [] i h more = absurd (omega arith)
+rises_not k (j ∷ js) zero h more = rw (← more 0)
+rises_not k (j ∷ js) (suc i) h more =
+    let next : suc i + 1 ≡ suc (i + 1) = omega arith in
+    let later : false ≡ rises_from j js = rises_not j js i (omega arith) (λ d. rw next at (more d)) in
+    rw (← later, and-false)
 
-module _ (l : List ℕ) (k i : ℕ) (e : rising l ≡ rises_from k (drop i l)) where
-  pub rises_on : i < length l → k < get_or l i 0 → rising l ≡ rises_from (get_or l i 0) (drop (i + 1) l)
-  rises_on h less = e ∙ rw (add-one, drop-cons l i 0, lt-ltb k (get_or l i 0))
+pub rising_told : (l : List ℕ) (told : Bool) → IsAllAdjacentAnswer (λ i j b. b ≡ ltb i j) l told → told ≡ rising l
+rising_told [] true each = refl
+rising_told (k ∷ ks) true each = rises_each k ks each
+rising_told [] false (i, h, more) = absurd (omega arith)
+rising_told (k ∷ ks) false (i, h, more) = rises_not k ks i h more
 
-  pub rises_not : i < length l → get_or l i 0 ≤ k → false ≡ rising l
-  rises_not h less = rw (e, drop-cons l i 0, le-ltb k (get_or l i 0))
-
-  pub rises_all : length l ≤ i → true ≡ rising l
-  rises_all h = rw (e, drop_of_length-le l)
-
--- `all_zero`: every place is 0 if the bits so far are none and those from i on are 0
+-- `all_zero`: every place is 0 if all together have no bits
 
 -- two numbers together have no bits if neither has
 or_none : (a b : ℕ) → eqb (bit_or a b) 0 ≡ (eqb a 0 && eqb b 0)
@@ -47,51 +56,31 @@ or_none a b = ⊎_elim {C = eqb (bit_or a b) 0 ≡ (eqb a 0 && eqb b 0)}
     (λ (f : a ≡ 0 → ⊥). rw (ne_eqb a 0 f, ne_eqb (bit_or a b) 0 (λ (z : bit_or a b ≡ 0). f (omega (arith, or_add_and a b, and_le_r a b)))))
     (eq_or_ne a 0)
 
-module _ (l : List ℕ) (bits i : ℕ) (e : all_zero l ≡ (eqb bits 0 && all_zero (drop i l))) where
-  pub zero_on : i < length l → all_zero l ≡ (eqb (bit_or bits (get_or l i 0)) 0 && all_zero (drop (i + 1) l))
-  zero_on h = e ∙ rw (add-one, drop-cons l i 0, or_none bits (get_or l i 0), and_assoc (eqb bits 0) (eqb (get_or l i 0) 0) (all_zero (drop (suc i) l)))
+or_all : (bits : ℕ) (l : List ℕ) → eqb (fold bit_or bits l) 0 ≡ (eqb bits 0 && all_zero l)
+or_all bits [] = sym (and-true (eqb bits 0))
+or_all bits (x ∷ xs) = or_all (bit_or bits x) xs ∙ rw (or_none bits x) (and_assoc (eqb bits 0) (eqb x 0) (all_zero xs))
 
-  pub zero_all : length l ≤ i → eqb bits 0 ≡ all_zero l
-  zero_all h = rw (e, drop_of_length-le l, and-true)
+pub zero_all : (l : List ℕ) (bits : ℕ) → bits ≡ fold bit_or 0 l → eqb bits 0 ≡ all_zero l
+zero_all l bits e = rw e (or_all 0 l)
 
--- `summed`: these are the sums of the keys l if those from i on follow from the sum so far
+-- `resum`: the sums passed, and those that are left to be worked out, after the sum so far
 
-module _ (sums l : List ℕ) (sum i : ℕ) (many : length sums ≡ length l) (e : same_keys sums (running l) ≡ same_keys (drop i sums) (running_from sum (drop i l))) where
-  pub summed_on : i < length l → get_or sums i 0 ≡ bit_xor sum (get_or l i 0)
-      → same_keys sums (running l) ≡ same_keys (drop (i + 1) sums) (running_from (bit_xor sum (get_or l i 0)) (drop (i + 1) l))
-  summed_on h same = e ∙ rw (add-one, drop-cons sums i 0 (omega arith), drop-cons l i 0 h, eq-eqb (get_or sums i 0) (bit_xor sum (get_or l i 0)) same)
-
-  pub summed_not : i < length l → (get_or sums i 0 ≡ bit_xor sum (get_or l i 0) → ⊥) → false ≡ same_keys sums (running l)
-  summed_not h other = rw (e, drop-cons sums i 0 (omega arith), drop-cons l i 0 h, ne_eqb (get_or sums i 0) (bit_xor sum (get_or l i 0)) other)
-
-  pub summed_all : length l ≤ i → true ≡ same_keys sums (running l)
-  summed_all h =
-      let few : length sums ≤ i = omega arith in
-      rw (e, drop_of_length-le l, drop_of_length-le sums few)
-
--- `sum_before`
-
-pub before_some : (sums : List ℕ) (at : ℕ) → (at ≡ 0 → ⊥) → get_or sums (at - 1) 0 ≡ sum_before sums at
-before_some sums zero f = absurd (f refl)
-before_some sums (suc i) f = let e : suc i - 1 ≡ i = omega arith in ap (λ (n : ℕ). get_or sums n 0) e
-
--- `resum`: the sums that are left to be worked out, after the sum so far
-
-module _ (keys sums : List ℕ) (count sum i : ℕ) where
-  -- the sums once those from i on are worked out
+module _ (keys sums : List ℕ) (sum i : ℕ) where
   abbrev pub resum_from : List ℕ
-  resum_from = put_at sums i (running_from sum (take (count - i) (drop i keys)))
+  resum_from = take i sums ++ running_from sum (drop i keys)
 
-  pub resum_end : (all : List ℕ) → resum_from ≡ all → count ≤ i → sums ≡ all
-  resum_end all e h = let none : count - i ≡ 0 = omega arith in sym (put_at_nil sums i) ∙ (rw none at e)
+  pub resum_end : (all : List ℕ) → resum_from ≡ all → length keys ≡ length sums → length sums ≤ i → sums ≡ all
+  resum_end all e same h = rw (take_all i sums h, drop_all i keys (omega arith), append-nil sums) at e
 
-pub resum_on : (keys sums : List ℕ) (count sum i : ℕ) (all : List ℕ) → resum_from keys sums count sum i ≡ all → i < count → count ≤ length keys → count ≤ length sums
-    → resum_from keys (set sums i (bit_xor sum (get_or keys i 0))) count (bit_xor sum (get_or keys i 0)) (i + 1) ≡ all
-resum_on keys sums count sum i all e h g f =
-    let one : count - i ≡ suc (count - (i + 1)) = omega arith in
-    let inside : i < length keys = omega arith in
-    let place : i < length sums = omega arith in
+pub resum_on : (keys sums : List ℕ) (sum i : ℕ) (all : List ℕ) → resum_from keys sums sum i ≡ all → length keys ≡ length sums → i < length sums
+    → resum_from keys (set sums i (bit_xor sum (get_or keys i 0))) (bit_xor sum (get_or keys i 0)) (i + 1) ≡ all
+resum_on keys sums sum i all e same h =
     let key : ℕ = get_or keys i 0 in
-    ap (λ (n : ℕ). put_at (set sums i (bit_xor sum key)) (i + 1) (running_from (bit_xor sum key) (take (count - (i + 1)) (drop n keys)))) (add-one i)
-    ∙ (put_at_cons sums i (bit_xor sum key) (running_from (bit_xor sum key) (take (count - (i + 1)) (drop (suc i) keys))) place
-    ∙ (rw (one, drop-cons keys i 0 inside) at e))
+    let inside : i < length keys = omega arith in
+    rw (add-one i, take-suc-set sums i (bit_xor sum key) h, append_assoc (take i sums))
+    (rw (drop-cons keys i 0 inside) at e)
+
+-- the part that was written, put back
+pub resum_part : (s : List ℕ) (at n : ℕ) (xs : List ℕ) → n ≡ length xs → put_mid at n s xs ≡ put_at s at xs
+unfolding put_at
+resum_part s at n xs e = rw e

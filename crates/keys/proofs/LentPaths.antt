@@ -1,22 +1,19 @@
--- The calls on a lent run (src/lent.rt): one law for each way that the code goes, over the definitions of specs/Lent. What these mean where the run is
--- a store in order is in LentLaws. Assumes nothing.
+-- The calls on a lent run (src/lent.rt): a law for each way that the code goes, over the definitions of specs/Lent. What these mean where the run is a store
+-- in order is in LentLaws. Assumes nothing.
 use mathlib.Core.Path.{◌≡◌, refl, sym, ◌∙◌, ap}
 use mathlib.Core.Bool.{Bool, true, false, cond, not, ◌&&◌, and-false}
 use mathlib.Core.List.{List, []}
 use Prim.Native.Nat.{ℕ, ◌+◌, ◌-◌, ◌≤◌, ◌<◌}
-use native.Mathlib.Nat.{add-zero}
 use native.Mathlib.Omega.{arith}
 use borrow.Author.Tests.{lt-ltb, le-ltb, le-leb, lt-leb, eq-eqb, ne_eqb, not-true, not-false}
-use lib.Dec.{leb, eqb}
+use lib.Dec.{leb}
 use lib.ListN.{length, take, drop, get_or, length-take}
 use lib.Seq.{length-take-le}
-use Rattle.keys.specs.declared.lent.Added.{Added}
 use Rattle.keys.specs.declared.lent.Place.{Place}
-use Rattle.keys.specs.declared.store.Store.{Store}
 use Rattle.keys.specs.Store.{limit, running_from, running, rising, all_zero, same_keys, sums_of}
 use Rattle.keys.specs.Place.{put_at}
-use Rattle.keys.specs.Lent.{ordered_in, summed_in, sum_before, resummed, renewed_from, quartered, place_at, place_in, inserted_at, lacking, put_in, put_two}
-use Rattle.keys.specs.Lent.{store_with, Grown, grown_with, grown, no_room, add_two, add_in, add_both_in}
+use Rattle.keys.specs.Lent.{ordered_in, summed_in, sum_before, resummed, quartered, place_at, place_in, lacking, put_in}
+use Rattle.keys.specs.Lent.{store_with, Grown, grown, unfit, add_two, add_in, add_both_in}
 use Rattle.keys.proofs.PlaceLaws.{slice_rest, put_at_nil}
 use Rattle.keys.proofs.StoreLaws.{same_keys_fewer, length_running}
 use Rattle.keys.proofs.QuarteringLaws.{quartered_lt}
@@ -116,21 +113,6 @@ module _ (keys sums : List ℕ) (first count : ℕ) where
       rw (le-leb first count rise, le-leb count (length keys) high, le-leb count limit few)
       (done ∙ ap (λ (x : ℕ). put_at sums first (running_from x (take (count - first) (drop first keys)))) e)
 
--- `Store::renewed`
-
-pub renewed_sums : (s : Store) (first : ℕ) (sums : List ℕ) → sums ≡ resummed s.keys s.sums first s.count
-    → record { keys = s.keys; sums = sums; count = s.count } ≡ renewed_from first s
-renewed_sums s first sums e = λ i. record { keys = s.keys; sums = e i; count = s.count }
-
--- `place_at`
-
-module _ (at found key : ℕ) where
-  pub place_after : found < key → record { at = at + 1; held = false } ≡ place_at at found key
-  place_after h = rw (lt-ltb found key h)
-
-  pub place_here : key ≤ found → record { at = at; held = eqb found key } ≡ place_at at found key
-  place_here h = rw (le-ltb found key h)
-
 -- `place_in`, `places_in`
 
 abbrev pub nowhere : Place
@@ -157,73 +139,21 @@ module _ (keys : List ℕ) (count key : ℕ) where
 pub place_le : (keys : List ℕ) (count key : ℕ) (p : Place) → p ≡ place_in keys count key → p.at ≤ count
 place_le keys count key p found = rw found (place_in_le keys count key)
 
--- `put_in`
-
-module _ (p : Place) (count key : ℕ) (keys : List ℕ) where
-  pub put_in_held : not p.held ≡ false → keys ≡ put_in p count key keys
-  put_in_held e = rw (not-false p.held e)
-
-  pub put_in_missing : not p.held ≡ true → (after : List ℕ) → after ≡ inserted_at p.at count key keys → after ≡ put_in p count key keys
-  put_in_missing e after put = rw (not-true p.held e) put
-
--- a missing key is put in below the limit
-pub put_in_fits : (p : Place) (count : ℕ) → not p.held ≡ true → count + lacking p ≤ limit → count < limit
-put_in_fits p count e h = let f : count + 1 ≤ limit = rw (not-true p.held e) at h in omega arith
-
 -- `add_in`: the key at its place p, `more` keys missing
 
 module _ (keys : List ℕ) (count key : ℕ) (p : Place) (found : p ≡ place_in keys count key) (more : ℕ) (lacks : more ≡ lacking p) where
-  pub add_full : (r : Added) → r ≡ no_room count → limit - more < count → grown_with keys r ≡ add_in (store_with keys count) key
+  pub add_full : limit - more < count → unfit (store_with keys count) ≡ add_in (store_with keys count) key
   unfolding add_in
-  add_full r told h =
+  add_full h =
       let full : leb (count + lacking p) limit ≡ false = lt-leb (count + lacking p) limit (omega (arith, lacking_le p)) in
-      rw (← found, full) (ap (grown_with keys) told)
+      rw (← found, full)
 
   pub add_room : count ≤ limit - more → (after : List ℕ) → after ≡ put_in p count key keys
-      → grown_with after (record { fits = true; count = count + more; first = p.at; last = p.at }) ≡ add_in (store_with keys count) key
+      → grown (store_with after (count + more)) p.at p.at ≡ add_in (store_with keys count) key
   unfolding add_in
   add_room h after put =
       let fits : leb (count + lacking p) limit ≡ true = le-leb (count + lacking p) limit (omega (arith, lacking_le p)) in
       rw (← found, fits) (λ i. grown (store_with (put i) (count + lacks i)) p.at p.at)
-
--- `put_two`: the lesser key at p and the greater one at q
-
-module _ (p q : Place) (count lo hi : ℕ) (keys after : List ℕ) where
-  pub two_lower_held : p.held ≡ true → after ≡ put_in q count hi keys → after ≡ put_two p q count lo hi keys
-  two_lower_held e put = rw (e, add-zero q.at, add-zero count) put
-
-  pub two_upper_held : p.held ≡ false → q.held ≡ true → after ≡ put_in p count lo keys → after ≡ put_two p q count lo hi keys
-  two_upper_held e f put = rw f put
-
-  pub two_missing : p.held ≡ false → q.held ≡ false → after ≡ inserted_at (q.at + 1) (count + 1) hi (inserted_at p.at count lo keys)
-      → after ≡ put_two p q count lo hi keys
-  two_missing e f put = rw (e, f) put
-
--- two missing keys are put in below the limit
-pub two_fits : (p q : Place) (count : ℕ) → p.held ≡ false → q.held ≡ false → count + (lacking p + lacking q) ≤ limit → count + 1 < limit
-two_fits p q count e f h = let g : count + (1 + 1) ≤ limit = rw (e, f) at h in omega arith
-
--- `add_two`: the lesser key at p and the greater one at q
-
-module _ (p q : Place) (keys : List ℕ) (count lo hi : ℕ) where
-  pub two_fall : (r : Added) → r ≡ no_room count → q.at < p.at → grown_with keys r ≡ add_two p q lo hi (store_with keys count)
-  two_fall r told h = rw (lt-leb p.at q.at h) (ap (grown_with keys) told)
-
-  module _ (below above : ℕ) (lacks-p : below ≡ lacking p) (lacks-q : above ≡ lacking q) where
-    pub two_full : (r : Added) → r ≡ no_room count → limit - (below + above) < count → grown_with keys r ≡ add_two p q lo hi (store_with keys count)
-    two_full r told h =
-        let full : leb (count + (lacking p + lacking q)) limit ≡ false =
-        lt-leb (count + (lacking p + lacking q)) limit (omega (arith, lacking_le p, lacking_le q)) in
-        rw (full, and-false) (ap (grown_with keys) told)
-
-    pub two_room : p.at ≤ q.at → count ≤ limit - (below + above) → (after : List ℕ) → after ≡ put_two p q count lo hi keys
-        → grown_with after (record { fits = true; count = count + below + above; first = p.at; last = q.at + below })
-        ≡ add_two p q lo hi (store_with keys count)
-    two_room rise h after put =
-        let fits : leb (count + (lacking p + lacking q)) limit ≡ true =
-        le-leb (count + (lacking p + lacking q)) limit (omega (arith, lacking_le p, lacking_le q)) in
-        rw (le-leb p.at q.at rise, fits)
-        (λ i. grown (store_with (put i) (count + lacks-p i + lacks-q i)) p.at (q.at + lacks-p i))
 
 -- `add_both_in`
 

@@ -1,5 +1,5 @@
--- The laws of the definitions of specs/. A file uses only those named before it. `..Laws` say what definitions mean, `..Paths` have one law for each way
--- that the code of a file of src/ goes.
+-- The laws of the definitions of specs/. A file uses only those named before it. `..Laws` say what definitions mean, `..Paths` have a law for each way
+-- that the code of a file of src/ goes, unless the check finds it alone.
 --   Tests           conjunctions, the cases of two numbers
 --   PlaceLaws       what a lent run holds once something is written to it (specs/Place)
 --   Rising          rising lists of keys, by their members

@@ -1,15 +1,16 @@
--- Putting elements in at a place (specs/Lent, `inserted_at`), over the type of the elements: the loop that moves those above it up, from the last one down.
--- In order: the run while it moves (`Moved`), by any number of places; one element put in; two put in by one pass. Assumes nothing.
-use mathlib.Core.Path.{◌≡◌, refl, sym, ◌∙◌, ap, ap₂}
+-- Putting elements in at a place (specs/Lent, `inserted_at`), over the type of the elements: those from there on move up first, all at once.
+-- In order: the run once they have moved (`Moved`), by any number of places; one element put in; two put in after one move. Assumes nothing.
+use mathlib.Core.Path.{◌≡◌, sym, ◌∙◌, ap, ap₂}
 use mathlib.Core.List.{List, ◌∷◌, ◌++◌, append_assoc}
-use Prim.Native.Nat.{ℕ, zero, suc, ◌+◌, ◌-◌, ◌≤◌, ◌<◌}
+use Prim.Native.Nat.{ℕ, suc, ◌+◌, ◌-◌, ◌≤◌, ◌<◌}
 use native.Mathlib.Omega.{arith}
 use lib.ListN.{length, take, drop, get_or, set, length-append, length-take, length-drop, length-set, take-append-drop}
-use lib.Seq.{set_split, get_or-set_same, get_or-take, drop-cons, take-take, take-add, drop-drop, take-set-le, drop-set-lt, length-take-le, split_at}
-use lib.Seq.{take_at, drop_at, drop-append-add}
+use lib.Seq.{set_split, get_or-set_same, drop-cons, take-take, take-add, drop-drop, take-set-le, drop-set-lt, length-take-le, split_at}
+use lib.Seq.{take_at, drop_at, drop-append-add, take-append-le, length-paste}
+use Rattle.std.specs.List.{copy_within}
 use Rattle.keys.specs.Lent.{inserted_at}
 
--- ---- the run while it moves
+-- ---- the run once they have moved
 
 -- The run once the elements from i to the count have moved up by m places: those below i are the old ones; from i + m on stand those from i to the count,
 -- and then what stood past the places that they moved to.
@@ -18,48 +19,24 @@ pub record Moved {A : Type 0} (m : ℕ) (old run : List A) (count i : ℕ) : Typ
   pub below : take i run ≡ take i old
   pub above : drop (i + m) run ≡ take (count - i) (drop i old) ++ drop (count + m) old
 
--- before the first turn
-pub moved_none : {A : Type 0} (m : ℕ) (old : List A) (count : ℕ) → Moved m old old count count
-moved_none m old count = let none : count - count ≡ 0 = omega arith in record { long = refl; below = refl; above = rw none }
-
-module _ {A : Type 0} (d : A) (m : ℕ) (old run : List A) (count j : ℕ) (low : suc j ≤ count) (fits : count + m ≤ length old)
-    (so_far : Moved m old run count (suc j)) where
-  -- the element below the place is still the old one
-  moved_below : get_or run j d ≡ get_or old j d
-  moved_below =
-      sym (get_or-take (suc j) run j d (omega arith)) ∙ (ap (λ (l : List A). get_or l j d) so_far.below ∙ get_or-take (suc j) old j d (omega arith))
-
-  moved_suc : Moved m old (set run (j + m) (get_or run j d)) count j
-  moved_suc =
-      let v = get_or old j d in
-      let inside : j + m < length run = omega (arith, so_far.long) in
-      let moved : take (count - j) (drop j old) ≡ v ∷ take (count - suc j) (drop (suc j) old) =
-      ap (λ (l : List A). take (count - j) l) (drop-cons old j d (omega arith))
-      ∙ ap (λ (n : ℕ). take n (v ∷ drop (suc j) old)) (let e : count - j ≡ suc (count - suc j) = omega arith in e) in
-      let there : j + m < length (set run (j + m) (get_or run j d)) = rw length-set inside in
-      let next : suc (j + m) ≡ suc j + m = omega arith in
-      record {
-        long = length-set run (j + m) (get_or run j d) ∙ so_far.long;
-        below =
-            take-set-le j run (j + m) (get_or run j d) (omega arith)
-            ∙ (sym (take-take j (suc j) run (omega arith))
-            ∙ (ap (λ (l : List A). take j l) so_far.below ∙ take-take j (suc j) old (omega arith)));
-        above =
-            drop-cons (set run (j + m) (get_or run j d)) (j + m) d there
-            ∙ (ap₂ (λ (x : A) (l : List A). x ∷ l)
-            (get_or-set_same run (j + m) (get_or run j d) d inside ∙ moved_below)
-            (drop-set-lt (suc (j + m)) run (j + m) (get_or run j d) (omega arith) ∙ (ap (λ (n : ℕ). drop n run) next ∙ so_far.above))
-            ∙ ap (λ (l : List A). l ++ drop (count + m) old) (sym moved));
-      }
-
--- a turn of the loop, which sets the place k
-pub moved_down : {A : Type 0} (d : A) (m : ℕ) (old run : List A) (count i k : ℕ) → k + 1 ≡ i + m → 0 < i → i ≤ count → count + m ≤ length old
-    → Moved m old run count i → Moved m old (set run k (get_or run (i - 1) d)) count (i - 1)
-moved_down d m old run count zero k e h g f so_far = absurd (omega arith)
-moved_down d m old run count (suc j) k e h g f so_far =
-    let below : suc j - 1 ≡ j = omega arith in
-    let place : k ≡ j + m = omega arith in
-    rw (below, place) (moved_suc d m old run count j g f so_far)
+pub moved_within : {A : Type 0} (m : ℕ) (old : List A) (count i : ℕ) → i ≤ count → count + m ≤ length old
+    → Moved m old (copy_within old i count (i + m)) count i
+moved_within m old count i h fits =
+    let many : count - i ≤ length (drop i old) = rw length-drop (omega arith) in
+    let place : i + m ≤ length old = omega arith in
+    let past : i + m + (count - i) ≡ count + m = omega arith in
+    let head : length (take (i + m) old) ≡ i + m = length-take-le (i + m) old place in
+    record {
+      long = length-paste old (i + m) (drop i old) (count - i) (omega arith) many;
+      below =
+          ap (take i) (append_assoc (take (i + m) old) (take (count - i) (drop i old)) (drop (i + m + (count - i)) old))
+          ∙ (take-append-le i (take (i + m) old) (take (count - i) (drop i old) ++ drop (i + m + (count - i)) old) (omega (arith, head))
+          ∙ take-take i (i + m) old (omega arith));
+      above =
+          ap (drop (i + m)) (append_assoc (take (i + m) old) (take (count - i) (drop i old)) (drop (i + m + (count - i)) old))
+          ∙ (drop_at (take (i + m) old) (take (count - i) (drop i old) ++ drop (i + m + (count - i)) old) (i + m) head
+          ∙ ap (λ (n : ℕ). take (count - i) (drop i old) ++ drop n old) past);
+    }
 
 -- ---- one element put in
 
@@ -69,7 +46,6 @@ pub length_inserted_at : {A : Type 0} (at count : ℕ) (x : A) (run : List A) �
 unfolding inserted_at
 length_inserted_at at count x run h g = simp (length-append, length-take, length-drop) (omega arith)
 
--- after the last turn
 pub moved_put : {A : Type 0} (old run : List A) (count at : ℕ) (x : A) → at ≤ count → count < length old → Moved 1 old run count at
     → set run at x ≡ inserted_at at count x old
 unfolding inserted_at
@@ -128,7 +104,7 @@ module _ {A : Type 0} (d : A) (old run : List A) (lower upper count : ℕ) (x y 
   front : take upper old ≡ a ++ b
   front = let s : upper ≡ lower + (upper - lower) = omega arith in ap (λ (n : ℕ). take n old) s ∙ take-add lower (upper - lower) old
 
-  -- what the pass leaves, once y is set: the gap for x to move into is whatever stood there
+  -- what the move leaves, once y is set: the gap for x to move into is whatever stood there
   gap : set run (upper + 1) y ≡ a ++ (b ++ (get_or (set run (upper + 1) y) upper d ∷ (y ∷ (c ++ rest))))
   gap =
       let s = set run (upper + 1) y in
@@ -167,7 +143,7 @@ module _ {A : Type 0} (d : A) (old run : List A) (lower upper count : ℕ) (x y 
       ∙ (ap₂ (λ (l r : List A). l ++ r) front back
       ∙ (append_assoc a b (c ++ (e ∷ (f ∷ rest))) ∙ ap (λ (l : List A). a ++ l) (sym (append_assoc b c (e ∷ (f ∷ rest))))))
 
-  -- x put in below what the pass left is x put in and then y
+  -- x put in below what the move left is x put in and then y
   pub moved_both : inserted_at lower upper x (set run (upper + 1) y) ≡ inserted_at (upper + 1) (count + 1) y (inserted_at lower count x old)
   moved_both =
       let both : lower + length (b ++ c) ≡ count = rw length-append (omega (arith, length_b, length_c)) in

@@ -1,9 +1,10 @@
 -- The calls on a lent run of keys, for any content of the run: what the loops of the crates above use, so that they neither copy a store nor put
 -- question 1 again at each step. They are given a run of keys and a count, and no store: question 1 is not theirs, and they are no rule of document 01.
 -- What they mean where the run is a store in order is said by laws (proofs/LentLaws), by the definitions of Store. Assumes nothing.
-use Rattle.std.specs.Prelude.{ℕ, zero, suc, ◌+◌, ◌-◌, ◌*◌, ◌/◌, Bool, true, false, cond, ◌&&◌, List, ◌∷◌, ◌++◌, ltb, leb, eqb, length, take, drop, get_or}
+use Rattle.std.specs.Prelude.{ℕ, zero, suc, ◌+◌, ◌-◌, ◌*◌, ◌/◌, Bool, true, false, cond, ◌&&◌, List, ◌∷◌, ◌++◌, ltb, leb, eqb, length, take, drop, get_or, Option, Some, None}
 use Rattle.keys.specs.declared.lent.Place.{Place}
 use Rattle.keys.specs.declared.lent.Added.{Added}
+use Rattle.keys.specs.declared.lent.LentStore.{LentStore}
 use Rattle.keys.specs.declared.store.Store.{Store}
 use Rattle.keys.specs.Store.{limit, zeros, running_from, running, rising, all_zero, sums_of}
 use Rattle.keys.specs.Place.{put_at}
@@ -86,6 +87,10 @@ resummed keys sums first count =
 abbrev pub store_by : List ℕ → List ℕ → ℕ → Store
 store_by keys sums count = record { keys = keys; sums = sums; count = count }
 
+-- the store whose parts are lent
+abbrev pub store_lent : LentStore → Store
+store_lent s = store_by s.keys.now s.sums.now s.count
+
 -- a store with its sums from a place on worked out anew
 abbrev pub renewed_from : ℕ → Store → Store
 renewed_from first s = store_by s.keys (resummed s.keys s.sums first s.count) s.count
@@ -116,10 +121,6 @@ pub record Grown : Type 0 where
   pub first : ℕ
   pub last : ℕ
 
--- that, by the run as it is then and what the call returns
-abbrev pub grown_with : List ℕ → Added → Grown
-grown_with keys a = record { fits = a.fits; store = store_with keys a.count; first = a.first; last = a.last }
-
 abbrev pub grown : Store → ℕ → ℕ → Grown
 grown s first last = record { fits = true; store = s; first = first; last = last }
 
@@ -127,9 +128,10 @@ grown s first last = record { fits = true; store = s; first = first; last = last
 abbrev pub unfit : Store → Grown
 unfit s = record { fits = false; store = s; first = 0; last = 0 }
 
--- what the call returns then
-abbrev pub no_room : ℕ → Added
-no_room count = record { fits = false; count = count; first = 0; last = 0 }
+-- that, by the run as it is then, the count before and what the call returns
+abbrev pub grown_with : List ℕ → ℕ → Option Added → Grown
+grown_with keys count (Some a) = record { fits = true; store = store_with keys a.count; first = a.first; last = a.last }
+grown_with keys count None = unfit (store_with keys count)
 
 -- is there room for m keys more?
 abbrev pub room : ℕ → ℕ → Bool

@@ -1,14 +1,15 @@
 // The calls on a lent run of keys, for the crates above: no store is copied and question 1 is not put again.
-// Each is total, and says by a definition of specs/Lent what it does to any content.
+// Each is total, and says by a definition of specs/Lent what it does to any content: so a count stands beside a run, which may have fewer places.
 ghost use Rattle.std.specs.Prelude.{◌≡◌, ◌+◌, ◌≤◌, ◌<◌, length, get_or};
 ghost use Rattle.keys.specs.Store.{limit};
-ghost use Rattle.keys.specs.Lent.{ordered_in, summed_in, resummed, place_at, place_in, lacking, put_in, put_two, store_with, grown_with, no_room, add_two, add_in, add_both_in};
+ghost use Rattle.keys.specs.Lent.{ordered_in, summed_in, resummed, place_at, place_in};
+ghost use Rattle.keys.specs.Lent.{lacking, put_in, put_two, store_with, grown_with, add_two, add_in, add_both_in};
 
 use crate::leaf::{all_zero, put, put_both, resum, rising, sum_before, summed};
-use crate::search::{NEAR, both_quartered, far_both, quartered};
+use crate::search::{NEAR, both_quartered, far, quartered};
 use crate::store::Store;
 
-// Where a key stands, or would stand.
+// Where a key stands, or would stand. The position counts whether or not the key is held: as an Option or a Result it would be taken apart at each use.
 #[derive(Clone, Copy)]
 pub struct Place {
     pub at: usize,
@@ -20,22 +21,31 @@ impl Place {
     const NONE: Place = Place { at: 0, held: false };
 }
 
-// The places of two keys in one run.
+// What is told of two keys: of the lesser one, and of the greater one.
 #[derive(Clone, Copy)]
-pub struct Places {
-    pub lower: Place,
-    pub upper: Place,
+pub struct Both<T> {
+    pub lower: T,
+    pub upper: T,
 }
 
-// Keys added: the count then, and where the lesser and the greater one stand; or that they do not fit, and the count as it was.
+// Keys added: the count then, and where the lesser and the greater one stand.
 #[derive(Clone, Copy)]
 pub struct Added {
-    pub fits: bool,
     pub count: usize,
     pub first: usize,
     pub last: usize,
 }
 
+// A store whose parts are lent. Of keys and sums all places are, since question 1 asks of those past the count too.
+#[derive(Clone, Copy)]
+pub struct LentStore<'a> {
+    pub keys: &'a [u64],
+    pub sums: &'a [u64],
+    pub count: usize,
+}
+
+// Whether the run, with its count, is that of a store in order. One test after the other, here and below: where `||` joins them, a proof has to take apart
+// how each join was reached.
 pub fn ordered_in(keys: &[u64], count: usize) -> bool
     ensures { result ≡ ordered_in keys.now count }
 {
@@ -52,9 +62,10 @@ pub fn ordered_in(keys: &[u64], count: usize) -> bool
 }
 
 // Question 1 of a store, whose keys and sums are lent.
-pub fn summed_in<'a>(keys: &'a [u64], sums: &'a [u64], count: usize) -> bool
-    ensures { result ≡ summed_in keys.now sums.now count }
+pub fn summed_in(store: LentStore) -> bool
+    ensures { result ≡ summed_in store.entry.keys.now store.entry.sums.now store.entry.count }
 {
+    let LentStore { keys, sums, count } = store;
     if !ordered_in(keys, count) {
         return false;
     }
@@ -104,57 +115,46 @@ fn place_at(keys: &[u64], at: usize, key: u64) -> Place
     }
 }
 
-// The places of two keys in any run, also where nothing is searched and where there are more keys than 16-bit positions are enough for.
-fn far_places(keys: &[u64], count: usize, lo: u64, hi: u64) -> Places
-    ensures { (result.lower ≡ place_in keys.now count lo) × (result.upper ≡ place_in keys.now count hi) }
+// The place of a key in any run, also where nothing is searched and where there are more keys than 16-bit positions are enough for.
+fn far_place(keys: &[u64], count: usize, key: u64) -> Place
+    ensures { result ≡ place_in keys.now count key }
 {
-    if count == 0 {
-        return Places {
-            lower: Place::NONE,
-            upper: Place::NONE,
-        };
+    if count == 0 || keys.len() < count {
+        return Place::NONE;
     }
-    if keys.len() < count {
-        return Places {
-            lower: Place::NONE,
-            upper: Place::NONE,
-        };
-    }
-    let found = far_both(keys, count, lo, hi);
-    Places {
-        lower: place_at(keys, found.lower, lo),
-        upper: place_at(keys, found.upper, hi),
-    }
+    place_at(keys, far(keys, count, key), key)
 }
 
-// Of a run as a store has it: the rest is left to `far_places`, to which the run is lent anew, so that the usual way keeps it in registers.
+// Of a run as a store has it: the rest is left to `far_place`, to which the run is lent anew, so that the usual way keeps it in registers.
 pub fn place_in(keys: &[u64], count: usize, key: u64) -> Place
     ensures { result ≡ place_in keys.now count key }
 {
     if count == 0 || NEAR < count || keys.len() < count {
-        let places = far_places(&keys[..], count, key, key);
-        return places.lower;
+        return far_place(&keys[..], count, key);
     }
     let at = quartered(keys, count as u16, key);
     place_at(keys, at as usize, key)
 }
 
 // The places of two keys, found side by side; otherwise as `place_in`.
-pub fn places_in(keys: &[u64], count: usize, lo: u64, hi: u64) -> Places
+pub fn places_in(keys: &[u64], count: usize, lo: u64, hi: u64) -> Both<Place>
     ensures { (result.lower ≡ place_in keys.now count lo) × (result.upper ≡ place_in keys.now count hi) }
 {
     if count == 0 || NEAR < count || keys.len() < count {
-        return far_places(&keys[..], count, lo, hi);
+        return Both {
+            lower: far_place(&keys[..], count, lo),
+            upper: far_place(&keys[..], count, hi),
+        };
     }
-    let found = both_quartered(keys, keys, count as u16, lo, hi);
-    Places {
+    let found = both_quartered(keys, count as u16, lo, hi);
+    Both {
         lower: place_at(keys, found.lower as usize, lo),
         upper: place_at(keys, found.upper as usize, hi),
     }
 }
 
 fn put_in(keys: &mut [u64; Store::LIMIT], place: Place, count: usize, key: u64)
-    requires { (place.at ≤ count) × (count + lacking place ≤ limit) × (length keys.old ≡ limit) }
+    requires { (place.at ≤ count) × (count + lacking place ≤ limit) }
     ensures { keys.new ≡ put_in place count key keys.old }
 {
     let at = place.at;
@@ -167,52 +167,33 @@ fn put_in(keys: &mut [u64; Store::LIMIT], place: Place, count: usize, key: u64)
 fn lacking(place: Place) -> usize
     ensures { (result ≡ lacking place) × (result ≤ 1) }
 {
-    if place.held { 0 } else { 1 }
-}
-
-// What adding returns where the keys do not fit.
-fn no_room(count: usize) -> Added
-    ensures { result ≡ no_room count }
-{
-    Added {
-        fits: false,
-        count,
-        first: 0,
-        last: 0,
-    }
+    usize::from(!place.held)
 }
 
 // Enters one key.
-pub fn add_in(keys: &mut [u64; Store::LIMIT], count: usize, key: u64) -> Added
-    ensures { grown_with keys.new result ≡ add_in (store_with keys.old count) key }
+pub fn add_in(keys: &mut [u64; Store::LIMIT], count: usize, key: u64) -> Option<Added>
+    ensures { grown_with keys.new count result ≡ add_in (store_with keys.old count) key }
 {
     let place = place_in(&keys[..], count, key);
     let more = lacking(place);
     if Store::LIMIT - more < count {
-        return no_room(count);
+        return None;
     }
     put_in(keys, place, count, key);
     let total = count + more;
-    Added {
-        fits: true,
+    Some(Added {
         count: total,
         first: place.at,
         last: place.at,
-    }
+    })
 }
 
-// Puts two keys in at their places, unless they are held: the lesser one at `lower` and the greater one at `upper`.
-fn put_two(
-    keys: &mut [u64; Store::LIMIT],
-    lower: Place,
-    upper: Place,
-    count: usize,
-    lo: u64,
-    hi: u64,
-)
-    requires { (lower.at ≤ upper.at) × (upper.at ≤ count) × (count + (lacking lower + lacking upper) ≤ limit) × (length keys.old ≡ limit) }
-    ensures { keys.new ≡ put_two lower upper count lo hi keys.old }
+// Puts two keys in at their places, unless they are held.
+fn put_two(keys: &mut [u64; Store::LIMIT], places: Both<Place>, count: usize, lo: u64, hi: u64)
+    requires { (places.lower.at ≤ places.upper.at) × (places.upper.at ≤ count) × (count + (lacking places.lower + lacking places.upper) ≤ limit) }
+    ensures { keys.new ≡ put_two places.lower places.upper count lo hi keys.old }
 {
+    let Both { lower, upper } = places;
     if lower.held {
         put_in(keys, upper, count, hi);
         return;
@@ -221,48 +202,47 @@ fn put_two(
         put_in(keys, lower, count, lo);
         return;
     }
-    put_both(keys, lower.at, upper.at, count, lo, hi);
+    put_both(keys, places, count, lo, hi);
 }
 
-// Enters two keys, the lesser one at `lower` and the greater one at `upper`.
+// Enters two keys at their places.
 fn add_two(
     keys: &mut [u64; Store::LIMIT],
-    lower: Place,
-    upper: Place,
+    places: Both<Place>,
     count: usize,
     lo: u64,
     hi: u64,
-) -> Added
-    requires { (lower.at ≤ count) × (upper.at ≤ count) × (length keys.old ≡ limit) }
-    ensures { grown_with keys.new result ≡ add_two lower upper lo hi (store_with keys.old count) }
+) -> Option<Added>
+    requires { (places.lower.at ≤ count) × (places.upper.at ≤ count) }
+    ensures { grown_with keys.new count result ≡ add_two places.lower places.upper lo hi (store_with keys.old count) }
 {
+    let Both { lower, upper } = places;
     let below = lacking(lower);
     let above = lacking(upper);
     let most = Store::LIMIT - (below + above);
     if most < count {
-        return no_room(count);
+        return None;
     }
     if upper.at < lower.at {
-        return no_room(count);
+        return None;
     }
-    put_two(keys, lower, upper, count, lo, hi);
+    put_two(keys, places, count, lo, hi);
     let last = upper.at + below;
     let total = count + below + above;
-    Added {
-        fits: true,
+    Some(Added {
         count: total,
         first: lower.at,
         last,
-    }
+    })
 }
 
 // Enters two keys, or one where they are equal.
-pub fn add_both_in(keys: &mut [u64; Store::LIMIT], count: usize, lo: u64, hi: u64) -> Added
-    ensures { grown_with keys.new result ≡ add_both_in (store_with keys.old count) lo hi }
+pub fn add_both_in(keys: &mut [u64; Store::LIMIT], count: usize, lo: u64, hi: u64) -> Option<Added>
+    ensures { grown_with keys.new count result ≡ add_both_in (store_with keys.old count) lo hi }
 {
     if lo == hi {
         return add_in(keys, count, lo);
     }
     let places = places_in(&keys[..], count, lo, hi);
-    add_two(keys, places.lower, places.upper, count, lo, hi)
+    add_two(keys, places, count, lo, hi)
 }

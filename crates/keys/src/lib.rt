@@ -2,14 +2,13 @@
 // store is in `claims`, where `enter` is. Each public call takes any content and states its whole result by equations with definitions of specs/.
 #![tactic(auto)]
 
-mod count;
 mod leaf;
 mod lent;
 mod search;
 mod store;
 
-pub use count::{at_least, capped};
 pub use lent::{
-    Added, Place, Places, add_both_in, add_in, ordered_in, place_in, places_in, resum_in, summed_in,
+    Added, Both, LentStore, Place, add_both_in, add_in, ordered_in, place_in, places_in, resum_in,
+    summed_in,
 };
 pub use store::Store;

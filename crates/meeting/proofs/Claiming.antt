@@ -9,7 +9,7 @@ use lib.ListN.{length}
 use Rattle.keys.proofs.Tests.{lt_or_le}
 use Rattle.keys.proofs.Rising.{Rising, Sub, sub_refl, rising_same}
 use Rattle.claims.specs.declared.claim.Claim.{Claim}
-use Rattle.claims.specs.declared.answer.Answer.{Answer}
+use Rattle.claims.specs.Answer.{Answer}
 use Rattle.claims.specs.Claim.{between}
 use Rattle.claims.specs.Reply.{hear, reply, claims_of}
 use Rattle.claims.proofs.Between.{inside, between_rising, sub_between}

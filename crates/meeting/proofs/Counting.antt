@@ -16,8 +16,8 @@ use Rattle.keys.specs.Store.{limit}
 use Rattle.keys.proofs.Tests.{Order, less, equal, greater, order}
 use Rattle.keys.proofs.Rising.{Rising, Sub, sub_refl}
 use Rattle.claims.specs.declared.claim.Claim.{Claim}
-use Rattle.claims.specs.declared.answer.Answer.{Answer}
-use Rattle.claims.specs.declared.answer.Answer.TheVariants.{One, Two}
+use Rattle.claims.specs.Answer.{Answer}
+use Rattle.claims.specs.Answer.{One, Two}
 use Rattle.claims.specs.Claim.{between, whole_claim}
 use Rattle.claims.specs.Reply.{adding, hear, answer, reply, claims_of}
 use Rattle.claims.proofs.Between.{inside, between_one, length_between_inside}

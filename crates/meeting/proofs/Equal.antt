@@ -10,8 +10,8 @@ use Rattle.keys.specs.Store.{limit, keys_of, store_of}
 use Rattle.keys.proofs.Rising.{Rising}
 use Rattle.keys.proofs.StoreLaws.{in_order_rising}
 use Rattle.claims.specs.declared.claim.Claim.{Claim}
-use Rattle.claims.specs.declared.answer.Answer.{Answer}
-use Rattle.claims.specs.declared.answer.Answer.TheVariants.{Match}
+use Rattle.claims.specs.Answer.{Answer}
+use Rattle.claims.specs.Answer.{Match}
 use Rattle.claims.specs.Claim.{whole_claim}
 use Rattle.claims.specs.Question.{first_no}
 use Rattle.claims.specs.Reply.{hear, own, same, answer, reply, claims_of}

@@ -13,7 +13,7 @@ use Rattle.keys.proofs.Tests.{Order, less, equal, greater, order}
 use Rattle.keys.proofs.Rising.{Rising, Sub, sub_refl, mem_length, rising_same, rising_ext}
 use Rattle.keys.proofs.StoreLaws.{in_order_rising}
 use Rattle.claims.specs.declared.claim.Claim.{Claim}
-use Rattle.claims.specs.declared.answer.Answer.{Answer}
+use Rattle.claims.specs.Answer.{Answer}
 use Rattle.claims.specs.Claim.{between, whole_claim}
 use Rattle.claims.specs.Reply.{adding, hear, reply, claims_of}
 use Rattle.claims.proofs.Between.{inside, mem_between, between_rising, mem_inside, between_sub, sub_between}

@@ -14,7 +14,7 @@ use Rattle.keys.specs.Store.{limit, same_keys, insert, insert_all}
 use Rattle.keys.proofs.Rising.{Rising, Sub, sub_trans, rising_length}
 use Rattle.keys.proofs.Insert.{insert_rising, insert_sub, length_insert_missing, insert_all_sub}
 use Rattle.claims.specs.declared.claim.Claim.{Claim}
-use Rattle.claims.specs.declared.answer.Answer.{Answer}
+use Rattle.claims.specs.Answer.{Answer}
 use Rattle.claims.specs.Claim.{between, middle_key, middle_inside}
 use Rattle.claims.specs.Reply.{ends, with_ends, wants_middle, adding, hear, answer, reply, claims_of, matches}
 use Rattle.claims.proofs.Between.{Lies, within, below, beyond, lies, inside, between_between, between_insert_within, between_insert_outside}

@@ -22,7 +22,7 @@ use Rattle.claims.proofs.Stretch.{Stretch, stretch_rising, stretch_sub, stretch_
 use Rattle.claims.proofs.ClaimLaws.{span_claim}
 use Rattle.claims.proofs.ReplyLaws.{hear_rising}
 use Rattle.claims.proofs.LackLaws.{Lacks, lacks_within, many_had, few_had}
-use Rattle.rule.specs.declared.answer.Met.{Met}
+use Rattle.rule.specs.Answer.{Met}
 use Rattle.rule.specs.Round.{End, left_end, right_end, other, Pair, pair, keys_at, entry, Run, half, round_of}
 use Rattle.rule.specs.Call.{round_by, met}
 use Rattle.rule.proofs.Pair.{rises_pair, within_union_of, keys_at_receiver}

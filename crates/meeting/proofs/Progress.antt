@@ -12,7 +12,7 @@ use Rattle.keys.specs.Store.{limit}
 use Rattle.keys.proofs.Tests.{Order, less, equal, greater, order}
 use Rattle.keys.proofs.Rising.{Rising, Sub, rising_length, rising_same, rising_ext}
 use Rattle.claims.specs.declared.claim.Claim.{Claim}
-use Rattle.claims.specs.declared.answer.Answer.{Answer}
+use Rattle.claims.specs.Answer.{Answer}
 use Rattle.claims.specs.Claim.{between, whole_claim}
 use Rattle.claims.specs.Reply.{hear, reply, claims_of, false_match}
 use Rattle.claims.proofs.Between.{inside, mem_between, between_mem, between_rising, mem_inside, between_sub}

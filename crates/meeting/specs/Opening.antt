@@ -4,7 +4,7 @@ use Rattle.std.specs.Prelude.{ℕ, ◌⊎◌, ◌≡◌}
 use mathlib.Core.List.{List, Memᴰ}
 use Rattle.keys.specs.declared.store.Store.{Store}
 use Rattle.keys.specs.Store.{store_of}
-use Rattle.rule.specs.declared.answer.Met.{Met}
+use Rattle.rule.specs.Answer.{Met}
 use Rattle.opening.specs.Cost.{opening_cost}
 
 -- What the round of an empty left store and the store t returns: "The round then makes E(n) deliveries for n from 1 on and none for n = 0, whichever keys

@@ -29,7 +29,7 @@ with_node k n kiosks j = cond (eqb j k) n (kiosks j)
 
 -- .. or its store s, the pending table left as it was
 abbrev pub with_store : ℕ → Store → (ℕ → Node) → ℕ → Node
-with_store k s kiosks = with_node k (record { store = s; pending = (kiosks k).pending; count = (kiosks k).count }) kiosks
+with_store k s kiosks = with_node k (record { store = s; pending = (kiosks k).pending }) kiosks
 
 -- what a call comes to: the number in its answer (0: carried out), the kiosks as it returned them, the claims that it made
 pub record Outcome : Type 0 where

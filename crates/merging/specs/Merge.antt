@@ -1,7 +1,7 @@
 -- Two lists in one, as the code makes it, of things of any type and in any order: of the two first things the one that comes before, of equal ones one, and so
 -- on. It is the interface between our own functions, and no rule of document 01 or 02. Where both lists are sorted it is the union of two runs of keys, and of two
 -- tables the two in one (`merged_union` and `merged_claims` of proofs/MergeLaws). Assumes nothing.
-use Rattle.std.specs.Prelude.{ℕ, ◌+◌, ◌-◌, ◌≤◌, Bool, cond, List, [], ◌∷◌, ◌++◌, ◌≡◌, ltb, leb, length, drop}
+use Rattle.std.specs.Prelude.{ℕ, ◌+◌, ◌-◌, ◌≤◌, ◌<◌, Bool, cond, List, [], ◌∷◌, ◌++◌, ◌≡◌, ltb, leb, length, drop}
 use Rattle.keys.specs.Store.{limit}
 use Rattle.keys.specs.Place.{put_at}
 use Rattle.merging.specs.declared.runs.Reached.{Reached}
@@ -17,10 +17,12 @@ merged first (x ∷ xs) (y ∷ ys) =
 unfoldable pub merged_in : List ℕ → List ℕ → List ℕ → List ℕ
 merged_in one other into = cond (leb (length (merged ltb one other)) limit) (put_at into 0 (merged ltb one other)) into
 
--- what `write_heads` tells: both runs are passed to so far that what is left of them, one after the other, is what is left to write, and there is room for it
-pub record OneDone (one other before after : List ℕ) (r : Reached) : Type 0 where
+-- what `walk` tells: both runs are passed to so far that what is left of them, one after the other, is what is left to count, and where
+-- there are places to write, what is left to write
+pub record OneDone (places : ℕ) (one other before after : List ℕ) (r : Reached) : Type 0 where
   pub one_in : r.one ≤ length one
   pub other_in : r.other ≤ length other
-  pub long : length after ≡ limit
-  pub room : r.written + (length one - r.one) + (length other - r.other) ≤ limit
-  pub rest : put_at after r.written (drop r.one one ++ drop r.other other) ≡ put_at before 0 (merged ltb one other)
+  pub few : r.both ≤ r.one + r.other
+  pub long : length after ≡ places
+  pub counted : r.both + (length one - r.one) + (length other - r.other) ≡ length (merged ltb one other)
+  pub rest : 0 < places → put_at after r.both (drop r.one one ++ drop r.other other) ≡ put_at before 0 (merged ltb one other)

@@ -1,29 +1,31 @@
 -- What an image holds, admitted (src/admitting.rt): one law for each way that the code goes. In order: the loop that leaves out; what is then admitted.
 -- Assumes nothing.
 use mathlib.Core.Path.{◌≡◌, refl, sym, ◌∙◌, ap, ap₂}
-use mathlib.Core.Bool.{Bool, true, false, cond, not, ◌&&◌}
+use mathlib.Core.Bool.{Bool, true, false, cond}
 use mathlib.Core.List.{List, [], ◌∷◌, ◌++◌, append-nil, append_assoc}
 use Prim.Native.Nat.{ℕ, suc, ◌+◌, ◌-◌, ◌≤◌, ◌<◌}
 use native.Mathlib.Numerals.{add-one}
 use native.Mathlib.Omega.{arith}
-use borrow.Author.Tests.{leb-true, eqb-true, eq-eqb, ne_eqb, not-true, not-false}
-use lib.Dec.{leb, eqb}
+use borrow.Author.Tests.{leb-true}
+use lib.Dec.{leb}
 use lib.ListN.{length, take, drop, get_or, set, length-append, take-append-drop}
 use lib.Seq.{take-suc, drop-cons, get_or_at, length-take-le}
-use Rattle.keys.specs.Lent.{ordered_in}
+use Rattle.std.proofs.Common.{Ok, Err}
 use Rattle.keys.specs.Place.{put_at}
-use Rattle.keys.proofs.Tests.{and_left, and_right}
+use Rattle.keys.proofs.Tests.{and_left}
 use Rattle.keys.proofs.PlaceLaws.{put_at_nil, put_at_zero, set_front, set_written}
 use Rattle.claims.specs.declared.claim.Claim.{Claim}
+use Rattle.claims.specs.declared.refusal.Refusal.TheVariants.{OutOfOrder}
 use Rattle.claims.specs.Claim.{no_claim}
 use Rattle.claims.specs.Question.{question16}
-use Rattle.rule.specs.declared.answer.Rest.{Rest}
+use Rattle.rule.specs.declared.answer.Rest.{Rest as Beside}
+use Rattle.rule.specs.declared.node.Table.{Table}
+use Rattle.rule.specs.Answer.{rest_given, rest_by}
 use Rattle.rule.specs.Table.{table_limit}
-use Rattle.rule.specs.Node.{blanks, all_tell, telling, node_of, saved_in_order}
+use Rattle.rule.specs.Node.{blanks, table_by, all_tell, telling, node_of, saved_in_order}
 use Rattle.rule.proofs.NodeLaws.{telling_snoc, telling_all, length_blanks, blanks_suc, blanks_snoc}
-use Rattle.nodes.specs.declared.order.Order.{Order}
-use Rattle.nodes.specs.Lent.{order_of, front_in, left_out, rest_left, admit_in}
-use Rattle.nodes.proofs.OrderPaths.{front_none}
+use Rattle.nodes.specs.declared.order.Order.TheVariants.{Out, Saved, Given}
+use Rattle.nodes.specs.Lent.{order_of, front_in, left_out, table_left, rest_left, admit_in}
 
 -- ---- leaving out
 
@@ -99,22 +101,15 @@ module _ (table : List Claim) (count : ℕ) (few : count ≤ table_limit) (whole
           laid = blanked ∙ ap (put_at table 0) (ap₂ (λ (l : List Claim) (n : ℕ). l ++ blanks n) (sym next) spare);
         }
 
-pub leaving_done : (table : List Claim) (count held : ℕ) {i kept : ℕ} {places : List Claim} → Leaving table count i kept places → count ≤ i
-    → record { number = 0; held = held; table = places; count = kept } ≡ rest_left held table count
-leaving_done table count held {i} left past =
+pub leaving_done : (table : List Claim) (count : ℕ) {i kept : ℕ} {places : List Claim} → Leaving table count i kept places → count ≤ i
+    → table_by places kept ≡ table_left table count
+leaving_done table count {i} left past =
     let all : i ≡ count = omega (arith, left.passed) in
     let laid = left.laid ∙ ap (left_out table) all in
     let many = left.many ∙ ap (λ (m : ℕ). length (telling (take m table))) all in
-    λ j. record { number = 0; held = held; table = laid j; count = many j }
+    λ j. table_by (laid j) (many j)
 
 -- ---- what is admitted
-
-module _ (keys : List ℕ) (count : ℕ) where
-  pub pending_some : (count ≡ 0 → ⊥) → false ≡ (eqb count 0 && ordered_in keys (length keys))
-  pending_some f = rw (ne_eqb count 0 f)
-
-  pub pending_none : count ≡ 0 → (ordered : Bool) → ordered ≡ ordered_in keys (length keys) → ordered ≡ (eqb count 0 && ordered_in keys (length keys))
-  pending_none e ordered tested = tested ∙ rw (eq-eqb count 0 e)
 
 -- where every claim passes 16, the table is as it was
 pub left_out_all : (table : List Claim) (count : ℕ) → all_tell (take count table) ≡ true → count ≤ length table
@@ -131,47 +126,56 @@ left_out_all table count all fits =
       many,
     )
 
-module _ (keys : List ℕ) (r : Rest) where
-  pub admit_refused : (r.number ≡ 0 → ⊥) → r ≡ admit_in keys r
+-- what an order says of the two judgements that it is made of
+out_is : (s t : Bool) → Out ≡ order_of s t → s ≡ false
+out_is true true e = cc
+out_is true false e = cc
+out_is false t e = refl
+
+saved_is : (s t : Bool) → Saved ≡ order_of s t → s ≡ true
+saved_is true t e = refl
+saved_is false t e = cc
+
+given_is : (s t : Bool) → Given ≡ order_of s t → (s ≡ true) × (t ≡ true)
+given_is true true e = (refl, refl)
+given_is true false e = cc
+given_is false t e = cc
+
+module _ (keys : List ℕ) (r : Beside) where
+  abbrev table : List Claim
+  table = r.pending.claims
+
+  abbrev count : ℕ
+  count = r.pending.count
+
+  -- as one in an image, and as one that is given
+  abbrev saved : Bool
+  saved = front_in keys table count
+
+  abbrev told : Bool
+  told = all_tell (take count table)
+
+  pub admit_out : Out ≡ order_of saved told → rest_by r (Err OutOfOrder) ≡ admit_in keys (rest_given r)
   unfolding admit_in
-  admit_refused f = rw (ne_eqb r.number 0 f)
+  admit_out e = rw (out_is saved told e)
 
-  -- keys in order, and nothing pending
-  pub admit_none : r.number ≡ 0 → (none : Bool) → none ≡ (eqb r.count 0 && ordered_in keys (length keys)) → none ≡ true → r ≡ admit_in keys r
-  unfolding admit_in blanks
-  admit_none read none asked e =
-      let both = sym asked ∙ e in
-      let ordered = and_right (eqb r.count 0) (ordered_in keys (length keys)) both in
-      let zero : r.count ≡ 0 = eqb-true r.count 0 (and_left (eqb r.count 0) (ordered_in keys (length keys)) both) in
-      let passed : front_in keys r.table r.count ≡ true = ap (front_in keys r.table) zero ∙ front_none keys r.table ordered in
-      let admitted : rest_left r.held r.table r.count ≡ admit_in keys r = rw (eq-eqb r.number 0 read, passed) in
-      let same : left_out r.table 0 ≡ r.table = put_at_nil r.table 0 in
-      (λ j. record { number = read j; held = r.held; table = sym same j; count = zero j }) ∙ (ap (rest_left r.held r.table) (sym zero) ∙ admitted)
+  -- the claims are those of a table
+  few : saved ≡ true → count ≤ table_limit
+  few e = leb-true count table_limit (and_left (leb count table_limit) (saved_in_order (node_of keys (take count table))) e)
 
-  module _ (read : r.number ≡ 0) (found : Order) (told : found ≡ order_of (front_in keys r.table r.count) (all_tell (take r.count r.table))) where
-    front_is : front_in keys r.table r.count ≡ found.saved
-    front_is = ap (λ (o : Order). o.saved) (sym told)
+  pub admit_few : Saved ≡ order_of saved told → count ≤ table_limit
+  admit_few e = few (saved_is saved told e)
 
-    pub admit_1 : not found.saved ≡ true → record { number = 1; held = r.held; table = r.table; count = r.count } ≡ admit_in keys r
-    unfolding admit_in
-    admit_1 e = rw (eq-eqb r.number 0 read, front_is, not-true found.saved e)
+  admitted : saved ≡ true → rest_left r.held table count ≡ admit_in keys (rest_given r)
+  unfolding admit_in
+  admitted e = rw e
 
-    module _ (passed : not found.saved ≡ false) where
-      -- the claims are those of a table
-      pub admit_few : r.count ≤ table_limit
-      admit_few = leb-true r.count table_limit
-          (and_left (leb r.count table_limit) (saved_in_order (node_of keys (take r.count r.table))) (front_is ∙ not-false found.saved passed))
+  pub admit_left : Saved ≡ order_of saved told → {t : Table} → t ≡ table_left table count
+      → rest_by r (Ok (record { held = r.held; pending = t })) ≡ admit_in keys (rest_given r)
+  admit_left e f = (λ j. rest_given (record { held = r.held; pending = f j })) ∙ admitted (saved_is saved told e)
 
-      admitted : rest_left r.held r.table r.count ≡ admit_in keys r
-      unfolding admit_in
-      admitted = rw (eq-eqb r.number 0 read, front_is, not-false found.saved passed)
-
-      pub admit_given : length r.table ≡ table_limit → found.given ≡ true → r ≡ admit_in keys r
-      admit_given whole e =
-          let all = all_tell (take r.count r.table) in
-          let told_all : all ≡ true = and_right found.saved all (sym (ap (λ (o : Order). o.given) told ∙ ap (λ (b : Bool). b && all) front_is) ∙ e) in
-          let (laid, many) = left_out_all r.table r.count told_all (rw whole admit_few) in
-          (λ j. record { number = read j; held = r.held; table = sym laid j; count = sym many j }) ∙ admitted
-
-      pub admit_left : (x : Rest) → x ≡ rest_left r.held r.table r.count → x ≡ admit_in keys r
-      admit_left x e = e ∙ admitted
+  pub admit_given : Given ≡ order_of saved told → length table ≡ table_limit → rest_by r (Ok r) ≡ admit_in keys (rest_given r)
+  admit_given e whole =
+      let (one, all) = given_is saved told e in
+      let (laid, many) = left_out_all table count all (rw whole (few one)) in
+      (λ j. record { number = 0; held = r.held; table = sym laid j; count = sym many j }) ∙ admitted one

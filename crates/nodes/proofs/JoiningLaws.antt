@@ -18,16 +18,16 @@ use Rattle.claims.specs.declared.claim.Claim.{Claim}
 use Rattle.claims.specs.Claim.{no_claim}
 use Rattle.claims.specs.Question.{first_no}
 use Rattle.rule.specs.declared.node.Node.{Node}
-use Rattle.rule.specs.declared.answer.Taken.{Taken}
+use Rattle.rule.specs.Answer.{Taken}
 use Rattle.rule.specs.Table.{table_limit, joined_table}
-use Rattle.rule.specs.Node.{blanks, node_keys, pending_of, node_of}
+use Rattle.rule.specs.Node.{blanks, table_by, node_keys, pending_of, node_of}
 use Rattle.rule.specs.Round.{union}
 use Rattle.rule.specs.Question.{question8}
 use Rattle.rule.specs.Call.{joined_node}
 use Rattle.rule.proofs.NodeLaws.{Ordered}
 use Rattle.merging.specs.Merge.{merged, merged_in}
 use Rattle.merging.proofs.MergeLaws.{merged_union, merged_claims}
-use Rattle.nodes.specs.Lent.{node_with, taken_with}
+use Rattle.nodes.specs.Lent.{node_with, taken_beside}
 use Rattle.nodes.specs.Joining.{tables_in, rest_refused, rest_with, join_in}
 
 -- some keys and some claims, laid out over zeros, are their node
@@ -36,12 +36,12 @@ unfolding store_of zeros
 laid_keys l = put_at_replicate l limit 0
 
 laid_node : (l : List ℕ) (t : List Claim) → length l ≤ limit
-    → node_with (put_at (zeros limit) 0 l) (length l) (put_at (blanks table_limit) 0 t) (length t) ≡ node_of l t
+    → node_with (put_at (zeros limit) 0 l) (length l) (table_by (put_at (blanks table_limit) 0 t) (length t)) ≡ node_of l t
 unfolding node_of blanks
 laid_node l t h =
     let count : length l ≡ (store_of l).count = sym (count_store_of l) in
     let store : store_with (put_at (zeros limit) 0 l) (length l) ≡ store_of l = ap₂ store_with (laid_keys l) count ∙ store_with_store_of l h in
-    λ i. record { store = store i; pending = put_at_replicate t table_limit no_claim i; count = length t }
+    λ i. record { store = store i; pending = table_by (put_at_replicate t table_limit no_claim i) (length t) }
 
 pub join_in_kept : (n m : Node) (into : List ℕ) → ((join_in n m into).number ≡ 0 → ⊥) → (join_in n m into).node.store.keys ≡ into
 unfolding join_in merged_in
@@ -51,7 +51,7 @@ join_in_kept n m into f = go (leb (length l) limit) f
     l = merged ltb (node_keys n) (node_keys m)
 
     told : Bool → Taken
-    told b = taken_with (cond b (put_at into 0 l) into) (cond b (rest_with (length l) (tables_in (pending_of n) (pending_of m))) (rest_refused 8 n))
+    told b = taken_beside (cond b (put_at into 0 l) into) (cond b (rest_with (length l) (tables_in (pending_of n) (pending_of m))) (rest_refused 8 n))
 
     go : (b : Bool) → ((told b).number ≡ 0 → ⊥) → (told b).node.store.keys ≡ into
     go true g = absurd (g refl)
@@ -67,7 +67,7 @@ module _ (n m : Node) (into : List ℕ) (o : Ordered n) (p : Ordered m) where
 
   -- what the code returns, by the rule's definitions
   abbrev told : Bool → Taken
-  told b = cond b (taken_with (put_at into 0 u) (rest_with (length u) t)) (taken_with into (rest_refused 8 n))
+  told b = cond b (taken_beside (put_at into 0 u) (rest_with (length u) t)) (taken_beside into (rest_refused 8 n))
 
   join_in_by : join_in n m into ≡ told (leb (length u) limit)
   unfolding join_in merged_in tables_in
@@ -78,7 +78,7 @@ module _ (n m : Node) (into : List ℕ) (o : Ordered n) (p : Ordered m) where
       )
       (go (leb (length u) limit))
     where
-      go : (b : Bool) → taken_with (cond b (put_at into 0 u) into) (cond b (rest_with (length u) t) (rest_refused 8 n)) ≡ told b
+      go : (b : Bool) → taken_beside (cond b (put_at into 0 u) into) (cond b (rest_with (length u) t) (rest_refused 8 n)) ≡ told b
       go true = refl
       go false = refl
 

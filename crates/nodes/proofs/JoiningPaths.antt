@@ -3,216 +3,167 @@
 use Prim.Native.Nat.{ℕ, ◌+◌, ◌-◌, ◌≤◌, ◌<◌, min}
 use native.Mathlib.Numerals.{add-one}
 use native.Mathlib.Omega.{arith}
-use mathlib.Core.Bool.{Bool, true, false, cond}
+use mathlib.Core.Bool.{Bool, true, false, cond, not, false≢true}
 use mathlib.Core.List.{List, [], ◌∷◌, ◌++◌, append-nil}
 use mathlib.Core.Logic.{◌⊎◌, inl, inr}
 use mathlib.Core.Path.{◌≡◌, refl, sym, ap, ap₂, ◌∙◌}
-use borrow.Author.Tests.{le-leb, lt-leb}
+use borrow.Author.Tests.{le-leb, lt-leb, eq-eqb}
 use lib.Dec.{ltb}
-use lib.ListN.{length, take, drop, get_or, set, length-set, length-take, length-drop, drop_of_length-le}
-use lib.Seq.{get_or-take, get_or-drop, length-take-le, take_all}
+use lib.ListN.{length, take, drop, get_or, set, length-set, length-take, drop_of_length-le}
+use lib.Seq.{length-take-le, take_all, take-length}
+use mir.Val.{bool_byte}
+use borrow.Rule.Slice.PartMut.{put_mid}
+use Rattle.std.proofs.Common.{Ok, Err}
 use Rattle.keys.specs.Store.{limit}
 use Rattle.keys.specs.Place.{put_at}
-use Rattle.keys.proofs.PlaceLaws.{put_at_nil, put_at_cons, copy_none, copy_more, copy_all}
+use Rattle.keys.proofs.PlaceLaws.{put_at_nil, put_at_cons, slice_rest}
 use Rattle.claims.specs.declared.claim.Claim.{Claim}
+use Rattle.claims.specs.Reply.{same}
+use Rattle.claims.specs.declared.refusal.Refusal.TheVariants.{UnionBeyondLimit}
 use Rattle.claims.specs.Claim.{no_claim}
-use Rattle.rule.specs.declared.answer.Rest.{Rest}
-use Rattle.rule.specs.declared.answer.Taken.{Taken}
+use Rattle.rule.specs.declared.answer.Rest.{Rest as Beside}
+use Rattle.rule.specs.declared.node.Table.{Table}
+use Rattle.rule.specs.Answer.{Taken, rest_given, rest_by}
 use Rattle.rule.specs.Table.{table_limit, before}
 use Rattle.rule.specs.Node.{blanks}
 use Rattle.rule.proofs.NodeLaws.{length_blanks}
+use Rattle.rule.proofs.TableLaws.{before_trans}
 use Rattle.merging.specs.Merge.{merged, merged_in}
 use Rattle.merging.proofs.Walk.{Walked, Turned, walk_start, walk_first, walk_second, walk_same, walk_end}
-use Rattle.nodes.specs.declared.joining.Next.{Next}
-use Rattle.nodes.specs.Lent.{Enlisted, node_held, taken_with}
-use Rattle.nodes.specs.Joining.{next_of, tables_in, CopiedBehind, join_in}
-use Rattle.nodes.proofs.TakingPaths.{drop_take, take_least}
+use Rattle.nodes.specs.Lent.{Enlisted, node_held, taken_beside}
+use Rattle.nodes.specs.Joining.{tables_in, CopiedBehind, join_in}
+use Rattle.nodes.proofs.LentLaws.{before_not_same}
+use Rattle.nodes.proofs.TakingPaths.{take_least}
 
--- ---- the next of two claims: asked_f and asked_g are what comparing them said
+-- ---- the next of two claims
 
-module _ (a b : Claim) {f : Bool} (asked_f : f ≡ before a b) where
-  pub next_first : f ≡ true → record { claim = a; one = 1; other = 0 } ≡ next_of a b
-  unfolding next_of
-  next_first h = rw (← asked_f, h)
+-- a claim is itself
+same_itself : (c : Claim) → same c c ≡ true
+same_itself c = rw (eq-eqb c.lo c.lo refl, eq-eqb c.hi c.hi refl, eq-eqb c.sum c.sum refl, eq-eqb c.cnt c.cnt refl)
 
-  module _ (past : f ≡ false) {g : Bool} (asked_g : g ≡ before b a) where
-    pub next_second : g ≡ true → record { claim = b; one = 0; other = 1 } ≡ next_of a b
-    unfolding next_of
-    next_second h = rw (← asked_f, past, ← asked_g, h)
-
-    pub next_same : g ≡ false → record { claim = a; one = 1; other = 1 } ≡ next_of a b
-    unfolding next_of
-    next_same h = rw (← asked_f, past, ← asked_g, h)
+-- of two, only one comes before the other
+before_asym : (c d : Claim) → before c d ≡ true → before d c ≡ false
+before_asym c d h = go (before d c) refl
+  where
+    go : (t : Bool) → before d c ≡ t → t ≡ false
+    go true e = absurd (false≢true (sym (before_not_same c c (before_trans c d c h e)) ∙ same_itself c))
+    go false e = refl
 
 -- ---- claims copied behind others
 
-pub record Copying (table : List Claim) (at : ℕ) (run : List Claim) (i : ℕ) (places : List Claim) : Type 0 where
-  pub passed : i ≤ length run
-  pub laid : places ≡ put_at table at (take i run)
-
-module _ (table : List Claim) (at : ℕ) (from : List Claim) (first count : ℕ) {more : ℕ} (told : more ≡ min (count - first) (table_limit - at))
-    (inside : first ≤ count) (few : count ≤ table_limit) (few-at : at ≤ table_limit) (whole_from : length from ≡ table_limit) where
-  abbrev run : List Claim
-  run = take more (drop first from)
-
-  long_run : length run ≡ more
-  long_run = length-take-le more (drop first from) (omega (arith, told, length-drop first from))
-
-  pub copying_start : Copying table at run 0 table
-  copying_start = record { passed = omega arith; laid = copy_none table at }
-
-  module _ {i : ℕ} {places : List Claim} (so : Copying table at run i places) where
-    pub copying_on : i < more → length table ≡ table_limit → Copying table at run (i + 1) (set places (at + i) (get_or from (first + i) no_claim))
-    copying_on h whole =
-        let here : get_or run i no_claim ≡ get_or from (first + i) no_claim = get_or-take more (drop first from) i no_claim h ∙ get_or-drop first from i no_claim in
-        record {
-          passed = omega (arith, long_run);
-          laid = rw (← here) (copy_more table at run places i so.laid no_claim (omega (arith, long_run)) (omega (arith, long_run, told)));
-        }
-
-    pub copying_end : more ≤ i → CopiedBehind table at (take (min (count - first) (table_limit - at)) (drop first from)) places (at + more)
-    copying_end h = rw (← told) (record {
-      places = copy_all table at run places i so.laid (omega (arith, long_run));
-      many = omega (arith, long_run);
-    })
+pub appended : (table claims : List Claim) (at : ℕ) {more : ℕ} → more ≡ min (length claims) (table_limit - at) → at ≤ table_limit
+    → CopiedBehind table at (take (table_limit - at) claims) (put_mid at (at + more - at) table (take more claims)) (at + more)
+unfolding put_at
+appended table claims at {more} told few =
+    let many : at + more - at ≡ more = omega arith in
+    let same : take more claims ≡ take (table_limit - at) claims =
+    ap (λ (n : ℕ). take n claims) told
+    ∙ (sym (take_least (table_limit - at) (length claims) claims)
+    ∙ ap (take (table_limit - at)) (take-length claims)) in
+    let long : length (take more claims) ≡ more = length-take-le more claims (omega arith) in
+    record { places = rw (many, ← same, long); many = rw (← same, long) }
 
 -- ---- two tables merged: as many as there are places for of what is left of both, merged and written behind what is, give what is to come out
 
-pub record Merging (one : List Claim) (count : ℕ) (other : List Claim) (others : ℕ) (places : List Claim) (i j n : ℕ) : Type 0 where
-  pub walked : Walked before (take count one) (take others other) i j n
-  pub one_in : i ≤ count
-  pub other_in : j ≤ others
+pub record Merging (one other places : List Claim) (i j n : ℕ) : Type 0 where
+  pub walked : Walked before one other i j n
   pub few : n ≤ table_limit
   pub long : length places ≡ table_limit
-  pub left : put_at places n (take (table_limit - n) (merged before (drop i (take count one)) (drop j (take others other))))
-      ≡ put_at (blanks table_limit) 0 (tables_in (take count one) (take others other))
+  pub left : put_at places n (take (table_limit - n) (merged before (drop i one) (drop j other))) ≡ put_at (blanks table_limit) 0 (tables_in one other)
 
 take_none : (xs : List Claim) (m : ℕ) → m ≡ 0 → take m xs ≡ []
 take_none xs m e = rw e
 
--- as many as there is room for of what stands from a place on among the first claims
-cut_rest : (l : List Claim) (count from room : ℕ) → take room (drop from (take count l)) ≡ take (min (count - from) room) (drop from l)
-cut_rest l count from room = rw (drop_take from count l) (take_least room (count - from) (drop from l))
-
 take_next : (x : Claim) (xs : List Claim) (m k : ℕ) → m ≡ k + 1 → take m (x ∷ xs) ≡ x ∷ take k xs
 take_next x xs m k e = rw (e, add-one k)
 
-module _ (one : List Claim) (count : ℕ) (other : List Claim) (others : ℕ) where
-  abbrev s : List Claim
-  s = take count one
-
-  abbrev t : List Claim
-  t = take others other
-
-  pub merging_start : Merging one count other others (blanks table_limit) 0 0 0
+module _ (one other : List Claim) where
+  pub merging_start : Merging one other (blanks table_limit) 0 0 0
   unfolding tables_in
-  merging_start = record {
-    walked = walk_start before s t;
-    one_in = omega arith;
-    other_in = omega arith;
-    few = omega arith;
-    long = length_blanks table_limit;
-    left = refl;
-  }
+  merging_start = record { walked = walk_start before one other; few = omega arith; long = length_blanks table_limit; left = refl }
 
-  module _ (few-one : count ≤ table_limit) (few-other : others ≤ table_limit) (whole_one : length one ≡ table_limit) (whole-other : length other ≡ table_limit) where
-    long_one : length s ≡ count
-    long_one = length-take-le count one (omega arith)
+  module _ {places : List Claim} {i j n : ℕ} (so : Merging one other places i j n) where
+    -- a turn: by what comparing the two claims said, in both directions
+    module _ (room : n < table_limit) (more_one : i ≡ length one → ⊥) (more_other : j ≡ length other → ⊥) where
+      abbrev a : Claim
+      a = get_or one i no_claim
 
-    long_other : length t ≡ others
-    long_other = length-take-le others other (omega arith)
+      abbrev b : Claim
+      b = get_or other j no_claim
 
-    module _ {places : List Claim} {i j n : ℕ} (so : Merging one count other others places i j n) where
-      -- a turn
-      module _ (room : n < table_limit) (more-one : i ≡ count → ⊥) (more-other : j ≡ others → ⊥) where
-        abbrev a : Claim
-        a = get_or one i no_claim
+      in_one : i < length one
+      in_one = omega (arith, so.walked.left_in, more_one)
 
-        abbrev b : Claim
-        b = get_or other j no_claim
+      in_other : j < length other
+      in_other = omega (arith, so.walked.right_in, more_other)
 
-        in_one : i < count
-        in_one = omega (arith, so.one_in, more-one)
+      turning : {x : Claim} {i' j' : ℕ} → x ≡ cond (before b a) b a → i' ≡ i + bool_byte (not (before b a)) → j' ≡ j + bool_byte (not (before a b))
+          → Turned before one other i j n x i' j'
+      turning e f g =
+          rw (e, f, g)
+          (go (before a b) refl (before b a) refl (walk_first before one other so.walked no_claim in_one in_other)
+          (walk_second before one other so.walked no_claim in_one in_other)
+          (walk_same before one other so.walked no_claim in_one in_other))
+        where
+          go : (p : Bool) → before a b ≡ p → (q : Bool) → before b a ≡ q → (before a b ≡ true → Turned before one other i j n a (i + 1) j)
+              → (before a b ≡ false → before b a ≡ true → Turned before one other i j n b i (j + 1))
+              → (before a b ≡ false → before b a ≡ false → Turned before one other i j n a (i + 1) (j + 1))
+              → Turned before one other i j n (cond q b a) (i + bool_byte (not q)) (j + bool_byte (not p))
+          go true e true f u v w = absurd (false≢true (sym (before_asym a b e) ∙ f))
+          go true e false f u v w = let same : j + 0 ≡ j = omega arith in rw same (u e)
+          go false e true f u v w = let same : i + 0 ≡ i = omega arith in rw same (v e f)
+          go false e false f u v w = w e f
 
-        in_other : j < others
-        in_other = omega (arith, so.other_in, more-other)
-
-        turning : Turned before s t i j n (next_of a b).claim (i + (next_of a b).one) (j + (next_of a b).other)
-        unfolding next_of
-        turning =
-            rw (← get_or-take count one i no_claim in_one, ← get_or-take others other j no_claim in_other)
-            (go (before x y) refl (before y x) refl (walk_first before s t so.walked no_claim h g) (walk_second before s t so.walked no_claim h g)
-            (walk_same before s t so.walked no_claim h g))
-          where
-            x : Claim
-            x = get_or s i no_claim
-
-            y : Claim
-            y = get_or t j no_claim
-
-            h : i < length s
-            h = omega (arith, in_one, long_one)
-
-            g : j < length t
-            g = omega (arith, in_other, long_other)
-
-            go : (p : Bool) → before x y ≡ p → (q : Bool) → before y x ≡ q → (before x y ≡ true → Turned before s t i j n x (i + 1) j)
-                → (before x y ≡ false → before y x ≡ true → Turned before s t i j n y i (j + 1))
-                → (before x y ≡ false → before y x ≡ false → Turned before s t i j n x (i + 1) (j + 1))
-                → let r : Next = cond p (record { claim = x; one = 1; other = 0 }) (cond q (record { claim = y; one = 0; other = 1 }) (record { claim = x; one = 1; other = 1 })) in
-                Turned before s t i j n r.claim (i + r.one) (j + r.other)
-            go true e q f u v w = let same : j + 0 ≡ j = omega arith in rw same (u e)
-            go false e true f u v w = let same : i + 0 ≡ i = omega arith in rw same (v e f)
-            go false e false f u v w = w e f
-
-        pub merging_on : {r : Next} → r ≡ next_of a b → Merging one count other others (set places n r.claim) (i + r.one) (j + r.other) (n + 1)
-        merging_on {r} told =
-            let rest : List Claim = merged before (drop (i + r.one) s) (drop (j + r.other) t) in
-            let turn : Turned before s t i j n r.claim (i + r.one) (j + r.other) = rw told turning in
-            let cut : take (table_limit - n) (r.claim ∷ rest) ≡ r.claim ∷ take (table_limit - (n + 1)) rest =
-            take_next r.claim rest (table_limit - n) (table_limit - (n + 1)) (omega arith) in
-            record {
-              walked = turn.walked;
-              one_in = omega (arith, turn.walked.left_in, long_one);
-              other_in = omega (arith, turn.walked.right_in, long_other);
-              few = omega arith;
-              long = length-set places n r.claim ∙ so.long;
-              left = put_at_cons places n r.claim (take (table_limit - (n + 1)) rest) (omega (arith, so.long)) ∙ (rw (← cut, ← turn.here) so.left);
-            }
-
-      -- .. and the end: one table is done, and what is left of the other follows as far as there are places; or there are none
-      merging_end : (length s ≤ i) ⊎ (length t ≤ j) → (rest : List Claim) → drop i s ++ drop j t ≡ rest → {new : List Claim} {c : ℕ}
-          → CopiedBehind places n (take (table_limit - n) rest) new c → Enlisted (blanks table_limit) (tables_in s t) new c
-      unfolding tables_in
-      merging_end done rest e copied =
-          let follows : merged before (drop i s) (drop j t) ≡ rest = walk_end before s t i j done ∙ e in
+      pub merging_on : {x : Claim} {i' j' : ℕ} → x ≡ cond (before b a) b a → i' ≡ i + bool_byte (not (before b a)) → j' ≡ j + bool_byte (not (before a b))
+          → Merging one other (set places n x) i' j' (n + 1)
+      merging_on {x} {i'} {j'} e f g =
+          let turn : Turned before one other i j n x i' j' = turning e f g in
+          let rest : List Claim = merged before (drop i' one) (drop j' other) in
+          let cut : take (table_limit - n) (x ∷ rest) ≡ x ∷ take (table_limit - (n + 1)) rest =
+          take_next x rest (table_limit - n) (table_limit - (n + 1)) (omega arith) in
           record {
-            places = copied.places ∙ (rw (← follows) so.left);
-            many = omega (arith, copied.many, so.few, so.walked.counted, ap length follows, length-take (table_limit - n) rest, length-take table_limit (merged before s t));
+            walked = turn.walked;
+            few = omega arith;
+            long = length-set places n x ∙ so.long;
+            left = put_at_cons places n x (take (table_limit - (n + 1)) rest) (omega (arith, so.long)) ∙ (rw (← cut, ← turn.here) so.left);
           }
 
-      pub merging_one_done : i ≡ count → {new : List Claim} {c : ℕ}
-          → CopiedBehind places n (take (min (others - j) (table_limit - n)) (drop j other)) new c → Enlisted (blanks table_limit) (tables_in s t) new c
-      merging_one_done e copied =
-          let past : length s ≤ i = omega (arith, long_one) in
-          merging_end (inl past) (drop j t) (rw (drop_of_length-le s past))
-          (rw (cut_rest other others j (table_limit - n)) copied)
+    -- .. and the end: one table is done, and what is left of the other follows as far as there are places; or there are none
+    merging_end : (length one ≤ i) ⊎ (length other ≤ j) → (rest : List Claim) → drop i one ++ drop j other ≡ rest → {new : List Claim} {c : ℕ}
+        → CopiedBehind places n (take (table_limit - n) rest) new c → Enlisted (blanks table_limit) (tables_in one other) new c
+    unfolding tables_in
+    merging_end done rest e copied =
+        let follows : merged before (drop i one) (drop j other) ≡ rest = walk_end before one other i j done ∙ e in
+        record {
+          places = copied.places ∙ (rw (← follows) so.left);
+          many =
+              let cut = length-take table_limit (merged before one other) in
+              omega (arith, copied.many, so.few, so.walked.counted, ap length follows, length-take (table_limit - n) rest, cut);
+        }
 
-      pub merging_other_done : j ≡ others → {new : List Claim} {c : ℕ}
-          → CopiedBehind places n (take (min (count - i) (table_limit - n)) (drop i one)) new c → Enlisted (blanks table_limit) (tables_in s t) new c
-      merging_other_done e copied =
-          let past : length t ≤ j = omega (arith, long_other) in
-          merging_end (inr past) (drop i s) (rw (drop_of_length-le t past, append-nil (drop i s)))
-          (rw (cut_rest one count i (table_limit - n)) copied)
+    pub merging_one_done : i ≡ length one → {new : List Claim} {c : ℕ}
+        → CopiedBehind places n (take (table_limit - n) (take (length other - j) (drop j other))) new c
+        → Enlisted (blanks table_limit) (tables_in one other) new c
+    merging_one_done e copied =
+        let past : length one ≤ i = omega arith in
+        merging_end (inl past) (take (length other - j) (drop j other)) (rw (drop_of_length-le one past) (sym (slice_rest other j))) copied
 
-      pub merging_full : table_limit ≤ n → Enlisted (blanks table_limit) (tables_in s t) places n
-      unfolding tables_in
-      merging_full h =
-          let none : take (table_limit - n) (merged before (drop i s) (drop j t)) ≡ [] = take_none (merged before (drop i s) (drop j t)) (table_limit - n) (omega arith) in
-          record {
-            places = sym (put_at_nil places n) ∙ (rw (← none) so.left);
-            many = omega (arith, so.few, so.walked.counted, length-take table_limit (merged before s t));
-          }
+    pub merging_other_done : j ≡ length other → {new : List Claim} {c : ℕ}
+        → CopiedBehind places n (take (table_limit - n) (take (length one - i) (drop i one))) new c
+        → Enlisted (blanks table_limit) (tables_in one other) new c
+    merging_other_done e copied =
+        let past : length other ≤ j = omega arith in
+        merging_end (inr past) (take (length one - i) (drop i one)) (rw (drop_of_length-le other past, append-nil (drop i one)) (sym (slice_rest one i))) copied
+
+    pub merging_full : table_limit ≤ n → Enlisted (blanks table_limit) (tables_in one other) places n
+    unfolding tables_in
+    merging_full h =
+        let none : take (table_limit - n) (merged before (drop i one) (drop j other)) ≡ [] =
+        take_none (merged before (drop i one) (drop j other)) (table_limit - n) (omega arith) in
+        record {
+          places = sym (put_at_nil places n) ∙ (rw (← none) so.left);
+          many = omega (arith, so.few, so.walked.counted, length-take table_limit (merged before one other));
+        }
 
 -- ---- two nodes: k keys are what merging their keys makes, and the run holds `after`
 
@@ -221,34 +172,31 @@ capped_take : {A : Type 0} (l : List A) (k most : ℕ) {c : ℕ} → length l �
 capped_take l k most whole e =
     rw e (sym (take_least most k l) ∙ take_all most (take k l) (omega (arith, whole, length-take k l)))
 
--- a part that is lent on is as long as it says
-pub part_long : (l : List ℕ) (k : ℕ) {c : ℕ} → c ≡ min k (length l) → c ≡ length (take c l)
-part_long l k {c} e = sym (length-take-le c l (omega (arith, e)))
-
-module _ (one other run₀ after : List ℕ) (first second : Rest) {own brought : ℕ} (part-one : own ≡ min first.held (length one))
-    (part-other : brought ≡ min second.held (length other)) {k : ℕ} (counted : k ≡ length (merged ltb (take own one) (take brought other)))
+module _ (one other run₀ after : List ℕ) (first second : Beside) {own brought : ℕ} (part_one : own ≡ min first.held (length one))
+    (part_other : brought ≡ min second.held (length other)) {k : ℕ} (counted : k ≡ length (merged ltb (take own one) (take brought other)))
     (run : after ≡ merged_in (take own one) (take brought other) run₀) where
   abbrev joining : Taken
-  joining = join_in (node_held one first) (node_held other second) run₀
+  joining = join_in (node_held one (rest_given first)) (node_held other (rest_given second)) run₀
 
   cut_one : take own one ≡ take first.held one
-  cut_one = capped_take one first.held (length one) refl part-one
+  cut_one = capped_take one first.held (length one) refl part_one
 
   cut_other : take brought other ≡ take second.held other
-  cut_other = capped_take other second.held (length other) refl part-other
+  cut_other = capped_take other second.held (length other) refl part_other
 
-  pub join_eight : limit < k → taken_with after (record { number = 8; held = first.held; table = first.table; count = first.count }) ≡ joining
+  pub join_eight : limit < k → taken_beside after (rest_by first (Err UnionBeyondLimit)) ≡ joining
   unfolding join_in
   join_eight h = rw (← cut_one, ← cut_other, ← run, ← counted, lt-leb k limit h)
 
-  pub join_done : k ≤ limit → length first.table ≡ table_limit → length second.table ≡ table_limit
-      → {c d : ℕ} → c ≡ min first.count table_limit → d ≡ min second.count table_limit → {table : List Claim} {listed : ℕ}
-      → Enlisted (blanks table_limit) (tables_in (take c first.table) (take d second.table)) table listed
-      → taken_with after (record { number = 0; held = k; table = table; count = listed }) ≡ joining
+  pub join_done : k ≤ limit → {c d : ℕ} → c ≡ min first.pending.count (length first.pending.claims)
+      → d ≡ min second.pending.count (length second.pending.claims) → {t : Table}
+      → Enlisted (blanks table_limit) (tables_in (take c first.pending.claims) (take d second.pending.claims)) t.claims t.count
+      → taken_beside after (rest_by first (Ok (record { held = k; pending = t }))) ≡ joining
   unfolding join_in
-  join_done h whole whole' e f {table} {listed} l =
-      let t : List Claim = tables_in (take first.count first.table) (take second.count second.table) in
-      let same = ap₂ tables_in (capped_take first.table first.count table_limit whole e) (capped_take second.table second.count table_limit whole' f) in
-      let places : table ≡ put_at (blanks table_limit) 0 t = l.places ∙ ap (put_at (blanks table_limit) 0) same in
-      let many : listed ≡ length t = l.many ∙ ap length same in
+  join_done h e f {t} l =
+      let all : List Claim = tables_in (take first.pending.count first.pending.claims) (take second.pending.count second.pending.claims) in
+      let same = ap₂ tables_in (capped_take first.pending.claims first.pending.count (length first.pending.claims) refl e)
+      (capped_take second.pending.claims second.pending.count (length second.pending.claims) refl f) in
+      let places : t.claims ≡ put_at (blanks table_limit) 0 all = l.places ∙ ap (put_at (blanks table_limit) 0) same in
+      let many : t.count ≡ length all = l.many ∙ ap length same in
       rw (← cut_one, ← cut_other, ← run, ← counted, le-leb k limit h, ← places, ← many)

@@ -30,9 +30,8 @@ use Rattle.claims.proofs.LentLaws.{hear_in_judged, hear_in_fits, hear_in_full}
 use Rattle.rule.specs.Table.{table_limit, before, climbs_from, climbs, insert_claim, table_with}
 use Rattle.rule.specs.Call.{take_questions, taken}
 use Rattle.rule.specs.declared.node.Node.{Node}
-use Rattle.rule.specs.declared.answer.Rest.{Rest}
-use Rattle.rule.specs.declared.answer.Taken.{Taken}
-use Rattle.rule.specs.Node.{blanks, pending_of, node_keys, node_of, telling, saved_in_order}
+use Rattle.rule.specs.Answer.{Rest, Taken}
+use Rattle.rule.specs.Node.{blanks, table_by, pending_of, node_keys, node_of, telling, saved_in_order}
 use Rattle.rule.proofs.TableLaws.{before_trans, before_total, climbs_from_climbs}
 use Rattle.rule.proofs.NodeLaws.{Ordered, ordered_node_in_order, length_telling, length_blanks, blanks_append, blanks_all_unused, drop_blanks, pending_of_node_of}
 use Rattle.rule.proofs.CallLaws.{take_questions_yes, take_questions_6, taken_done, taken_refused, ordered_taken, length_pending_of}
@@ -41,12 +40,12 @@ use Rattle.nodes.specs.Lent.{rest_of, front_in, left_out, rest_left, admit_in, h
 -- ---- what an image holds, admitted
 
 module _ (l : List ℕ) (t : List Claim) (few : length t ≤ table_limit) where
-  judged_is : front_in l (node_of l t).pending (node_of l t).count ≡ saved_in_order (node_of l t)
+  judged_is : front_in l (node_of l t).pending.claims (node_of l t).pending.count ≡ saved_in_order (node_of l t)
   unfolding node_of
   judged_is = rw (le-leb (length t) table_limit few, take-append_seam t (blanks (table_limit - length t)))
 
   -- the claims that pass 16, and zeros
-  left_is : left_out (node_of l t).pending (node_of l t).count ≡ (node_of l (telling t)).pending
+  left_is : left_out (node_of l t).pending.claims (node_of l t).pending.count ≡ (node_of l (telling t)).pending.claims
   unfolding node_of
   left_is =
       let rest = blanks (table_limit - length t) in
@@ -237,8 +236,7 @@ take_in_kept n c = settle_kept (λ (t : Taken). t.number) (λ (t : Taken). t.nod
       number = 0;
       node = record {
         store = (hear_in n.store c).store;
-        pending = put_at n.pending 0 (table_in c (pending_of n));
-        count = length (table_in c (pending_of n));
+        pending = table_by (put_at n.pending.claims 0 (table_in c (pending_of n))) (length (table_in c (pending_of n)));
       };
     })
     (λ x. record { number = x; node = n }) refl (λ x. refl) (hear_in n.store c).number
@@ -255,20 +253,22 @@ length_insert_claim_ge c (d ∷ ds) = go (before d c) (same d c) (length_insert_
     go false true h = omega arith
     go false false h = omega arith
 
-module _ (n : Node) (whole : length n.pending ≡ table_limit) (o : Ordered n) where
+module _ (n : Node) (whole : length n.pending.claims ≡ table_limit) (o : Ordered n) where
   -- a table written over that of a node in order, and no shorter: the rest is blanks
-  pub put_at_blanks : (t : List Claim) → n.count ≤ length t → put_at n.pending 0 t ≡ t ++ blanks (table_limit - length t)
+  pub put_at_blanks : (t : List Claim) → n.pending.count ≤ length t → put_at n.pending.claims 0 t ≡ t ++ blanks (table_limit - length t)
   unfolding put_at
   put_at_blanks t h =
-      let past : drop n.count n.pending ≡ blanks (table_limit - n.count) =
-      blanks_all_unused (drop n.count n.pending) o.unused ∙ ap blanks (length-drop n.count n.pending ∙ ap (λ (m : ℕ). m - n.count) whole) in
-      let on : n.count + (length t - n.count) ≡ length t = omega arith in
-      let left : table_limit - n.count - (length t - n.count) ≡ table_limit - length t = omega arith in
+      let k = n.pending.count in
+      let places = n.pending.claims in
+      let past : drop k places ≡ blanks (table_limit - k) =
+      blanks_all_unused (drop k places) o.unused ∙ ap blanks (length-drop k places ∙ ap (λ (m : ℕ). m - k) whole) in
+      let on : k + (length t - k) ≡ length t = omega arith in
+      let left : table_limit - k - (length t - k) ≡ table_limit - length t = omega arith in
       ap (λ (l : List Claim). t ++ l)
-      (ap (λ (m : ℕ). drop m n.pending) (sym on)
-      ∙ (sym (drop-drop (length t - n.count) n.count n.pending)
-      ∙ (ap (λ (l : List Claim). drop (length t - n.count) l) past
-      ∙ (drop_blanks (length t - n.count) (table_limit - n.count) ∙ ap blanks left))))
+      (ap (λ (m : ℕ). drop m places) (sym on)
+      ∙ (sym (drop-drop (length t - k) k places)
+      ∙ (ap (λ (l : List Claim). drop (length t - k) l) past
+      ∙ (drop_blanks (length t - k) (table_limit - k) ∙ ap blanks left))))
 
   module _ (c : Claim) (sized : Sized n.store) where
     -- the store is that of its keys
@@ -276,15 +276,15 @@ module _ (n : Node) (whole : length n.pending ≡ table_limit) (o : Ordered n) w
     own_store = store_of_keys_of n.store sized o.store
 
     -- the table with the claim put in, laid out
-    table_is : put_at n.pending 0 (table_in c (pending_of n)) ≡ table_with c (pending_of n) ++ blanks (table_limit - length (table_with c (pending_of n)))
+    table_is : put_at n.pending.claims 0 (table_in c (pending_of n)) ≡ table_with c (pending_of n) ++ blanks (table_limit - length (table_with c (pending_of n)))
     table_is =
         let t = table_in_table_with c (pending_of n) o.table (length_pending_of n o) in
-        let few : n.count ≤ table_limit = o.count in
-        let many : length (pending_of n) ≡ n.count = length-take-le n.count n.pending (omega arith) in
+        let few : n.pending.count ≤ table_limit = o.count in
+        let many : length (pending_of n) ≡ n.pending.count = length-take-le n.pending.count n.pending.claims (omega arith) in
         let grown : length (pending_of n) ≤ length (insert_claim c (pending_of n)) = length_insert_claim_ge c (pending_of n) in
         let cut : length (table_with c (pending_of n)) ≡ min table_limit (length (insert_claim c (pending_of n))) =
         length-take table_limit (insert_claim c (pending_of n)) in
-        ap (λ (u : List Claim). put_at n.pending 0 u) t ∙ put_at_blanks (table_with c (pending_of n)) (omega arith)
+        ap (λ (u : List Claim). put_at n.pending.claims 0 u) t ∙ put_at_blanks (table_with c (pending_of n)) (omega arith)
 
     take_judged : (judged c ≡ 0 → ⊥) → take_in n c ≡ taken n c
     unfolding take_in taken judged
@@ -309,7 +309,7 @@ module _ (n : Node) (whole : length n.pending ≡ table_limit) (o : Ordered n) w
           let yes : first_no (take_questions n c) ≡ 0 =
           take_questions_6 n c o pass ∙ first_no_yes (question6 (ends c) l) [] (lt-ltb (length (insert_all (ends c) l)) (limit + 1) (omega arith)) in
           rw heard
-          ((λ i. record { number = 0; node = record { store = store_of (hear c l); pending = table_is i; count = many i } }) ∙ sym (taken_done n c yes))
+          ((λ i. record { number = 0; node = record { store = store_of (hear c l); pending = table_by (table_is i) (many i) } }) ∙ sym (taken_done n c yes))
 
       take_full : limit < length (with_ends c (node_keys n)) → take_in n c ≡ taken n c
       unfolding take_in

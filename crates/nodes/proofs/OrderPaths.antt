@@ -7,48 +7,34 @@ use mathlib.Core.List.{List, [], ◌∷◌}
 use Prim.Native.Nat.{ℕ, ◌+◌, ◌≤◌, ◌<◌}
 use native.Mathlib.Numerals.{add-one}
 use native.Mathlib.Omega.{arith}
-use borrow.Author.Tests.{le-ltb, le-leb, lt-leb, eqb-true, eq-eqb, ne_eqb, not-true, not-false}
+use borrow.Author.Tests.{le-ltb, le-leb, lt-leb, ne_eqb}
 use lib.Dec.{ltb, eqb}
-use lib.ListN.{length, take, drop, get_or, drop_of_length-le, length-take}
-use lib.Seq.{drop-cons, get_or-take, length-take-le, take-length}
+use lib.ListN.{length, take, drop, get_or, length-take}
+use lib.Seq.{drop-cons, take-length}
+use Rattle.std.proofs.Common.{Result, Ok, Err}
+use Rattle.std.specs.List.{list_all}
+use Rattle.std.specs.Result.{is_err}
 use Rattle.keys.specs.declared.lent.Place.{Place}
 use Rattle.keys.specs.Store.{limit, in_order, holds}
-use Rattle.keys.specs.Lent.{ordered_in, summed_in, place_in, store_by}
+use Rattle.keys.specs.Lent.{ordered_in, summed_in, place_in}
 use Rattle.keys.proofs.LentLaws.{summed_in_in_order, summed_in_ordered, ordered_in_all, place_in_ordered}
 use Rattle.claims.specs.declared.claim.Claim.{Claim}
 use Rattle.claims.specs.Claim.{no_claim}
 use Rattle.claims.specs.Reply.{ends, same}
 use Rattle.claims.specs.Question.{question16}
 use Rattle.claims.specs.Call.{judged_formerly}
+use Rattle.claims.specs.declared.refusal.Refusal.{Refusal}
+use Rattle.claims.specs.Refusal.{refusal_number, number_told}
+use Rattle.claims.proofs.RefusalLaws.{refusal_number_ne}
 use Rattle.claims.proofs.ClaimLaws.{same_claim}
 use Rattle.rule.specs.declared.node.Node.{Node}
 use Rattle.rule.specs.Table.{table_limit, before, climbs_from, climbs}
-use Rattle.rule.specs.Node.{holds_all, all_fit, all_tell, all_unused, saved_in_order, node_in_order}
+use Rattle.rule.specs.Node.{node_keys, pending_of, holds_all, all_fit, all_tell, all_unused, saved_in_order, node_in_order}
 use Rattle.rule.proofs.NodeLaws.{saved_in_order_node_of}
 use Rattle.rule.proofs.TableLaws.{before_total}
 use Rattle.nodes.specs.declared.order.Order.{Order}
-use Rattle.nodes.specs.Lent.{node_by, pending, order_of, front_in}
-use Rattle.nodes.proofs.LentLaws.{before_not_same}
-
--- ---- two claims compared
-
-module _ (c d : Claim) where
-  pub before_cnt : (c.cnt ≡ d.cnt → ⊥) → ltb c.cnt d.cnt ≡ before c d
-  before_cnt f = rw (ne_eqb c.cnt d.cnt f)
-
-  pub before_lo : c.cnt ≡ d.cnt → (c.lo ≡ d.lo → ⊥) → ltb c.lo d.lo ≡ before c d
-  before_lo e f = rw (eq-eqb c.cnt d.cnt e, ne_eqb c.lo d.lo f)
-
-  pub before_hi : c.cnt ≡ d.cnt → c.lo ≡ d.lo → (c.hi ≡ d.hi → ⊥) → ltb c.hi d.hi ≡ before c d
-  before_hi e g f = rw (eq-eqb c.cnt d.cnt e, eq-eqb c.lo d.lo g, ne_eqb c.hi d.hi f)
-
-  pub before_sum : c.cnt ≡ d.cnt → c.lo ≡ d.lo → c.hi ≡ d.hi → ltb c.sum d.sum ≡ before c d
-  before_sum e g h =
-      rw (eq-eqb c.cnt d.cnt e, eq-eqb c.lo d.lo g, eq-eqb c.hi d.hi h) (go (eqb c.sum d.sum) refl)
-    where
-      go : (t : Bool) → eqb c.sum d.sum ≡ t → ltb c.sum d.sum ≡ cond t false (ltb c.sum d.sum)
-      go true p = le-ltb c.sum d.sum (let q : c.sum ≡ d.sum = eqb-true c.sum d.sum p in omega arith)
-      go false p = refl
+use Rattle.nodes.specs.declared.order.Order.TheVariants.{Out, Given}
+use Rattle.nodes.specs.Lent.{pending, order_of, front_in}
 
 -- ---- the claim of zeros
 
@@ -81,27 +67,53 @@ judged_no_claim = refl
 
 -- ---- a claim that fits: the store, seen as a run of keys
 
--- what a test that was passed says
-pub tested_yes : (t u : Bool) → t ≡ u → not t ≡ false → u ≡ true
-tested_yes t u told e = sym told ∙ not-false t e
-
 module _ (keys : List ℕ) (held : ℕ) (c : Claim) (yes : ordered_in keys held ≡ true) where
   -- a place says whether its key is held
   held_place : (k : ℕ) (p : Place) → p ≡ place_in keys held k → holds k (take held keys) ≡ p.held
   held_place k p found = sym (ap (λ (x : Place). x.held) (found ∙ place_in_ordered keys held k yes))
 
-  module _ (n : ℕ) (number : n ≡ judged_formerly c) where
-    pub fits_judged : (n ≡ 0 → ⊥) → false ≡ (eqb (judged_formerly c) 0 && holds_all (ends c) (take held keys))
-    fits_judged f = rw (← number, ne_eqb n 0 f)
+  module _ (r : Result (Unit {0}) Refusal) (asked : number_told r ≡ judged_formerly c) where
+    pub fits_judged : is_err r ≡ true → false ≡ (eqb (judged_formerly c) 0 && holds_all (ends c) (take held keys))
+    fits_judged f = go r asked f
+      where
+        go : (s : Result (Unit {0}) Refusal) → number_told s ≡ judged_formerly c → is_err s ≡ true
+            → false ≡ (eqb (judged_formerly c) 0 && holds_all (ends c) (take held keys))
+        go (Ok u) e g = absurd (false≢true g)
+        go (Err x) e g = rw (← e, ne_eqb (refusal_number x) 0 (refusal_number_ne x))
 
-    module _ (pass : n ≡ 0) (p : Place) (lower : p ≡ place_in keys held c.lo) where
-      pub fits_lo : not p.held ≡ true → false ≡ (eqb (judged_formerly c) 0 && holds_all (ends c) (take held keys))
-      fits_lo e = rw (← number, eq-eqb n 0 pass, held_place c.lo p lower, not-true p.held e)
+    fits_held : is_err r ≡ false → (p q : Place) → p ≡ place_in keys held c.lo → q ≡ place_in keys held c.hi
+        → (p.held && q.held) ≡ (eqb (judged_formerly c) 0 && holds_all (ends c) (take held keys))
+    fits_held f p q lower upper = go r asked f
+      where
+        go : (s : Result (Unit {0}) Refusal) → number_told s ≡ judged_formerly c → is_err s ≡ false
+            → (p.held && q.held) ≡ (eqb (judged_formerly c) 0 && holds_all (ends c) (take held keys))
+        go (Ok u) e g = rw (← e, held_place c.lo p lower, held_place c.hi q upper, and-true)
+        go (Err x) e g = absurd (false≢true (sym g))
 
-      pub fits_hi : not p.held ≡ false → (q : Place) → q ≡ place_in keys held c.hi
-          → q.held ≡ (eqb (judged_formerly c) 0 && holds_all (ends c) (take held keys))
-      fits_hi e q upper =
-          rw (← number, eq-eqb n 0 pass, held_place c.lo p lower, not-false p.held e, and-true) (sym (held_place c.hi q upper))
+    module _ (f : is_err r ≡ false) (p q : Place) (lower : p ≡ place_in keys held c.lo) (upper : q ≡ place_in keys held c.hi) where
+      pub fits_hi : p.held ≡ true → q.held ≡ (eqb (judged_formerly c) 0 && holds_all (ends c) (take held keys))
+      fits_hi e = ap (λ (b : Bool). b && q.held) (sym e) ∙ fits_held f p q lower upper
+
+      pub fits_lo : p.held ≡ false → p.held ≡ (eqb (judged_formerly c) 0 && holds_all (ends c) (take held keys))
+      fits_lo e = e ∙ (ap (λ (b : Bool). b && q.held) (sym e) ∙ fits_held f p q lower upper)
+
+-- ---- an order, by what it is made of
+
+not_same : (t u : Bool) → not t ≡ not u → t ≡ u
+not_same true true e = refl
+not_same true false e = absurd (false≢true e)
+not_same false true e = absurd (false≢true (sym e))
+not_same false false e = refl
+
+given_both : (s t : Bool) → order_of s t ≡ Given → (s && t) ≡ true
+given_both true true e = refl
+given_both true false e = cc
+given_both false t e = cc
+
+given_not : (s t : Bool) → (order_of s t ≡ Given → ⊥) → (s && t) ≡ false
+given_not true true f = absurd (f refl)
+given_not true false f = refl
+given_not false t f = refl
 
 -- ---- the pending claims: they rise and fit if those from i on rise from above the last one and fit
 
@@ -121,102 +133,61 @@ pending_first (c ∷ cs) l = go (before no_claim c) refl
         let refused : judged_formerly c ≡ 3 = ap judged_formerly zeros ∙ judged_no_claim in
         rw (refused, and-false)
 
--- the next claim of the first `count` places
-pub drop_take_cons : (table : List Claim) (count i : ℕ) (d : Claim) → i < count → count ≤ length table
-    → drop i (take count table) ≡ get_or table i d ∷ drop (i + 1) (take count table)
-drop_take_cons table count i d h g =
-    rw (add-one, ← get_or-take count table i d h)
-    (drop-cons (take count table) i d (let n : length (take count table) ≡ count = length-take-le count table g in omega arith))
-
 -- Before claim i: all of them rise and fit exactly if those from i on rise from above `last` and fit, and all pass 16 exactly if none before i failed it and
 -- those from i on pass it.
-pub record Looking (table : List Claim) (count : ℕ) (l : List ℕ) (last : Claim) (i : ℕ) (given : Bool) : Type 0 where
-  pub passed : i ≤ count
-  pub left : pending (take count table) l ≡ pending_from last (drop i (take count table)) l
-  pub told : all_tell (take count table) ≡ (given && all_tell (drop i (take count table)))
+pub record Looking (t : List Claim) (l : List ℕ) (last : Claim) (i : ℕ) (given : Bool) : Type 0 where
+  pub left : pending t l ≡ pending_from last (drop i t) l
+  pub told : all_tell t ≡ (given && all_tell (drop i t))
 
 -- what the code is to return
-abbrev looked : List Claim → ℕ → List ℕ → Order
-looked table count l = order_of (pending (take count table) l) (all_tell (take count table))
+abbrev looked : List Claim → List ℕ → Order
+looked t l = order_of (pending t l) (all_tell t)
 
-pub looking_first : (table : List Claim) (count : ℕ) (l : List ℕ) → Looking table count l no_claim 0 true
-looking_first table count l = record { passed = omega arith; left = pending_first (take count table) l; told = refl }
+pub looking_first : (t : List Claim) (l : List ℕ) → Looking t l no_claim 0 true
+looking_first t l = record { left = pending_first t l; told = refl }
 
-module _ (table : List Claim) (count : ℕ) (l : List ℕ) (few : count ≤ table_limit) (whole : length table ≡ table_limit) {last : Claim} {i : ℕ} {given : Bool}
-    (k : Looking table count l last i given) where
-  module _ (inside : i < count) where
+module _ (t : List Claim) (l : List ℕ) {last : Claim} {i : ℕ} {given : Bool} (k : Looking t l last i given) where
+  module _ (inside : i < length t) where
     abbrev c : Claim
-    c = get_or table i no_claim
+    c = get_or t i no_claim
 
     abbrev rest : List Claim
-    rest = drop (i + 1) (take count table)
+    rest = drop (i + 1) t
 
-    next : drop i (take count table) ≡ c ∷ rest
-    next = drop_take_cons table count i no_claim inside (omega arith)
+    next : drop i t ≡ c ∷ rest
+    next = rw (add-one, drop-cons t i no_claim)
 
     -- by what the comparison said, and then the tests whether the claim fits and passes 16
-    module _ (rose : Bool) (compared : rose ≡ before last c) where
-      fallen : not rose ≡ true → pending (take count table) l ≡ false
-      fallen e = rw (k.left, next, ← compared, not-true rose e)
+    module _ (fell : Bool) (compared : fell ≡ not (before last c)) where
+      rose_is : {u : Bool} → fell ≡ not u → before last c ≡ u
+      rose_is {u} e = not_same (before last c) u (sym compared ∙ e)
 
-      pub looking_fall : not rose ≡ true → (r : Order) → r ≡ order_of false false → r ≡ looked table count l
-      looking_fall e r is = is ∙ rw (fallen e)
+      pub looking_fall : fell ≡ true → Out ≡ looked t l
+      looking_fall e =
+          let fallen : pending t l ≡ false = rw (k.left, next, rose_is {u = false} e) in
+          rw fallen
 
-      module _ (rises : not rose ≡ false) (fits : Bool) (tested : fits ≡ (eqb (judged_formerly c) 0 && holds_all (ends c) l)) where
+      module _ (rises : fell ≡ false) (fits : Bool) (tested : fits ≡ (eqb (judged_formerly c) 0 && holds_all (ends c) l)) where
         -- what is left to ask: this claim, and those behind it
-        left_is : pending (take count table) l ≡ (climbs_from c rest && (fits && all_fit rest l))
-        left_is =
-            rw (
-              k.left,
-              next,
-              ← compared,
-              not-false rose rises,
-              ← and_assoc (eqb (judged_formerly c) 0) (holds_all (ends c) l) (all_fit rest l),
-              ← tested,
-            )
+        left_is : pending t l ≡ (climbs_from c rest && (fits && all_fit rest l))
+        left_is = rw (k.left, next, rose_is {u = true} rises, ← and_assoc (eqb (judged_formerly c) 0) (holds_all (ends c) l) (all_fit rest l), ← tested)
 
-        pub looking_unfit : not fits ≡ true → (r : Order) → r ≡ order_of false false → r ≡ looked table count l
-        looking_unfit e r is =
-            let no : pending (take count table) l ≡ false = left_is ∙ rw (not-true fits e, and-false) in
-            is ∙ rw no
+        pub looking_unfit : fits ≡ false → Out ≡ looked t l
+        looking_unfit e =
+            let no : pending t l ≡ false = left_is ∙ rw (e, and-false) in
+            rw no
 
-        module _ (fit : not fits ≡ false) (tells : Bool) (asked : tells ≡ (question16 c).yes) where
-          pub looking_not : not tells ≡ true → Looking table count l c (i + 1) false
-          looking_not e = record {
-            passed = omega arith;
-            left = left_is ∙ rw (not-false fits fit);
-            told = k.told ∙ rw (next, ← asked, not-true tells e, and-false);
-          }
-
-          pub looking_on : not tells ≡ false → Looking table count l c (i + 1) given
-          looking_on e = record {
-            passed = omega arith;
-            left = left_is ∙ rw (not-false fits fit);
-            told = k.told ∙ rw (next, ← asked, not-false tells e);
-          }
-
-  pub looking_done : count ≤ i → record { saved = true; given = given } ≡ looked table count l
-  looking_done past =
-      let none : drop i (take count table) ≡ [] =
-      drop_of_length-le (take count table) {i = i} (omega (arith, length-take-le count table (omega arith))) in
-      rw (k.left, k.told, none, and-true given)
+        pub looking_on : fits ≡ true → (tells : Bool) → tells ≡ (question16 c).yes → Looking t l c (i + 1) (given && tells)
+        looking_on fit tells asked = record {
+          left = left_is ∙ rw (fit);
+          told = k.told ∙ (rw (next, ← asked) (sym (and_assoc given tells (all_tell rest))));
+        }
 
 -- ---- the unused places
 
-pub drop_next : (table : List Claim) (i : ℕ) (d : Claim) → i < length table → drop i table ≡ get_or table i d ∷ drop (i + 1) table
-drop_next table i d h = rw (add-one, drop-cons table i d)
-
-module _ (table : List Claim) (count i : ℕ) (left : all_unused (drop count table) ≡ all_unused (drop i table))
-    (c : Claim) (next : drop i table ≡ c ∷ drop (i + 1) table) where
-  pub unused_not : (t : Bool) → t ≡ before no_claim c → t ≡ true → false ≡ all_unused (drop count table)
-  unused_not t compared e = rw (left, next, before_not_same no_claim c (sym compared ∙ e))
-
-  pub unused_on : (t : Bool) → t ≡ before no_claim c → t ≡ false → all_unused (drop count table) ≡ all_unused (drop (i + 1) table)
-  unused_on t compared e = rw (left, next, before_no_claim_not c (sym compared ∙ e))
-
-pub unused_all : (table : List Claim) (count i : ℕ) → all_unused (drop count table) ≡ all_unused (drop i table)
-    → length table ≤ i → true ≡ all_unused (drop count table)
-unused_all table count i left h = rw (left, drop_of_length-le table)
+pub unused_all : (t : List Claim) → list_all (λ (c : Claim). same c no_claim) t ≡ all_unused t
+unused_all [] = refl
+unused_all (d ∷ ds) = ap (λ (b : Bool). same d no_claim && b) (unused_all ds)
 
 -- ---- the node, by what was found of its parts
 
@@ -224,50 +195,43 @@ and_swap : (a b c : Bool) → ((a && b) && c) ≡ ((a && c) && b)
 and_swap true b c = and_comm b c
 and_swap false b c = refl
 
-module _ (keys sums : List ℕ) (held : ℕ) (table : List Claim) (count : ℕ) (long : length keys ≡ limit)
-    (ordered : Bool) (tested : ordered ≡ summed_in keys sums held) where
-  -- the node, which is in order if it is as one in an image and its claims pass 16
-  abbrev node : Node
-  node = node_by keys sums held table count
-
-  tested_store : in_order (store_by keys sums held) ≡ ordered
-  tested_store = sym (tested ∙ summed_in_in_order (store_by keys sums held) long)
+module _ (n : Node) (long : length n.store.keys ≡ limit) (ordered : Bool) (tested : ordered ≡ summed_in n.store.keys n.store.sums n.store.count) where
+  tested_store : in_order n.store ≡ ordered
+  tested_store = sym (tested ∙ summed_in_in_order n.store long)
 
   -- the keys by themselves pass too
-  pub ordered_keys : not ordered ≡ false → ordered_in keys held ≡ true
-  ordered_keys e = summed_in_ordered keys sums held (sym tested ∙ not-false ordered e)
+  pub ordered_keys : ordered ≡ true → ordered_in n.store.keys n.store.count ≡ true
+  ordered_keys e = summed_in_ordered n.store.keys n.store.sums n.store.count (sym tested ∙ e)
 
-  pub ordered_store : not ordered ≡ true → false ≡ node_in_order node
+  pub ordered_store : ordered ≡ false → false ≡ node_in_order n
   unfolding node_in_order saved_in_order
-  ordered_store e = rw (tested_store, not-true ordered e)
+  ordered_store e = rw (tested_store, e)
 
-  module _ (yes : not ordered ≡ false) where
-    pub ordered_count : table_limit < count → false ≡ node_in_order node
+  module _ (yes : ordered ≡ true) where
+    pub ordered_count : table_limit < n.pending.count → false ≡ node_in_order n
     unfolding node_in_order saved_in_order
-    ordered_count h = rw (tested_store, not-false ordered yes, lt-leb count table_limit h)
+    ordered_count h = rw (tested_store, yes, lt-leb n.pending.count table_limit h)
 
-    module _ (few : count ≤ table_limit) (found : Order) (told : found ≡ looked table count (take held keys)) where
+    module _ (few : n.pending.count ≤ table_limit) (found : Order) (told : found ≡ looked (pending_of n) (node_keys n)) where
       -- what is left to ask: the pending claims, 16 with them, and the unused places
-      left_to_ask : node_in_order node ≡ (found.given && all_unused (drop count table))
+      left_to_ask : node_in_order n ≡ ((pending (pending_of n) (node_keys n) && all_tell (pending_of n)) && all_unused (drop n.pending.count n.pending.claims))
       unfolding node_in_order saved_in_order
       left_to_ask =
-          let pends = pending (take count table) (take held keys) in
-          let tells = all_tell (take count table) in
-          let blank = all_unused (drop count table) in
+          let blank = all_unused (drop n.pending.count n.pending.claims) in
           rw (
             tested_store,
-            not-false ordered yes,
-            le-leb count table_limit few,
-            ← and_assoc (climbs (take count table)) (all_fit (take count table) (take held keys)) blank,
-            ap (λ (o : Order). o.given) told,
+            yes,
+            le-leb n.pending.count table_limit few,
+            ← and_assoc (climbs (pending_of n)) (all_fit (pending_of n) (node_keys n)) blank,
           )
-          (and_swap pends blank tells)
+          (and_swap (pending (pending_of n) (node_keys n)) blank (all_tell (pending_of n)))
 
-      pub ordered_pending : not found.given ≡ true → false ≡ node_in_order node
-      ordered_pending e = sym (left_to_ask ∙ rw (not-true found.given e))
+      -- the claims are as those that are given, or not
+      pub ordered_given : found ≡ Given → (blank : Bool) → blank ≡ all_unused (drop n.pending.count n.pending.claims) → blank ≡ node_in_order n
+      ordered_given e blank f = f ∙ sym (left_to_ask ∙ rw (given_both (pending (pending_of n) (node_keys n)) (all_tell (pending_of n)) (sym told ∙ e)))
 
-      pub ordered_unused : not found.given ≡ false → (blank : Bool) → blank ≡ all_unused (drop count table) → blank ≡ node_in_order node
-      ordered_unused e blank f = f ∙ sym (left_to_ask ∙ rw (not-false found.given e))
+      pub ordered_not : (found ≡ Given → ⊥) → false ≡ node_in_order n
+      ordered_not f = sym (left_to_ask ∙ rw (given_not (pending (pending_of n) (node_keys n)) (all_tell (pending_of n)) (λ e. f (told ∙ e))))
 
 -- ---- the node of some keys and claims, as one in an image
 
@@ -275,9 +239,6 @@ module _ (keys : List ℕ) (table : List Claim) (count : ℕ) where
   -- what the code is to return
   abbrev fronted : Order
   fronted = order_of (front_in keys table count) (all_tell (take count table))
-
-  pub front_count : table_limit < count → (r : Order) → r ≡ order_of false false → r ≡ fronted
-  front_count h r is = is ∙ rw (lt-leb count table_limit h)
 
   module _ (few : count ≤ table_limit) (ordered : Bool) (tested : ordered ≡ ordered_in keys (length keys)) where
     -- what is left to ask: the keys and the claims
@@ -292,12 +253,9 @@ module _ (keys : List ℕ) (table : List Claim) (count : ℕ) where
           le-leb (length (take count table)) table_limit short,
         )
 
-    pub front_store : not ordered ≡ true → (r : Order) → r ≡ order_of false false → r ≡ fronted
-    front_store e r is = is ∙ rw (front_is, not-true ordered e)
+    pub front_store : ordered ≡ false → Out ≡ fronted
+    front_store e = rw (front_is, e)
 
-    pub front_pending : not ordered ≡ false → (r : Order) → r ≡ order_of (pending (take count table) (take (length keys) keys)) (all_tell (take count table)) → r ≡ fronted
-    front_pending e r is = is ∙ rw (take-length keys, front_is, not-false ordered e)
-
--- nothing pending beside keys in order
-pub front_none : (keys : List ℕ) (table : List Claim) → ordered_in keys (length keys) ≡ true → front_in keys table 0 ≡ true
-front_none keys table e = front_is keys table 0 (omega arith) true (sym e)
+    pub front_pending : ordered ≡ true → (r : Order)
+        → r ≡ order_of (pending (take count table) (take (length keys) keys)) (all_tell (take count table)) → r ≡ fronted
+    front_pending e r is = is ∙ rw (take-length keys, front_is, e)

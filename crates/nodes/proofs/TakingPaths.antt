@@ -3,16 +3,18 @@
 use mathlib.Core.Path.{◌≡◌, refl, sym, ◌∙◌, ap}
 use mathlib.Core.Bool.{Bool, true, false, cond, not}
 use mathlib.Core.Logic.{⊎_elim}
-use mathlib.Core.List.{List, [], ◌∷◌, append_assoc}
+use mathlib.Core.List.{List, [], ◌∷◌, ◌++◌, append_assoc}
 use Prim.Native.Nat.{ℕ, zero, suc, ◌+◌, ◌-◌, ◌/◌, ◌≤◌, ◌<◌, min}
 use native.Mathlib.Omega.{arith}
-use borrow.Author.Tests.{lt-ltb, le-ltb, eqb-false, eq-eqb, ne_eqb, not-true, not-false}
+use borrow.Author.Tests.{lt-ltb, le-ltb, eqb-false, eq-eqb, ne_eqb}
 use lib.Dec.{eqb}
 use lib.ListN.{length, take, drop, get_or, length-append, length-take, length-drop, take-append-drop}
 use lib.Seq.{get_or-take, length-take-le, take-take, take_all, take-nil, take_at}
 use Rattle.keys.proofs.SumLaws.{renewed_grown}
+use Rattle.keys.specs.declared.lent.Added.{Added}
 use Rattle.keys.specs.Lent.{inserted_at, store_with, renewed_from, store_by}
 use Rattle.keys.specs.declared.store.Store.{Store}
+use Rattle.std.proofs.Common.{Result, Ok, Err}
 use Rattle.keys.specs.Store.{limit, Sized, store_of}
 use Rattle.keys.specs.Place.{put_at}
 use Rattle.keys.proofs.Tests.{lt_or_le, eq_or_ne}
@@ -21,15 +23,18 @@ use Rattle.claims.specs.declared.claim.Claim.{Claim}
 use Rattle.claims.specs.Claim.{no_claim}
 use Rattle.claims.specs.Question.{first_no}
 use Rattle.claims.specs.Reply.{hear}
-use Rattle.claims.specs.declared.lent.Heard.{Heard}
+use Rattle.claims.specs.declared.refusal.Refusal.{Refusal}
+use Rattle.claims.specs.declared.refusal.Refusal.TheVariants.{OutOfOrder}
+use Rattle.claims.specs.Refusal.{refusal_number, value_told}
+use Rattle.claims.proofs.RefusalLaws.{refusal_number_ne}
 use Rattle.claims.specs.Lent.{Hearing, hearing_with, hear_in}
 use Rattle.claims.proofs.ReplyLaws.{hear_fits, length_hear_ge}
 use Rattle.claims.proofs.LentLaws.{hear_in_kept}
 use Rattle.rule.specs.Table.{table_limit, before}
 use Rattle.rule.specs.Call.{take_questions, taken}
 use Rattle.rule.specs.declared.node.Node.{Node}
-use Rattle.rule.specs.declared.answer.Rest.{Rest}
-use Rattle.rule.specs.declared.answer.Taken.{Taken}
+use Rattle.rule.specs.declared.node.Table.{Table}
+use Rattle.rule.specs.Answer.{Taken, taken_by}
 use Rattle.rule.specs.Node.{node_keys, node_of, node_in_order}
 use Rattle.rule.proofs.NodeLaws.{Ordered, node_in_order_ordered}
 use Rattle.rule.proofs.CallLaws.{take_questions_yes, taken_done, taken_refused, length_node_keys}
@@ -71,21 +76,11 @@ module _ (t : List Claim) (c : Claim) where
   halved_to_down base (suc n) h e =
       rw (ne_eqb (suc n) 0 (λ (z : suc n ≡ 0). omega arith), e) (halved_to_fuel n (suc n / 2) base (suc n / 2) (omega arith) (omega arith))
 
-pub place_among_take : (table : List Claim) (count : ℕ) (c : Claim) → count ≤ length table
-    → place_among c (take count table) ≡ halved_to count (take count table) c 0 count
+pub place_among_start : (t : List Claim) (c : Claim) → place_among c t ≡ halved_to (length t) t c 0 (length t)
 unfolding place_among
-place_among_take table count c h = rw (length-take-le count table h)
+place_among_start t c = refl
 
--- ---- `is_at`
-
-module _ (table : List Claim) (count at : ℕ) (c : Claim) (fits : count ≤ length table) where
-  pub is_at_past : count ≤ at → false ≡ is_at at c (take count table)
-  is_at_past h = rw (length-take-le count table fits, le-ltb at count h)
-
-  pub is_at_before : at < count → (b : Bool) → b ≡ before c (get_or table at no_claim) → not b ≡ is_at at c (take count table)
-  is_at_before h b e = rw (length-take-le count table fits, lt-ltb at count h, get_or-take count table at no_claim h, e)
-
--- ---- `put`
+-- ---- `put`: the claims with one more
 
 -- what stands from p on within the first n
 pub drop_take : {A : Type 0} (p n : ℕ) (l : List A) → drop p (take n l) ≡ take (n - p) (drop p l)
@@ -103,7 +98,7 @@ inserted_at_placed_at table count at c h g =
     rw (long, take-take at count table h, drop_take at count table)
     (sym (append_assoc (take at table) (c ∷ take (count - at) (drop at table)) (drop (count + 1) table)))
 
--- ---- `enlist_at` and `enlist`
+-- ---- `enlist`
 
 -- one claim more, cut off behind the place
 take_placed_at : (m p : ℕ) (c : Claim) (t : List Claim) → p ≤ m → take (suc m) (placed_at p c t) ≡ placed_at p c (take m t)
@@ -119,79 +114,99 @@ take_least m n l = ⊎_elim {C = take m (take n l) ≡ take (min n m) l}
     (λ (h : n ≤ m). let e : min n m ≡ n = omega arith in rw e (take_all m (take n l) (omega (arith, length-take n l))))
     (lt_or_le m n)
 
-module _ (table : List Claim) (count at : ℕ) (c : Claim) (whole : length table ≡ table_limit) (below : at ≤ count) (short : count ≤ table_limit) where
-  length_pending : length (take count table) ≡ count
-  length_pending = length-take-le count table (omega arith)
+module _ (table : List Claim) (count : ℕ) (c : Claim) (whole : length table ≡ table_limit) {known at : ℕ} (cut : known ≡ min count table_limit)
+    (place : at ≡ place_among c (take known table)) (inside : at ≤ length (take known table)) where
+  -- the claims that are pending
+  abbrev t : List Claim
+  t = take count table
+
+  below : at ≤ known
+  below = omega (arith, inside, length-take known table)
+
+  same : take known table ≡ t
+  same =
+      ap (λ (j : ℕ). take j table) cut
+      ∙ (sym (take_least table_limit count table)
+      ∙ take_all table_limit t (omega (arith, length-take count table)))
+
+  long : length t ≡ known
+  long = ap length (sym same) ∙ length-take-le known table (omega arith)
+
+  listed : table_in c t ≡ placed_in at c t
+  unfolding table_in
+  listed = ap (λ (p : ℕ). placed_in p c t) (sym (place ∙ ap (place_among c) same))
 
   -- nothing is put in
-  enlisted_same : placed_in at c (take count table) ≡ take count table → Enlisted table (placed_in at c (take count table)) table count
+  enlisted_same : placed_in at c t ≡ t → Enlisted table (table_in c t) table known
   unfolding put_at
-  enlisted_same e = rw e (record { places = rw length_pending (sym (take-append-drop count table)); many = sym length_pending })
+  enlisted_same e =
+      let whole_again : t ++ drop known table ≡ table = ap (λ (l : List Claim). l ++ drop known table) (sym same) ∙ take-append-drop known table in
+      rw (listed, e) (record { places = rw long (sym whole_again); many = sym long })
 
-  pub enlisted_held : (t : Bool) → t ≡ is_at at c (take count table) → t ≡ true → Enlisted table (placed_in at c (take count table)) table count
-  enlisted_held t told e = enlisted_same (rw (← told, e))
+  -- a 65th claim that comes last
+  pub enlisted_last : at ≡ table_limit → Enlisted table (table_in c t) table known
+  enlisted_last e =
+      let past : is_at at c t ≡ false = rw (le-ltb at (length t) (omega (arith, below, long))) in
+      let n : length (take at t) ≡ table_limit = length-take-le at t (omega (arith, below, long)) ∙ e in
+      enlisted_same (rw (past, take_at (take at t) (c ∷ drop at t) table_limit n) (take_all at t (omega (arith, below, long))))
 
-  module _ (t : Bool) (told : t ≡ is_at at c (take count table)) (no : t ≡ false) where
-    other : is_at at c (take count table) ≡ false
-    other = sym told ∙ no
+  -- what the claim at the place was found to be: `told` says whether it does not come after
+  module _ (held : at < known) {told : Bool} (compared : told ≡ not (before c (get_or table at no_claim))) where
+    is_at_told : is_at at c t ≡ told
+    is_at_told =
+        let there : get_or t at no_claim ≡ get_or table at no_claim =
+        ap (λ (l : List Claim). get_or l at no_claim) (sym same) ∙ get_or-take known table at no_claim held in
+        rw (lt-ltb at (length t) (omega (arith, below, long)), there, ← compared)
 
-    -- a 65th claim that comes last
-    pub enlisted_last : at ≡ table_limit → Enlisted table (placed_in at c (take count table)) table count
-    enlisted_last e =
-        let n : length (take at (take count table)) ≡ table_limit = length-take-le at (take count table) (omega (arith, length_pending)) ∙ e in
-        enlisted_same
-        (rw (other, take_at (take at (take count table)) (c ∷ drop at (take count table)) table_limit n)
-        (take_all at (take count table) (omega (arith, length_pending))))
+    pub enlisted_held : told ≡ true → Enlisted table (table_in c t) table known
+    enlisted_held e = enlisted_same (rw (is_at_told, e))
 
-    pub enlisted_put : (at ≡ table_limit → ⊥) → (kept : ℕ) → kept ≡ min count (table_limit - 1) → (moved : List Claim)
-        → moved ≡ put_at table 0 (placed_at at c (take kept table)) → Enlisted table (placed_in at c (take count table)) moved (kept + 1)
-    enlisted_put h kept k moved m =
-        let cut : placed_in at c (take count table) ≡ placed_at at c (take kept table) =
-        rw other (take_placed_at (table_limit - 1) at c (take count table) (omega arith)
-        ∙ ap (λ (l : List Claim). placed_at at c l) (take_least (table_limit - 1) count table ∙ ap (λ (j : ℕ). take j table) (sym k))) in
-        let long : length (placed_at at c (take kept table)) ≡ kept + 1 = simp (length-append, length-take, length-drop) (omega arith) in
-        rw cut (record { places = m; many = sym long })
+    pub other_held : told ≡ false → is_at at c t ≡ false
+    other_held e = is_at_told ∙ e
 
-pub enlisted_found : (table : List Claim) (count known at : ℕ) (c : Claim) (new : List Claim) (n : ℕ) → length table ≡ table_limit → known ≡ min count table_limit
-    → at ≡ place_among c (take known table) → Enlisted table (placed_in at c (take known table)) new n → Enlisted table (table_in c (take count table)) new n
-unfolding table_in
-enlisted_found table count known at c new n whole k e put =
-    let same : take known table ≡ take count table =
-    ap (λ (j : ℕ). take j table) k
-    ∙ (sym (take_least table_limit count table)
-    ∙ take_all table_limit (take count table) (omega (arith, length-take count table))) in
-    rw (← same, ← e) put
+  pub other_past : known ≤ at → is_at at c t ≡ false
+  other_past h = rw (le-ltb at (length t) (omega (arith, below, long)))
+
+  pub enlisted_put : (at ≡ table_limit → ⊥) → is_at at c t ≡ false → {kept : ℕ} → kept ≡ min known (table_limit - 1) → {moved : List Claim}
+      → moved ≡ inserted_at at kept c table → Enlisted table (table_in c t) moved (kept + 1)
+  enlisted_put h other {kept} k {moved} m =
+      let few : take (table_limit - 1) t ≡ take kept table =
+      ap (take (table_limit - 1)) (sym same) ∙ (take_least (table_limit - 1) known table ∙ ap (λ (j : ℕ). take j table) (sym k)) in
+      let cut_off : placed_in at c t ≡ placed_at at c (take kept table) =
+      rw other (take_placed_at (table_limit - 1) at c t (omega (arith, below)) ∙ ap (placed_at at c) few) in
+      let many : length (placed_at at c (take kept table)) ≡ kept + 1 = simp (length-append, length-take, length-drop) (omega (arith, below)) in
+      rw (listed, cut_off) (record { places = m ∙ inserted_at_placed_at table kept at c (omega (arith, below)) (omega (arith, below)); many = sym many })
 
 -- ---- `take_in`, by what hearing the claim gave
 
-module _ (keys : List ℕ) (held : ℕ) (table : List Claim) (count : ℕ) (c : Claim) (h : Heard) (after : List ℕ)
-    (heard : hearing_with after h ≡ hear_in (store_with keys held) c) where
-  number_is : h.number ≡ (hear_in (store_with keys held) c).number
-  number_is = ap (λ (x : Hearing). x.number) heard
-
-  pub take_refused : (h.number ≡ 0 → ⊥)
-      → taken_with after (record { number = h.number; held = held; table = table; count = count }) ≡ take_in (node_with keys held table count) c
+module _ (keys : List ℕ) (held : ℕ) (pending : Table) (c : Claim) (after : List ℕ) where
+  pub take_refused : (x : Refusal) → hearing_with after held (Err x) ≡ hear_in (store_with keys held) c
+      → taken_with after held pending (Err x) ≡ take_in (node_with keys held pending) c
   unfolding take_in
-  take_refused f =
-      let same : (hear_in (store_with keys held) c).store ≡ store_with keys held = hear_in_kept (store_with keys held) c (λ e. f (number_is ∙ e)) in
-      let kept : after ≡ keys = ap (λ (x : Hearing). x.store.keys) heard ∙ ap (λ (s : Store). s.keys) same in
-      rw (← number_is, ne_eqb h.number 0 f, kept)
+  take_refused x heard =
+      let number_is : refusal_number x ≡ (hear_in (store_with keys held) c).number = ap (λ (h : Hearing). h.number) heard in
+      let no : (hear_in (store_with keys held) c).number ≡ 0 → ⊥ = λ (e : (hear_in (store_with keys held) c).number ≡ 0). refusal_number_ne x (number_is ∙ e) in
+      let same : (hear_in (store_with keys held) c).store ≡ store_with keys held = hear_in_kept (store_with keys held) c no in
+      let kept : after ≡ keys = ap (λ (h : Hearing). h.store.keys) heard ∙ ap (λ (s : Store). s.keys) same in
+      rw (← number_is, ne_eqb (refusal_number x) 0 (refusal_number_ne x), kept)
 
-  pub take_done : h.number ≡ 0 → (new : List Claim) (m : ℕ) → Enlisted table (table_in c (take count table)) new m
-      → taken_with after (record { number = 0; held = h.count; table = new; count = m }) ≡ take_in (node_with keys held table count) c
+  pub take_done : {h : Added} → hearing_with after held (Ok h) ≡ hear_in (store_with keys held) c
+      → {new : Table} → Enlisted pending.claims (table_in c (take pending.count pending.claims)) new.claims new.count
+      → taken_with after held new (Ok h.count) ≡ take_in (node_with keys held pending) c
   unfolding take_in
-  take_done e new m listed = rw (← heard, eq-eqb h.number 0 e, listed.places, listed.many)
+  take_done {h} heard {new} listed =
+      rw (← heard, ← listed.places, ← listed.many)
 
 -- ---- `take`, by what `ordered` said
 
 module _ (n : Node) (c : Claim) (ordered : Bool) (tested : ordered ≡ node_in_order n) where
-  pub taken_1 : not ordered ≡ true → record { number = 1; node = n } ≡ taken n c
+  pub taken_1 : ordered ≡ false → taken_by {A = Unit {0}} n (Err OutOfOrder) ≡ taken n c
   unfolding taken
-  taken_1 e = rw (← tested, not-true ordered e)
+  taken_1 e = rw (← tested, e)
 
-  module _ (yes : not ordered ≡ false) (whole : length n.pending ≡ table_limit) (sized : Sized n.store) where
+  module _ (yes : ordered ≡ true) (whole : length n.pending.claims ≡ table_limit) (sized : Sized n.store) where
     o : Ordered n
-    o = node_in_order_ordered n (sym tested ∙ not-false ordered yes)
+    o = node_in_order_ordered n (sym tested ∙ yes)
 
     -- its keys
     abbrev l : List ℕ
@@ -204,26 +219,30 @@ module _ (n : Node) (c : Claim) (ordered : Bool) (tested : ordered ≡ node_in_o
     short = length_node_keys n o
 
     -- its parts without the sums are all of it
-    parts_are : node_with n.store.keys n.store.count n.pending n.count ≡ n
+    parts_are : node_with n.store.keys n.store.count n.pending ≡ n
     parts_are =
         let with_is : store_with n.store.keys n.store.count ≡ n.store =
         ap (λ (s : Store). store_with s.keys s.count) own ∙ (store_with_store_of l short ∙ sym own) in
-        λ i. record { store = with_is i; pending = n.pending; count = n.count }
+        λ i. record { store = with_is i; pending = n.pending }
 
-    module _ (after : List ℕ) (r : Rest) (took : taken_with after r ≡ take_in (node_with n.store.keys n.store.count n.pending n.count) c) where
-      taken_is : taken_with after r ≡ taken n c
+    module _ {after : List ℕ} {pending : Table} (r : Result ℕ Refusal)
+        (took : taken_with after n.store.count pending r ≡ take_in (node_with n.store.keys n.store.count n.pending) c) where
+      taken_is : taken_with after n.store.count pending r ≡ taken n c
       taken_is = took ∙ (ap (λ (x : Node). take_in x c) parts_are ∙ take_in_taken n whole o c sized)
+
+      abbrev held : ℕ
+      held = value_told n.store.count r
 
       -- the sums worked out anew are those of the keys then
       summed_anew : (m : List ℕ) → length l ≤ length m → length m ≤ limit → (taken n c).node.store ≡ store_of m
-          → renewed_from 0 (store_by after n.store.sums r.held) ≡ (taken n c).node.store
+          → renewed_from 0 (store_by after n.store.sums held) ≡ (taken n c).node.store
       summed_anew m h g e =
-          let is : store_with after r.held ≡ store_of m = ap (λ (t : Taken). t.node.store) taken_is ∙ e in
+          let is : store_with after held ≡ store_of m = ap (λ (t : Taken). t.node.store) taken_is ∙ e in
           (λ i. renewed_from 0 (store_by (is i).keys (own i).sums (is i).count)) ∙ (renewed_grown l m h g ∙ sym e)
 
-      store_then : renewed_from 0 (store_by after n.store.sums r.held) ≡ (taken n c).node.store
+      store_then : renewed_from 0 (store_by after n.store.sums held) ≡ (taken n c).node.store
       unfolding node_of
-      store_then = ⊎_elim {C = renewed_from 0 (store_by after n.store.sums r.held) ≡ (taken n c).node.store}
+      store_then = ⊎_elim {C = renewed_from 0 (store_by after n.store.sums held) ≡ (taken n c).node.store}
           (λ (e : first_no (take_questions n c) ≡ 0).
           summed_anew (hear c l) (length_hear_ge c l) (hear_fits c l (take_questions_yes n c e).room)
           (ap (λ (t : Taken). t.node.store) (taken_done n c e)))
@@ -231,11 +250,25 @@ module _ (n : Node) (c : Claim) (ordered : Bool) (tested : ordered ≡ node_in_o
           summed_anew l (omega arith) short (ap (λ (t : Taken). t.node.store) (taken_refused n c f) ∙ own))
           (eq_or_ne (first_no (take_questions n c)) 0)
 
-      pub taken_in : (s : Store) → s ≡ renewed_from 0 (store_by after n.store.sums r.held)
-          → record { number = r.number; node = record { store = s; pending = r.table; count = r.count } } ≡ taken n c
-      taken_in s anew =
-          let store_is : s ≡ (taken n c).node.store = anew ∙ store_then in
-          let number_is : r.number ≡ (taken n c).number = ap (λ (t : Taken). t.number) taken_is in
-          let table_is : r.table ≡ (taken n c).node.pending = ap (λ (t : Taken). t.node.pending) taken_is in
-          let count_is : r.count ≡ (taken n c).node.count = ap (λ (t : Taken). t.node.count) taken_is in
-          λ i. record { number = number_is i; node = record { store = store_is i; pending = table_is i; count = count_is i } }
+    -- taken: the sums are worked out anew
+    pub taken_in : {after : List ℕ} {pending : Table} {k : ℕ}
+        → taken_with after n.store.count pending (Ok k) ≡ take_in (node_with n.store.keys n.store.count n.pending) c
+        → {s : Store} → s ≡ renewed_from 0 (store_by after n.store.sums k)
+        → taken_by {A = Unit {0}} (record { store = s; pending = pending }) (Ok tt) ≡ taken n c
+    taken_in {k = k} took {s} anew =
+        let all = taken_is (Ok k) took in
+        let store_is : s ≡ (taken n c).node.store = anew ∙ store_then (Ok k) took in
+        λ i. record { number = (all i).number; node = record { store = store_is i; pending = (all i).node.pending } }
+
+    -- refused: the node is what it was
+    pub taken_not : {after : List ℕ} {pending : Table} (x : Refusal)
+        → taken_with after n.store.count pending (Err x) ≡ take_in (node_with n.store.keys n.store.count n.pending) c
+        → taken_by {A = Unit {0}} (record { store = store_by after n.store.sums n.store.count; pending = pending }) (Err x) ≡ taken n c
+    taken_not {after} {pending} x took =
+        let all = taken_is (Err x) took in
+        let no : first_no (take_questions n c) ≡ 0 → ⊥ =
+        λ (e : first_no (take_questions n c) ≡ 0). refusal_number_ne x (ap (λ (t : Taken). t.number) (all ∙ taken_done n c e)) in
+        let kept : node_with after n.store.count pending ≡ n = ap (λ (t : Taken). t.node) (all ∙ taken_refused n c no) in
+        let node : record { store = store_by after n.store.sums n.store.count; pending = pending } ≡ n =
+        λ i. record { store = record { keys = (kept i).store.keys; sums = n.store.sums; count = n.store.count }; pending = (kept i).pending } in
+        (λ i. record { number = (all i).number; node = node i }) ∙ (λ i. record { number = (taken n c).number; node = (sym (taken_refused n c no) i).node })

@@ -3,7 +3,7 @@
 use Rattle.std.specs.Prelude.{[], ◌∷◌}
 use Rattle.claims.specs.Cases.{claim}
 use Rattle.rule.specs.declared.node.Node.{Node}
-use Rattle.rule.specs.declared.answer.Taken.{Taken}
+use Rattle.rule.specs.Answer.{Taken}
 use Rattle.rule.specs.Node.{node_of}
 use Rattle.nodes.specs.Lent.{take_in}
 

@@ -5,20 +5,11 @@ use Rattle.keys.specs.Store.{limit}
 use Rattle.keys.specs.Place.{put_at}
 use Rattle.claims.specs.declared.claim.Claim.{Claim}
 use Rattle.rule.specs.declared.node.Node.{Node}
-use Rattle.rule.specs.declared.answer.Rest.{Rest}
-use Rattle.rule.specs.declared.answer.Taken.{Taken}
+use Rattle.rule.specs.Answer.{Rest, Taken}
 use Rattle.rule.specs.Table.{table_limit, before}
 use Rattle.rule.specs.Node.{blanks, node_keys, pending_of}
 use Rattle.merging.specs.Merge.{merged, merged_in}
-use Rattle.nodes.specs.declared.joining.Next.{Next}
-use Rattle.nodes.specs.Lent.{taken_with}
-
--- the next claim of two tables whose first claims are these, and how many of either are passed with it
-unfoldable pub next_of : Claim → Claim → Next
-next_of a b =
-    cond (before a b)
-    (record { claim = a; one = 1; other = 0 })
-    (cond (before b a) (record { claim = b; one = 0; other = 1 }) (record { claim = a; one = 1; other = 1 }))
+use Rattle.nodes.specs.Lent.{taken_beside}
 
 -- the claims of two tables, merged, as many as a table has places
 unfoldable pub tables_in : List Claim → List Claim → List Claim
@@ -31,7 +22,7 @@ pub record CopiedBehind (table : List Claim) (at : ℕ) (claims new : List Claim
 
 -- a node beside its keys, refused
 abbrev pub rest_refused : ℕ → Node → Rest
-rest_refused number n = record { number = number; held = n.store.count; table = n.pending; count = n.count }
+rest_refused number n = record { number = number; held = n.store.count; table = n.pending.claims; count = n.pending.count }
 
 -- .. and of so many keys and these claims
 abbrev pub rest_with : ℕ → List Claim → Rest
@@ -40,7 +31,7 @@ rest_with held t = record { number = 0; held = held; table = put_at (blanks tabl
 -- `join_in`: the keys of two nodes are merged into a run, and so are their claims; where the keys are too many, 8, and the run is as it was
 unfoldable pub join_in : Node → Node → List ℕ → Taken
 join_in n m into =
-    taken_with (merged_in (node_keys n) (node_keys m) into)
+    taken_beside (merged_in (node_keys n) (node_keys m) into)
     (cond (leb (length (merged ltb (node_keys n) (node_keys m))) limit)
     (rest_with (length (merged ltb (node_keys n) (node_keys m))) (tables_in (pending_of n) (pending_of m)))
     (rest_refused 8 n))

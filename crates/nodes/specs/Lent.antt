@@ -2,35 +2,38 @@
 -- into a node that was judged before, so that a frame of claims pays question 1 once. They are total, and no rule of document 01. A number other than 0 means
 -- that the node is what it was (`take_in_kept` of proofs/LentLaws). What they mean where the node is in order is said by laws (proofs/LentLaws), by the
 -- definitions of Table, Node and Call. Assumes nothing.
-use Rattle.std.specs.Prelude.{◌≡◌, ℕ, zero, suc, ◌+◌, ◌-◌, ◌/◌, Bool, cond, not, ◌&&◌, List, ◌∷◌, ◌++◌, ltb, leb, eqb, length, take, drop, get_or}
+use Rattle.std.specs.Prelude.{◌≡◌, Result, ℕ, zero, suc, ◌+◌, ◌-◌, ◌/◌, Bool, cond, not, ◌&&◌, List, ◌∷◌, ◌++◌, ltb, leb, eqb, length, take, drop, get_or}
 use Rattle.keys.specs.Lent.{store_with, store_by}
 use Rattle.keys.specs.Place.{put_at}
 use Rattle.claims.specs.declared.claim.Claim.{Claim}
+use Rattle.claims.specs.declared.refusal.Refusal.{Refusal}
+use Rattle.claims.specs.Refusal.{number_told, value_told}
 use Rattle.claims.specs.Claim.{no_claim}
 use Rattle.claims.specs.Question.{settle}
 use Rattle.claims.specs.Lent.{hear_in}
 use Rattle.rule.specs.declared.node.Node.{Node}
-use Rattle.rule.specs.declared.answer.Rest.{Rest}
-use Rattle.rule.specs.declared.answer.Taken.{Taken}
+use Rattle.rule.specs.declared.node.Table.{Table}
+use Rattle.rule.specs.Answer.{Rest, Taken}
 use Rattle.rule.specs.Table.{table_limit, before, climbs}
-use Rattle.rule.specs.Node.{blanks, pending_of, node_of, all_fit, telling, saved_in_order}
+use Rattle.rule.specs.Node.{blanks, table_by, pending_of, node_of, all_fit, telling, saved_in_order}
 use Rattle.nodes.specs.declared.order.Order.{Order}
+use Rattle.nodes.specs.declared.order.Order.TheVariants.{Out, Saved, Given}
 
--- the node of these parts: a run of keys and how many are held, a table and how many are pending; no sums, where none is read
-abbrev pub node_with : List ℕ → ℕ → List Claim → ℕ → Node
-node_with keys held table count = record { store = store_with keys held; pending = table; count = count }
+-- the node of these parts: a run of keys and how many are held, and a table; no sums, where none is read
+abbrev pub node_with : List ℕ → ℕ → Table → Node
+node_with keys held pending = record { store = store_with keys held; pending = pending }
 
 -- .. and with sums
-abbrev pub node_by : List ℕ → List ℕ → ℕ → List Claim → ℕ → Node
-node_by keys sums held table count = record { store = store_by keys sums held; pending = table; count = count }
+abbrev pub node_by : List ℕ → List ℕ → ℕ → Table → Node
+node_by keys sums held pending = record { store = store_by keys sums held; pending = pending }
 
 -- .. and by a run of keys and what stands beside it
 abbrev pub node_held : List ℕ → Rest → Node
-node_held keys r = node_with keys r.held r.table r.count
+node_held keys r = node_with keys r.held (table_by r.table r.count)
 
 -- a node beside its keys
 abbrev pub rest_of : Node → Rest
-rest_of n = record { number = 0; held = n.store.count; table = n.pending; count = n.count }
+rest_of n = record { number = 0; held = n.store.count; table = n.pending.claims; count = n.pending.count }
 
 -- do the claims t rise strictly, and does each pass questions 2 to 5 and have lo and hi among the keys l?
 abbrev pub pending : List Claim → List ℕ → Bool
@@ -38,7 +41,7 @@ pending t l = climbs t && all_fit t l
 
 -- in order, as in an image if `saved`, and as given if each claim passes 16 too
 abbrev pub order_of : Bool → Bool → Order
-order_of saved told = record { saved = saved; given = saved && told }
+order_of saved told = cond saved (cond told Given Saved) Out
 
 -- is the node of these keys and of the first `count` claims of a table in order, as one in an image?
 abbrev pub front_in : List ℕ → List Claim → ℕ → Bool
@@ -47,6 +50,10 @@ front_in keys table count = leb count table_limit && saved_in_order (node_of key
 -- the places of a table once the claims that fail 16 are left out of the first `count`: the others, then zeros; what stands past them is as it was
 abbrev pub left_out : List Claim → ℕ → List Claim
 left_out table count = put_at table 0 (telling (take count table) ++ blanks (count - length (telling (take count table))))
+
+-- the table then
+abbrev pub table_left : List Claim → ℕ → Table
+table_left table count = table_by (left_out table count) (length (telling (take count table)))
 
 -- what is admitted: so many keys, and the claims that are left
 abbrev pub rest_left : ℕ → List Claim → ℕ → Rest
@@ -94,9 +101,13 @@ pub record Enlisted (table t new : List Claim) (count : ℕ) : Type 0 where
   pub places : new ≡ put_at table 0 t
   pub many : count ≡ length t
 
--- what is taken, by the run of keys as it is then and what the call returns
-abbrev pub taken_with : List ℕ → Rest → Taken
-taken_with keys r = record { number = r.number; node = node_held keys r }
+-- what is taken, by the run of keys as it is then and what stands beside it
+abbrev pub taken_beside : List ℕ → Rest → Taken
+taken_beside keys r = record { number = r.number; node = node_held keys r }
+
+-- .. and by how many keys were held, keys and table as they are then, and what the call returns: how many keys are held then
+abbrev pub taken_with : List ℕ → ℕ → Table → Result ℕ Refusal → Taken
+taken_with keys held pending r = record { number = number_told r; node = node_with keys (value_told held r) pending }
 
 -- `take_in`: a claim is heard, and put into the table
 unfoldable pub take_in : Node → Claim → Taken
@@ -106,8 +117,7 @@ take_in n c =
       number = 0;
       node = record {
         store = (hear_in n.store c).store;
-        pending = put_at n.pending 0 (table_in c (pending_of n));
-        count = length (table_in c (pending_of n));
+        pending = table_by (put_at n.pending.claims 0 (table_in c (pending_of n))) (length (table_in c (pending_of n)));
       };
     })
     (λ x. record { number = x; node = n })

@@ -1,139 +1,75 @@
 // Two nodes in one: the keys of both merged, and the claims of both, the first as many as a table has places.
-ghost use Rattle.std.specs.Prelude.{◌≡◌, ◌+◌, ◌-◌, ◌≤◌, min, take, drop};
+ghost use Rattle.std.specs.Prelude.{◌≡◌, ◌≤◌, min, take, length, ◌-◌};
 ghost use Rattle.rule.specs.Table.{table_limit};
 ghost use Rattle.rule.specs.Node.{blanks};
-ghost use Rattle.nodes.specs.Lent.{Enlisted, node_held, taken_with};
-ghost use Rattle.nodes.specs.Joining.{next_of, tables_in, CopiedBehind, join_in};
+ghost use Rattle.rule.specs.Answer.{rest_given, rest_by};
+ghost use Rattle.nodes.specs.Lent.{Enlisted, node_held, taken_beside};
+ghost use Rattle.nodes.specs.Joining.{tables_in, CopiedBehind, join_in};
 
-use crate::order::precedes;
-use crate::taking::Listed;
-use claims::Claim;
-use keys::{Store, capped};
+use claims::{Claim, Refusal};
+use keys::Store;
 use merging::merge_in;
-use rule::{Node, Rest};
+use rule::{Node, Rest, Table};
 
-// The next claim of two tables, and how many of either are passed with it.
-#[derive(Clone, Copy)]
-struct Next {
-    claim: Claim,
-    one: usize,
-    other: usize,
+// Copies claims behind those of a table, as far as there are places.
+fn append(table: &mut Table, claims: &[Claim])
+    requires { table.old.count ≤ table_limit }
+    ensures { CopiedBehind table.old.claims table.old.count (take (table_limit - table.old.count) claims.now) table.new.claims table.new.count }
+{
+    let at = table.count;
+    let more = claims.len().min(Node::TABLE - at);
+    table.claims[at..at + more].copy_from_slice(&claims[..more]);
+    table.count = at + more;
 }
 
-// The next of two tables whose first claims are these: the one that comes before; of equal ones the first, and both are passed.
-fn earlier(a: Claim, b: Claim) -> Next
-    ensures { (result ≡ next_of a b) × (result.one ≤ 1) × (result.other ≤ 1) }
+// Two runs of claims, merged: at each turn the one that comes before goes into the table, and of equal ones the first, and both are passed.
+// Two indices, which go on at different steps: no iterator merges. Not the walk of `merging`, which never ends before a run does.
+fn merge_tables(one: &[Claim], other: &[Claim]) -> Table
+    ensures { Enlisted (blanks table_limit) (tables_in one.now other.now) result.claims result.count }
 {
-    if precedes(a, b) {
-        return Next {
-            claim: a,
-            one: 1,
-            other: 0,
-        };
-    }
-    if precedes(b, a) {
-        return Next {
-            claim: b,
-            one: 0,
-            other: 1,
-        };
-    }
-    Next {
-        claim: a,
-        one: 1,
-        other: 1,
-    }
-}
-
-// Copies the claims of a table from a place on behind the first `at` of another, as far as there are places.
-fn copy_claims(
-    table: [Claim; Node::TABLE],
-    at: usize,
-    from: [Claim; Node::TABLE],
-    first: usize,
-    count: usize,
-) -> Listed
-    requires { (at ≤ table_limit) × (first ≤ count) × (count ≤ table_limit) }
-    ensures { CopiedBehind table at (take (min (count - first) (table_limit - at)) (drop first from)) result.table result.count }
-{
-    let mut places = table;
-    let more = capped(count - first, Node::TABLE - at);
-    let mut i = 0;
-    while i < more {
-        places[at + i] = from[first + i];
-        i += 1;
-    }
-    Listed {
-        table: places,
-        count: at + more,
-    }
-}
-
-// The first claims of two tables, merged.
-fn merge_tables(
-    one: [Claim; Node::TABLE],
-    count: usize,
-    other: [Claim; Node::TABLE],
-    others: usize,
-) -> Listed
-    requires { (count ≤ table_limit) × (others ≤ table_limit) }
-    ensures { Enlisted (blanks table_limit) (tables_in (take count one) (take others other)) result.table result.count }
-{
-    let mut places = [Claim::NONE; Node::TABLE];
+    let mut table = Table::EMPTY;
     let mut i = 0;
     let mut j = 0;
-    let mut n = 0;
-    while n < Node::TABLE {
-        if i == count {
-            return copy_claims(places, n, other, j, others);
+    while table.count < Node::TABLE {
+        if i == one.len() {
+            append(&mut table, &other[j..]);
+            return table;
         }
-        if j == others {
-            return copy_claims(places, n, one, i, count);
+        if j == other.len() {
+            append(&mut table, &one[i..]);
+            return table;
         }
-        let step = earlier(one[i], other[j]);
-        let claim = step.claim;
-        places[n] = claim;
-        n += 1;
-        i += step.one;
-        j += step.other;
+        let a = one[i];
+        let b = other[j];
+        table.claims[table.count] = a.min(b);
+        table.count += 1;
+        i += (a <= b) as usize;
+        j += (b <= a) as usize;
     }
-    Listed {
-        table: places,
-        count: n,
-    }
+    table
 }
 
 // Joins two nodes whose keys are lent, into a third run. Asks 8.
 pub fn join_in(
     one: &[u64],
-    first: Rest,
+    first: &Rest,
     other: &[u64],
-    second: Rest,
+    second: &Rest,
     into: &mut [u64; Store::LIMIT],
-) -> Rest
-    ensures { taken_with into.new result ≡ join_in (node_held one.now first) (node_held other.now second) into.old }
+) -> Result<Rest, Refusal>
+    ensures { taken_beside into.new (rest_by first.now result)
+        ≡ join_in (node_held one.now (rest_given first.now)) (node_held other.now (rest_given second.now)) into.old }
 {
-    let own = capped(first.held, one.len());
-    let brought = capped(second.held, other.len());
+    let own = first.held.min(one.len());
+    let brought = second.held.min(other.len());
     let held = merge_in(&one[..own], &other[..brought], into);
-    let table = first.table;
-    let count = first.count;
     if Store::LIMIT < held {
-        return Rest {
-            number: 8,
-            held: first.held,
-            table,
-            count,
-        };
+        return Err(Refusal::UnionBeyondLimit);
     }
-    let others = second.table;
-    let known = capped(count, Node::TABLE);
-    let joined = merge_tables(table, known, others, capped(second.count, Node::TABLE));
-    let places = joined.table;
-    Rest {
-        number: 0,
-        held,
-        table: places,
-        count: joined.count,
-    }
+    let claims = &first.pending.claims[..];
+    let others = &second.pending.claims[..];
+    let count = first.pending.count.min(claims.len());
+    let known = second.pending.count.min(others.len());
+    let pending = merge_tables(&claims[..count], &others[..known]);
+    Ok(Rest { held, pending })
 }

@@ -1,33 +1,27 @@
 // Taking a claim: what hearing it adds is added to the store, and it goes into the table in its place.
-ghost use Rattle.std.specs.Prelude.{◌≡◌, ◌≤◌, ◌<◌, take};
-ghost use Rattle.keys.specs.Place.{put_at};
+ghost use Rattle.std.specs.Prelude.{◌≡◌, ◌≤◌, ◌<◌, length, take};
+ghost use Rattle.keys.specs.Lent.{inserted_at};
 ghost use Rattle.rule.specs.Table.{table_limit};
 ghost use Rattle.rule.specs.Call.{taken};
-ghost use Rattle.nodes.specs.Lent.{place_among, is_at, placed_at, placed_in, table_in, Enlisted, node_with, taken_with, take_in};
+ghost use Rattle.rule.specs.Answer.{taken_by};
+ghost use Rattle.nodes.specs.Lent.{place_among, table_in, Enlisted, node_with, taken_with, take_in};
 
-use crate::order::{ordered, precedes};
-use claims::{Claim, hear_in};
-use keys::{Store, capped};
-use rule::{Node, Rest, Taken};
+use crate::order::in_order;
+use claims::{Claim, Refusal, hear_in};
+use keys::Store;
+use rule::{Node, Table};
 
-// A table, and how many claims are pending in it.
-#[derive(Clone, Copy)]
-pub(crate) struct Listed {
-    pub(crate) table: [Claim; Node::TABLE],
-    pub(crate) count: usize,
-}
-
-// The place of a claim among the first `count` claims of a table, if these rise: after all that come before it.
-fn place_among(table: [Claim; Node::TABLE], count: usize, claim: Claim) -> usize
-    requires { count ≤ table_limit }
-    ensures { (result ≡ place_among claim (take count table)) × (result ≤ count) }
+// The place of a claim among others, if these rise: after all that come before it. The promise of `take_in` names the place that halving finds in a table that
+// does not rise, too, of which `partition_point` says nothing.
+fn place_among(claims: &[Claim], claim: Claim) -> usize
+    ensures { (result ≡ place_among claim claims.now) × (result ≤ length claims.now) }
 {
     let mut base = 0;
-    let mut size = count;
+    let mut size = claims.len();
     while 0 < size {
         let half = size / 2;
         let mid = base + half;
-        if precedes(table[mid], claim) {
+        if claims[mid] < claim {
             base = mid + 1;
             size -= half + 1;
         } else {
@@ -37,109 +31,59 @@ fn place_among(table: [Claim; Node::TABLE], count: usize, claim: Claim) -> usize
     base
 }
 
-// Whether a claim is the one at a place.
-fn is_at(table: [Claim; Node::TABLE], count: usize, at: usize, claim: Claim) -> bool
-    requires { count ≤ table_limit }
-    ensures { result ≡ is_at at claim (take count table) }
+// Puts a claim in at a place: the claims from there to the count move up by one. As `put` of `keys` does with keys: one for both would be public, and ask for
+// room once more.
+fn put(claims: &mut [Claim], count: usize, at: usize, claim: Claim)
+    requires { (at ≤ count) × (count < length claims.old) }
+    ensures { claims.new ≡ inserted_at at count claim claims.old }
 {
-    if count <= at {
-        return false;
-    }
-    !precedes(claim, table[at])
+    claims.copy_within(at..count, at + 1);
+    claims[at] = claim;
 }
 
-// Puts a claim in at a place: the claims from there to the count move up by one, the last one first.
-fn put(table: [Claim; Node::TABLE], count: usize, at: usize, claim: Claim) -> [Claim; Node::TABLE]
-    requires { (at ≤ count) × (count < table_limit) }
-    ensures { result ≡ put_at table 0 (placed_at at claim (take count table)) }
+// Puts a claim into a table in its place, unless it is the one there; of 65 the last is dropped.
+fn enlist(table: &mut Table, claim: Claim)
+    ensures { Enlisted table.old.claims (table_in claim (take table.old.count table.old.claims)) table.new.claims table.new.count }
 {
-    let mut moved = table;
-    let mut i = count;
-    while at < i {
-        moved[i] = moved[i - 1];
-        i -= 1;
-    }
-    moved[at] = claim;
-    moved
-}
-
-// The table with a claim put in at a place, unless it is the one there; of 65 the last is dropped.
-fn enlist_at(table: [Claim; Node::TABLE], count: usize, at: usize, claim: Claim) -> Listed
-    requires { (at ≤ count) × (count ≤ table_limit) }
-    ensures { Enlisted table (placed_in at claim (take count table)) result.table result.count }
-{
-    if is_at(table, count, at, claim) {
-        return Listed { table, count };
-    }
+    let count = table.count.min(Node::TABLE);
+    table.count = count;
+    let claims = &mut table.claims[..];
+    let at = place_among(&claims[..count], claim);
     if at == Node::TABLE {
-        return Listed { table, count };
+        return;
     }
-    let kept = capped(count, Node::TABLE - 1);
-    let moved = put(table, kept, at, claim);
-    let total = kept + 1;
-    Listed {
-        table: moved,
-        count: total,
+    if at < count && claims[at] <= claim {
+        return;
     }
+    let kept = count.min(Node::TABLE - 1);
+    put(claims, kept, at, claim);
+    table.count = kept + 1;
 }
 
-// The table with a claim in its place.
-fn enlist(table: [Claim; Node::TABLE], count: usize, claim: Claim) -> Listed
-    ensures { Enlisted table (table_in claim (take count table)) result.table result.count }
-{
-    let known = capped(count, Node::TABLE);
-    let at = place_among(table, known, claim);
-    enlist_at(table, known, at, claim)
-}
-
-// Takes a claim into a node whose keys are lent. Asks 2 to 5, 16 and 6.
+// Takes a claim into a node whose keys are lent, and says how many are held then. Asks 2 to 5, 16 and 6. Keys and table are lent apart, since they lie apart in
+// a node and in what is read of an image.
 pub fn take_in(
     keys: &mut [u64; Store::LIMIT],
     held: usize,
-    table: [Claim; Node::TABLE],
-    count: usize,
+    pending: &mut Table,
     claim: Claim,
-) -> Rest
-    ensures { taken_with keys.new result ≡ take_in (node_with keys.old held table count) claim }
+) -> Result<usize, Refusal>
+    ensures { taken_with keys.new held pending.new result ≡ take_in (node_with keys.old held pending.old) claim }
 {
-    let heard = hear_in(keys, held, claim);
-    if heard.number != 0 {
-        return Rest {
-            number: heard.number,
-            held,
-            table,
-            count,
-        };
-    }
-    let listed = enlist(table, count, claim);
-    let places = listed.table;
-    Rest {
-        number: 0,
-        held: heard.count,
-        table: places,
-        count: listed.count,
-    }
+    let heard = hear_in(keys, held, claim)?;
+    enlist(pending, claim);
+    Ok(heard.count)
 }
 
 // Takes a claim. Asks 1, 2 to 5, 16 and 6.
-pub fn take(node: Node, claim: Claim) -> Taken
-    ensures { result ≡ taken node claim }
+pub fn take(node: &mut Node, claim: Claim) -> Result<(), Refusal>
+    ensures { taken_by node.new result ≡ taken node.old claim }
 {
-    if !ordered(node) {
-        return Taken { number: 1, node };
+    if !in_order(node) {
+        return Err(Refusal::OutOfOrder);
     }
-    let mut store = node.store;
-    let held = store.count;
-    let pending = node.pending;
-    let next = take_in(&mut store.keys, held, pending, node.count, claim);
-    store.count = next.held;
-    let places = next.table;
-    Taken {
-        number: next.number,
-        node: Node {
-            store: store.renewed(0),
-            pending: places,
-            count: next.count,
-        },
-    }
+    let held = node.store.count;
+    node.store.count = take_in(&mut node.store.keys, held, &mut node.pending, claim)?;
+    node.store.renew(0);
+    Ok(())
 }

@@ -8,7 +8,7 @@ use lib.Dec.{lit<}
 use Rattle.keys.specs.Store.{limit}
 use Rattle.claims.specs.Question.{first_no, question17}
 use Rattle.claims.proofs.QuestionLaws.{first_no_zero, settle_number}
-use Rattle.opening.specs.declared.Costed.{Costed}
+use Rattle.opening.specs.Call.{Costed}
 use Rattle.opening.specs.Cost.{opening_cost}
 use Rattle.opening.specs.Call.{cost_questions, costed}
 use Rattle.opening.proofs.CostLaws.{opening_cost_le}

@@ -10,8 +10,8 @@ use Rattle.opening.proofs.CostLaws.{opening_cost_none, opening_cost_few, opening
 pub none_told : (n : ℕ) → n ≡ 0 → 0 ≡ opening_cost n
 none_told n e = sym (ap opening_cost e ∙ opening_cost_none)
 
-pub few_told : (n : ℕ) → (n ≡ 0 → ⊥) → n ≤ 3 → 1 ≡ opening_cost n
-few_told n f h = sym (opening_cost_few n (omega arith) h)
+pub few_told : (n : ℕ) → 1 ≤ n → n ≤ 3 → 1 ≡ opening_cost n
+few_told n g h = sym (opening_cost_few n g h)
 
 pub one_told : (n a : ℕ) → 3 < n → n ≤ 5 → a ≡ opening_cost (n - 2) → 2 + a ≡ opening_cost n
 one_told n a g h e = ap (λ (x : ℕ). 2 + x) e ∙ sym (opening_cost_one n g h)

@@ -3,7 +3,7 @@
 use Rattle.std.specs.Prelude.{ℕ, ◌+◌, List, [], ◌∷◌, length}
 use Rattle.keys.specs.Store.{limit}
 use Rattle.rule.specs.Round.{round_of}
-use Rattle.opening.specs.declared.Costed.{Costed}
+use Rattle.opening.specs.Call.{Costed}
 use Rattle.opening.specs.Cost.{opening_cost}
 use Rattle.opening.specs.Call.{costed}
 

@@ -3,46 +3,33 @@
 
 ghost use Rattle.std.specs.Prelude.{◌≡◌};
 ghost use Rattle.opening.specs.Cost.{opening_cost};
-ghost use Rattle.opening.specs.Call.{costed};
+ghost use Rattle.opening.specs.Call.{costed_by, costed};
 
+use claims::Refusal;
 use keys::Store;
-
-#[derive(Clone, Copy)]
-pub struct Costed {
-    pub number: u8,
-    pub deliveries: usize,
-}
 
 // How many deliveries fill an empty store with n keys: at most n, so that no sum overflows. From six keys on it calls itself for at most half as many, so
 // that no call is deep.
 fn deliveries(n: usize) -> usize
     ensures { result ≡ opening_cost n }
 {
-    if n == 0 {
-        return 0;
+    match n {
+        0 => 0,
+        1..=3 => 1,
+        4 | 5 => 2 + deliveries(n - 2),
+        _ => {
+            let z = (n - 2) / 2;
+            2 + deliveries(z + 1) + deliveries(n - 3 - z)
+        }
     }
-    if n <= 3 {
-        return 1;
-    }
-    if n <= 5 {
-        return 2 + deliveries(n - 2);
-    }
-    let z = (n - 2) / 2;
-    2 + deliveries(z + 1) + deliveries(n - 3 - z)
 }
 
 // The deliveries of a round between an empty left store and a right store of n keys. Asks 17.
-pub fn opening_cost(n: usize) -> Costed
-    ensures { result ≡ costed n }
+pub fn opening_cost(n: usize) -> Result<usize, Refusal>
+    ensures { costed_by result ≡ costed n }
 {
     if Store::LIMIT < n {
-        return Costed {
-            number: 17,
-            deliveries: 0,
-        };
+        return Err(Refusal::TooManyKeys);
     }
-    Costed {
-        number: 0,
-        deliveries: deliveries(n),
-    }
+    Ok(deliveries(n))
 }

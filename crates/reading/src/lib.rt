@@ -8,7 +8,7 @@ use std::io;
 use std::io::Read;
 
 // Reads until the buffer is full or the input ends, and says how many bytes it put at the front: those that the input had next. Where they are fewer than the
-// buffer has places for, nothing is left of the input.
+// buffer has places for, nothing is left of the input. (The library's `read_exact` refuses shorter input, and does not say how much of it came.)
 pub fn read_full<R: Read>(from: &mut R, buffer: &mut [u8]) -> io::Result<usize>
     ensures within { IfOk result (λ n. n ≤ length buffer.new) }
     ensures bytes { IfOk result (λ n. Consumes (R.remaining from.old) (R.remaining from.new) (take n buffer.new)) }

@@ -1,117 +1,73 @@
--- One law for each way that src/page.rt goes: the pieces of a line, lines one after another, the last line, the whole text. Assumes nothing.
-use Prim.Native.Nat.{ℕ, ◌+◌, ◌*◌, ◌^◌, ◌≤◌, ◌<◌}
+-- One law for each way that src/page.rt goes: a piece, and one after another; lines; the whole text. Assumes nothing.
+use Prim.Native.Nat.{ℕ, suc, ◌+◌, ◌*◌, ◌≤◌, ◌<◌}
 use native.Mathlib.Numerals.{add-one}
 use native.Mathlib.Omega.{arith}
-use mathlib.Core.List.{List, ◌++◌}
+use mathlib.Core.List.{List, [], ◌++◌}
 use mathlib.Core.Path.{◌≡◌, refl, ap, ap₂, sym, ◌∙◌}
-use lib.ListN.{length, drop, get_or, set, length-set, length-map}
+use lib.ListN.{length, take, drop, get_or, length-map}
+use Rattle.std.specs.Simd.{first_chunks}
+use Rattle.std.proofs.lemmas.List.{get_or-take}
 use Rattle.keys.proofs.PlaceLaws.{length_put_at, put_at_nil, put_at_zero}
 use Rattle.claims.proofs.QuestionLaws.{settle_done, settle_refused}
 use Rattle.rule.specs.Round.{Line}
 use Rattle.rule.specs.Call.{round_by, delivery_words, record_width, records_in}
-use Rattle.text.specs.Decimal.{decimal}
-use Rattle.text.specs.Line.{line_feed, space, refused_line}
+use Rattle.text.specs.Line.{refused_line}
 use Rattle.text.specs.Put.{put_from, end_from, Put}
-use Rattle.text.proofs.DecimalLaws.{length_decimal_most}
 use Rattle.text.proofs.LineLaws.{length_refused_line}
-use Rattle.text.proofs.PutLaws.{put_one, put_then, put_from_lem}
-use Rattle.rehearsal.specs.declared.answer.Rehearsed.{Rehearsed}
+use Rattle.text.proofs.PutLaws.{put_then, put_from_lem}
+use Rattle.rehearsal.specs.Answer.{Rehearsed}
+use Rattle.rehearsal.specs.declared.page.Page.{Page}
+use Rattle.rehearsal.specs.Page.{Puts}
 use Rattle.rehearsal.specs.Rehearsal.{first_bytes, second_bytes, store_in, rehearse_number, rehearsed, Rehearsal, round_words}
-use Rattle.rehearsal.specs.Text.{field, labelled, left_word, right_word, claims_word, letter, lines, last_line}
-use Rattle.rehearsal.specs.Text.{report, lent_records, deliveries_of, printed, four_at, row_at, rows, field_limit, line_limit, last_limit, text_limit}
+use Rattle.rehearsal.specs.Text.{lines, last_line}
+use Rattle.rehearsal.specs.Text.{report, lent_records, deliveries_of, printed, row_at, rows, line_limit, last_limit, text_limit}
 use Rattle.rehearsal.proofs.RehearsalLaws.{rehearsed_number, rehearsed_told, deliveries_fit, rehearsed_words_told}
-use Rattle.rehearsal.proofs.TextLaws.{rows_lines}
+use Rattle.rehearsal.proofs.TextLaws.{row_at_chunk, rows_lines}
 
--- ---- the pieces of a line
+-- ---- one piece, and one after another
 
--- the space, then the digits
-pub field_put : (s t : List ℕ) (n at m : ℕ) → m ≡ end_from (set s at space) (at + 1) (decimal n) → t ≡ put_from (set s at space) (at + 1) (decimal n)
-    → n < 2 ^ 64 → at + field_limit ≤ length s → Put s at (field n) field_limit m t
-unfolding field
-field_put s t n at m e f small h =
-    let long : length (set s at space) ≡ length s = rw length-set in
-    let p = put_from_lem (set s at space) (at + 1) (decimal n) e f (length_decimal_most n small) (omega arith) in
-    put_then (put_one s at space (omega arith)) p (omega arith) (omega (arith, p.end_by))
+-- what a call of `text` has put, where there is room for so much
+pub puts_text : (p q : Page) (text : List ℕ) {most : ℕ} → q.out.ghost_name ≡ p.out.ghost_name → q.end ≡ end_from p.out.now p.end text
+    → q.out.now ≡ put_from p.out.now p.end text
+    → length text ≤ most
+    → p.end + most ≤ length p.out.now
+    → Puts p text most q
+puts_text p q text same e f few room =
+    let put = put_from_lem p.out.now p.end text e f few room in
+    let long : length q.out.now ≡ length p.out.now = rw (put.after_is, length_put_at p.out.now p.end text (omega arith)) in
+    record { same = same; long = long; fits = omega (arith, put.end_by); put = put }
 
--- a word: there is room for what follows, and then the field
-module _ (s t word : List ℕ) (at m : ℕ) (e : m ≡ end_from s at word) (f : t ≡ put_from s at word) (h : at + (length word + field_limit) ≤ length s) where
-  word_put : Put s at word (length word) m t
-  word_put = put_from_lem s at word e f (omega arith) (omega arith)
-
-  pub word_room : m + field_limit ≤ length t
-  word_room = rw (word_put.after_is, length_put_at s at word (omega arith)) (omega (arith, word_put.end_is))
-
-  pub labelled_put : (u : List ℕ) (n k : ℕ) → Put t m (field n) field_limit k u → Put s at (labelled word n) (length word + field_limit) k u
-  labelled_put u n k q = put_then word_put q (omega arith) (omega (arith, word_put.end_by, q.end_by))
-
--- one field after another
-pub four_put : {s t u v w : List ℕ} {at k l m n : ℕ} (words : List ℕ) (from : ℕ) → Put s at (field (get_or words from 0)) field_limit k t
-    → Put t k (field (get_or words (from + 1) 0)) field_limit l u
-    → Put u l (field (get_or words (from + 2) 0)) field_limit m v
-    → Put v m (field (get_or words (from + 3) 0)) field_limit n w
-    → length t ≡ length s
-    → length u ≡ length t
-    → at + 4 * field_limit ≤ length s
-    → Put s at (four_at words from) (4 * field_limit) n w
-unfolding four_at
-four_put {s} {t} {u} {v} {w} {at} {k} {l} {m} {n} words from a b c d e f h =
-    let p = a.end_by in
-    let q = b.end_by in
-    let r = c.end_by in
-    let z = d.end_by in
-    let third = put_then {most = 2 * field_limit} c d (omega arith) (omega arith) in
-    let second = put_then {most = 3 * field_limit} b third (omega arith) (omega arith) in
-    put_then a second (omega arith) (omega arith)
-
--- a line: the letter, four numbers, the line feed
-pub row_put : (words : List ℕ) (from b at m : ℕ) (s t : List ℕ) → b ≡ letter (get_or words from 0) → at + line_limit ≤ length s → length t ≡ length (set s at b)
-    → Put (set s at b) (at + 1) (four_at words (from + 1)) (4 * field_limit) m t → Put s at (row_at words from) line_limit (m + 1) (set t m 10)
-unfolding row_at
-row_put words from b at m s t e h same four =
-    let long : length (set s at b) ≡ length s = rw length-set in
-    let ends = four.end_by in
-    let feed = put_one t m 10 (omega arith) in
-    let rest = put_then {most = 4 * field_limit + 1} four feed (omega arith) (omega arith) in
-    rw e at (put_then {most = line_limit} (put_one s at b (omega arith)) rest (omega arith) (omega arith))
+pub puts_then : {p q r : Page} {xs ys : List ℕ} {a b : ℕ} → Puts p xs a q → Puts q ys b r → Puts p (xs ++ ys) (a + b) r
+puts_then {p} {q} {r} {xs} {ys} {a} {b} s t =
+    let short : Put p.out.now p.end xs (length xs) q.end q.out.now
+    = record { end_is = s.put.end_is; end_by = omega (arith, s.put.end_is); after_is = s.put.after_is } in
+    let room : p.end + length xs ≤ length p.out.now = omega (arith, s.put.end_is) in
+    record { same = t.same ∙ s.same; long = t.long ∙ s.long; fits = t.fits; put = put_then short t.put room (omega (arith, s.put.end_by, t.put.end_by)) }
 
 -- ---- lines one after another
 
-pub rows_none : (words s : List ℕ) → Put s 0 (rows 0 words) 0 0 s
+pub rows_none : (words : List ℕ) (p : Page) → p.end ≤ length p.out.now → Puts p (rows 0 words) 0 p
 unfolding rows
-rows_none words s = record { end_is = refl; end_by = omega arith; after_is = sym (put_at_nil s 0) }
+rows_none words p h = record {
+  same = refl;
+  long = refl;
+  fits = h;
+  put = record { end_is = omega arith; end_by = omega arith; after_is = sym (put_at_nil p.out.now p.end) };
+}
 
-module _ (words : List ℕ) (i n : ℕ) (s t : List ℕ) (m : ℕ) (p : Put s 0 (rows i words) (line_limit * i) m t) where
-  pub rows_more : (u : List ℕ) (k : ℕ) → i < n → line_limit * n ≤ length s → Put t m (row_at words (i * record_width)) line_limit k u
-      → Put s 0 (rows (i + 1) words) (line_limit * (i + 1)) k u
-  unfolding rows
-  rows_more u k h room q = rw (add-one i) (put_then p q (omega arith) (omega (arith, p.end_by, q.end_by)))
-
-  pub rows_all : i ≤ n → n ≤ i → Put s 0 (rows n words) (line_limit * n) m t
-  rows_all h k =
-      let e : i ≡ n = omega arith in
-      rw e at p
-
--- ---- the last line
-
-pub last_put : {s t u v w : List ℕ} {at k l m n : ℕ} (left right deliveries : ℕ) → Put s at (labelled left_word left) (4 + field_limit) k t
-    → Put t k (labelled right_word right) (6 + field_limit) l u
-    → Put u l (labelled claims_word deliveries) (7 + field_limit) m v
-    → n ≡ end_from v m line_feed
-    → w ≡ put_from v m line_feed
-    → length t ≡ length s
-    → length u ≡ length t
-    → length v ≡ length u
-    → at + last_limit ≤ length s
-    → Put s at (last_line left right deliveries) last_limit n w
-last_put {s} {t} {u} {v} {w} {at} {k} {l} {m} {n} left right deliveries a b c ends put e f g h =
-    let p = a.end_by in
-    let q = b.end_by in
-    let r = c.end_by in
-    let d = put_from_lem v m line_feed {most = 1} ends put (omega arith) (omega arith) in
-    let z = d.end_by in
-    let third = put_then {xs = labelled claims_word deliveries} {most = 7 + field_limit + 1} c d (omega arith) (omega arith) in
-    let second = put_then {xs = labelled right_word right} {most = 6 + field_limit + (7 + field_limit) + 1} b third (omega arith) (omega arith) in
-    put_then {xs = labelled left_word left} a second (omega arith) (omega arith)
+-- one more line, of a record among the first n that were cut out of the words
+pub rows_more : {p q r : Page} (words : List ℕ) (i : ℕ) (cut : List (List ℕ)) (n : ℕ) → Puts p (rows i words) (line_limit * i) q
+    → cut ≡ first_chunks record_width (records_in words) words
+    → i < n
+    → n * record_width ≤ length words
+    → Puts q (row_at (get_or (take n cut) i []) 0) line_limit r
+    → Puts p (rows (i + 1) words) (line_limit * (i + 1)) r
+unfolding rows
+rows_more {p} {q} {r} words i cut n s e h many t =
+    let within : i < records_in words = omega arith in
+    let row = rw (get_or-take n cut i [] h, e, row_at_chunk (records_in words) i words [] within) at t in
+    let most : line_limit * i + line_limit ≡ line_limit * suc i = omega arith in
+    rw (add-one i, ← most) (puts_then s row)
 
 -- ---- the whole text
 
@@ -135,9 +91,9 @@ module _ (input lent : List ℕ) (long : length lent ≡ record_width * lent_rec
         let short = length_refused_line r.number (omega arith) in
         rw printed_refused at (put_from_lem s 0 (refused_line r.number) {most = text_limit} e f (omega arith) (omega arith))
 
-  module _ (yes : r.number ≡ 0) where
+  module _ (done : r.number ≡ 0) where
     number_zero : (rehearsed input lent_records).number ≡ 0
-    number_zero = sym (ap (λ (x : Rehearsed). x.number) told) ∙ yes
+    number_zero = sym (ap (λ (x : Rehearsed). x.number) told) ∙ done
 
     none : rehearse_number input lent_records ≡ 0
     none = sym (rehearsed_number input lent_records) ∙ number_zero
@@ -163,8 +119,10 @@ module _ (input lent : List ℕ) (long : length lent ≡ record_width * lent_rec
         ap₂ ◌++◌ p (ap (λ (x : Rehearsed). last_line x.left x.right x.deliveries) told)
         ∙ sym (settle_done t.number (lines ds ++ last_line t.left t.right t.deliveries) refused_line number_zero)
 
-    pub text_told : (s t u : List ℕ) (m n : ℕ) → length s ≡ text_limit → Put s 0 (rows r.deliveries words) (line_limit * r.deliveries) m t
-        → Put t m (last_line r.left r.right r.deliveries) last_limit n u → Put s 0 (printed input) text_limit n u
-    text_told s t u m n h p q =
+    pub text_told : {p q u : Page} → p.end ≡ 0 → Puts p (rows r.deliveries words) (line_limit * r.deliveries) q
+        → Puts q (last_line r.left r.right r.deliveries) last_limit u
+        → Put p.out.now 0 (printed input) text_limit u.end u.out.now
+    text_told {p} {q} {u} front a b =
         let fits = told_fits in
-        rw printed_told at (put_then {most = text_limit} p q (omega arith) (omega (arith, p.end_by, q.end_by)))
+        let put = rw (front, printed_told) at ((puts_then a b).put) in
+        record { end_is = put.end_is; end_by = omega (arith, put.end_by); after_is = put.after_is }

@@ -12,8 +12,8 @@ use Rattle.rule.specs.Call.{round_questions, round_by, records_in}
 use Rattle.rule.proofs.CallLaws.{round_questions_yes, round_yes_rounded}
 use Rattle.wire.specs.Image.{front_question14, read_image_questions}
 use Rattle.wire.proofs.ImageLaws.{image_numbered}
-use Rattle.rehearsal.specs.declared.answer.Rehearsed.{Rehearsed}
-use Rattle.rehearsal.specs.Rehearsal.{first_bytes, second_bytes, store_in, questions_after, no_rehearsal, round_told, round_words}
+use Rattle.rehearsal.specs.Answer.{Rehearsed, no_rehearsal}
+use Rattle.rehearsal.specs.Rehearsal.{first_bytes, second_bytes, store_in, questions_after, round_told, round_words}
 use Rattle.rehearsal.specs.Rehearsal.{told_by, words_by, rehearse_number, rehearsed, rehearsed_words}
 
 -- ---- what is decided by a number

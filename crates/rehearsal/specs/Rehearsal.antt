@@ -7,7 +7,7 @@ use Rattle.claims.specs.Question.{Question, first_no, settle}
 use Rattle.rule.specs.Round.{transcript}
 use Rattle.rule.specs.Call.{round_questions, round_by, delivery_words, records_in}
 use Rattle.wire.specs.Image.{sections, told_length, front_question14, read_image_questions, read_image}
-use Rattle.rehearsal.specs.declared.answer.Rehearsed.{Rehearsed}
+use Rattle.rehearsal.specs.Answer.{Rehearsed, no_rehearsal}
 
 -- "reads two images end to end .. (the first as long as its counts say, the rest is the second"
 abbrev pub first_bytes : List ℕ → List ℕ
@@ -29,10 +29,6 @@ abbrev pub rehearse_questions : List ℕ → ℕ → List Question
 rehearse_questions input records =
     front_question14 input
     ∷ (read_image_questions (first_bytes input) ++ questions_after (store_in (first_bytes input)) (second_bytes input) records)
-
--- "A refusal returns its number, .. and zeros for any claim or count."
-abbrev pub no_rehearsal : ℕ → Rehearsed
-no_rehearsal number = record { number = number; left = 0; right = 0; deliveries = 0 }
 
 -- "both counts and the deliveries", after the round of two stores
 abbrev pub round_told : Store → Store → Rehearsed
@@ -70,11 +66,3 @@ rehearsed_words input lent = words_by (rehearse_number input (records_in lent)) 
 pub record Rehearsal (input lent : List ℕ) (r : Rehearsed) (after : List ℕ) : Type 0 where
   pub told : r ≡ rehearsed input (records_in lent)
   pub words : after ≡ rehearsed_words input lent
-
--- The same once the first image has given the left store.
-unfoldable pub number_after : Store → List ℕ → ℕ → ℕ
-number_after left rest records = first_no (questions_after left rest records)
-
-pub record AfterFirst (left : Store) (rest lent : List ℕ) (r : Rehearsed) (after : List ℕ) : Type 0 where
-  pub told : r ≡ told_by (number_after left rest (records_in lent)) left (store_in rest)
-  pub words : after ≡ words_by (number_after left rest (records_in lent)) left (store_in rest) lent

@@ -7,7 +7,7 @@ use Rattle.rule.specs.Round.{transcript}
 use Rattle.rule.specs.Call.{round_by, record_width}
 use Rattle.text.specs.Decimal.{decimal, digit_limit}
 use Rattle.text.specs.Line.{line_feed, space, refused_line}
-use Rattle.rehearsal.specs.declared.answer.Rehearsed.{Rehearsed}
+use Rattle.rehearsal.specs.Answer.{Rehearsed}
 use Rattle.rehearsal.specs.Rehearsal.{first_bytes, second_bytes, store_in, rehearsed}
 
 -- ---- characters

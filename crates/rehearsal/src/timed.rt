@@ -11,6 +11,5 @@ pub fn minutefrost_timed_round(input: &[u8], words: &mut [u64]) -> usize
     ensures { (result ≡ (rehearsed input.now (records_in words.old)).deliveries)
         × (words.new ≡ rehearsed_words input.now words.old) }
 {
-    let told = rehearse(input, words);
-    told.deliveries
+    rehearse(input, words).map_or(0, |told| told.deliveries)
 }

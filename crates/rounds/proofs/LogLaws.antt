@@ -1,4 +1,4 @@
--- Laws of specs/Log. In order: a record in words, one law for each way that the code goes; the first words; records stored one after the other; a round
+-- Laws of specs/Log. In order: a record in words; the first words; records stored one after the other; a round
 -- on the first words, which no record of a round exceeds, and that storing its records is the round over records; one record read. Assumes nothing.
 use Prim.Native.Nat.{ℕ, zero, suc, ◌*◌, ◌%◌, ◌≤◌, ◌<◌, min}
 use mathlib.Core.Bool.{Bool, true, false, cond}
@@ -6,7 +6,7 @@ use mathlib.Core.List.{List, ◌∷◌, ◌++◌, append_assoc}
 use mathlib.Core.Path.{◌≡◌, refl, sym, ap, ap₂, ◌∙◌, subst}
 use mathlib.Core.Logic.{⊎_elim}
 use native.Mathlib.Omega.{arith}
-use borrow.Author.Tests.{lt-ltb, le-ltb, leb-true, leb-false, le-leb, lt-leb}
+use borrow.Author.Tests.{lt-ltb, leb-true, leb-false, le-leb, lt-leb}
 use lib.Dec.{leb}
 use lib.ListN.{length, take, drop, get_or, set, replicate, length-replicate, length-set, length-append, length-map, take-append-drop}
 use lib.Seq.{length-take-le, take-suc, drop-cons, split_at, append_snoc, set_at, drop-append-le, take-length}
@@ -19,7 +19,7 @@ use Rattle.keys.proofs.PlaceLaws.{put_at_zero}
 use Rattle.claims.specs.declared.claim.Claim.{Claim}
 use Rattle.claims.specs.Question.{first_no, settle}
 use Rattle.rule.specs.declared.delivery.Delivery.{Delivery}
-use Rattle.rule.specs.declared.answer.Met.{Met}
+use Rattle.rule.specs.Answer.{Met}
 use Rattle.rule.specs.Round.{union, Line, Run, transcript}
 use Rattle.rule.specs.Call.{record_width, records_in, delivery_words, round_questions, round_by, met, met_lent, met_words}
 use Rattle.rule.proofs.CallLaws.{RoundYes, round_questions_yes, met_done, met_refused, round_yes_rounded, met_lent_done, met_lent_refused, met_words_done}
@@ -32,14 +32,10 @@ use Rattle.rounds.proofs.Narrow.{Narrow, AllNarrow, all_narrow_get_d, round_narr
 -- ---- a record in words
 
 module _ (words : List ℕ) (at : ℕ) where
-  pub delivery_in_some : at < records_in words → (c : Claim) → c ≡ claim_in words at
+  delivery_in_some : at < records_in words → (c : Claim) → c ≡ claim_in words at
       → record { sender = get_or words (at * record_width) 0 % 256; claim = c } ≡ delivery_in words at
   unfolding delivery_in
   delivery_in_some h c e = rw (lt-ltb at (records_in words) h, e)
-
-  pub delivery_in_none : records_in words ≤ at → no_delivery ≡ delivery_in words at
-  unfolding delivery_in
-  delivery_in_none h = rw (le-ltb at (records_in words) h)
 
 -- ---- the first words
 
@@ -47,16 +43,18 @@ module _ (words : List ℕ) (records n : ℕ) (e : n ≡ front_records words rec
   pub length_take_front : length (take (n * record_width) words) ≡ n * record_width
   length_take_front = length-take-le (n * record_width) words (omega (arith, e))
 
-  pub front_met : (s t : Store) (r : Met) (after : List ℕ)
-      → (r ≡ met s t (records_in (take (n * record_width) words))) × (after ≡ met_words s t (take (n * record_width) words))
-      → (r ≡ met s t (front_records words records)) × (after ++ drop (n * record_width) words ≡ front_words s t words records)
-  unfolding front_words
-  front_met s t r after h =
-      let k : records_in (take (n * record_width) words) ≡ front_records words records = omega (arith, e, length_take_front) in (
-        h.0 ∙ ap (met s t) k,
-        ap (λ (v : List ℕ). v ++ drop (n * record_width) words) h.1
-            ∙ ap (λ (m : ℕ). met_words s t (take (m * record_width) words) ++ drop (m * record_width) words) e,
-      )
+  module _ (s t : Store) where
+    pub front_met : (r : Met) → r ≡ met s t (records_in (take (n * record_width) words)) → r ≡ met s t (front_records words records)
+    front_met r h =
+        let k : records_in (take (n * record_width) words) ≡ front_records words records = omega (arith, e, length_take_front) in
+        h ∙ ap (met s t) k
+
+    pub front_lent : (after : List ℕ) → after ≡ met_words s t (take (n * record_width) words)
+        → after ++ drop (n * record_width) words ≡ front_words s t words records
+    unfolding front_words
+    front_lent after h =
+        ap (λ (v : List ℕ). v ++ drop (n * record_width) words) h
+        ∙ ap (λ (m : ℕ). met_words s t (take (m * record_width) words) ++ drop (m * record_width) words) e
 
 -- ---- records stored one after the other
 
@@ -131,7 +129,7 @@ module _ (s t : Store) where
       go false e = rw e
 
 module _ (s t : Store) (words : List ℕ) (long : 2 * limit ≤ records_in words) where
-  pub met_front : (n : ℕ) → met s t (front_records words n) ≡ met s t n
+  met_front : (n : ℕ) → met s t (front_records words n) ≡ met s t n
   unfolding met
   met_front n =
       let by : Run = round_by s t in
@@ -174,7 +172,7 @@ module _ (s t : Store) (words : List ℕ) (long : 2 * limit ≤ records_in words
       (length ds) (omega arith)
       ∙ (ap (λ (l : List Delivery). l ++ drop (length ds) lent) (take-length ds) ∙ (sym (put_at_zero lent ds) ∙ sym (met_lent_done s t lent h)))))
 
-  pub met_lent_lem : (lent : List Delivery) → copied (met s t (length lent)).deliveries (front_words s t words (length lent)) lent ≡ met_lent s t lent
+  met_lent_lem : (lent : List Delivery) → copied (met s t (length lent)).deliveries (front_words s t words (length lent)) lent ≡ met_lent s t lent
   met_lent_lem lent =
       ⊎_elim
       {C = copied (met s t (length lent)).deliveries (front_words s t words (length lent)) lent ≡ met_lent s t lent}
@@ -182,13 +180,47 @@ module _ (s t : Store) (words : List ℕ) (long : 2 * limit ≤ records_in words
       (λ (f : first_no (round_questions s t (length lent)) ≡ 0 → ⊥). rw (met_refused s t (length lent) f, met_lent_refused s t lent f))
       (eq_or_ne (first_no (round_questions s t (length lent))) 0)
 
+  -- what a round on the first words told, and what storing so many of its records does, on a refusal none
+  module _ (lent : List Delivery) (r : Met) (told : r ≡ met s t (front_records words (length lent))) where
+    pub round_met : r ≡ met s t (length lent)
+    round_met = told ∙ met_front (length lent)
+
+    pub round_lent : (after : List ℕ) → after ≡ front_words s t words (length lent) → copied r.deliveries after lent ≡ met_lent s t lent
+    round_lent after e = ap₂ (λ (m : Met) (w : List ℕ). copied m.deliveries w lent) round_met e ∙ met_lent_lem lent
+
 -- ---- a round over records of its own, and one of them
 
-pub recorded_is : (s t : Store) (at n : ℕ) → n ≡ 2 * limit → (r : Met) (zs : List Delivery) (d : Delivery) → r ≡ met s t (length (replicate n no_delivery))
-    → zs ≡ met_lent s t (replicate n no_delivery) → d ≡ get_or zs at no_delivery → record { met = r; delivery = d } ≡ recorded s t at
-unfolding recorded
-recorded_is s t at n full r zs d r-is zs-are d-is =
-    let many : length (replicate n no_delivery) ≡ 2 * limit = length-replicate n no_delivery ∙ full in
-    let one : d ≡ get_or (met_lent s t (replicate (2 * limit) no_delivery)) at no_delivery =
-    d-is ∙ ap (λ (l : List Delivery). get_or l at no_delivery) (zs-are ∙ ap (λ (m : ℕ). met_lent s t (replicate m no_delivery)) full) in
-    λ i. record { met = (r-is ∙ ap (met s t) many) i; delivery = one i }
+-- zeros hold zeros
+zeros_at : (n at : ℕ) → get_or (replicate n no_delivery) at no_delivery ≡ no_delivery
+zeros_at zero at = refl
+zeros_at (suc n) zero = refl
+zeros_at (suc n) (suc at) = zeros_at n at
+
+module _ (s t : Store) (at n : ℕ) (full : n ≡ 2 * limit) (r : Met) (r-is : r ≡ met s t (length (replicate n no_delivery))) where
+  met_full : r ≡ met s t (2 * limit)
+  met_full = r-is ∙ ap (met s t) (length-replicate n no_delivery ∙ full)
+
+  -- where it is refused, the records are zeros still
+  refused_full : 0 < r.number → met_lent s t (replicate (2 * limit) no_delivery) ≡ replicate (2 * limit) no_delivery
+  refused_full above =
+      met_lent_refused s t (replicate (2 * limit) no_delivery)
+      (λ (z : first_no (round_questions s t (length (replicate (2 * limit) no_delivery))) ≡ 0).
+      let m : ℕ = length (replicate (2 * limit) no_delivery) in
+      let same : m ≡ 2 * limit = length-replicate (2 * limit) no_delivery in
+      let none : r.number ≡ 0 = ap (λ (x : Met). x.number) (met_full ∙ (ap (met s t) (sym same) ∙ met_done s t m z)) in
+      omega arith)
+
+  pub recorded_is : (zs : List Delivery) → zs ≡ met_lent s t (replicate n no_delivery) → (d : Delivery) → d ≡ get_or zs at no_delivery
+      → record { met = r; delivery = d } ≡ recorded s t at
+  unfolding recorded
+  recorded_is zs zs-are d d-is =
+      let one : d ≡ get_or (met_lent s t (replicate (2 * limit) no_delivery)) at no_delivery =
+      d-is ∙ ap (λ (l : List Delivery). get_or l at no_delivery) (zs-are ∙ ap (λ (m : ℕ). met_lent s t (replicate m no_delivery)) full) in
+      λ i. record { met = met_full i; delivery = one i }
+
+  pub recorded_refused : 0 < r.number → record { met = r; delivery = no_delivery } ≡ recorded s t at
+  unfolding recorded
+  recorded_refused above =
+      let one : get_or (met_lent s t (replicate (2 * limit) no_delivery)) at no_delivery ≡ no_delivery =
+      ap (λ (l : List Delivery). get_or l at no_delivery) (refused_full above) ∙ zeros_at (2 * limit) at in
+      λ i. record { met = met_full i; delivery = (sym one) i }

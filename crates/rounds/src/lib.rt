@@ -8,5 +8,5 @@ mod log;
 pub use beats::beat;
 pub use log::{Recorded, get, put, round, round_record};
 pub use nodes::{ordered, take};
-pub use rule::{Beaten, Delivery, Met, Node, Taken};
+pub use rule::{Delivery, Node, Table};
 pub use transcript::round_words;

@@ -24,7 +24,7 @@ use Rattle.claims.proofs.QuestionLaws.{claim_questions_numbered, judged_first_no
 use Rattle.claims.proofs.ReplyLaws.{hear_rising, hear_old, hear_ends, hear_fits}
 use Rattle.rule.specs.declared.node.Node.{Node}
 use Rattle.rule.specs.declared.delivery.Delivery.{Delivery}
-use Rattle.rule.specs.declared.answer.Met.{Met}
+use Rattle.rule.specs.Answer.{Met}
 use Rattle.rule.specs.Table.{table_limit, table_with, serve, sending}
 use Rattle.rule.specs.Node.{node_keys, pending_of, node_of}
 use Rattle.rule.specs.Round.{union, transcript}
@@ -191,7 +191,7 @@ ordered_beaten n o h =
     (λ d m. o.fit d (kept_mem l (pending_of n) d m))
 
 pub length_pending_of : (n : Node) → Ordered n → length (pending_of n) ≤ table_limit
-length_pending_of n o = rw (length-take n.count n.pending) (omega (arith, o.count))
+length_pending_of n o = rw (length-take n.pending.count n.pending.claims) (omega (arith, o.count))
 
 -- the rule's facts, of a round that was not refused
 pub round_yes_rounded : (s t : Store) (n : ℕ) → RoundYes s t n → Rounded (keys_of s) (keys_of t)

@@ -9,7 +9,7 @@ use lib.ListN.{length}
 use Rattle.keys.specs.Store.{limit}
 use Rattle.keys.proofs.Rising.{Rising, Sub, sub_refl, rising_length}
 use Rattle.claims.specs.declared.claim.Claim.{Claim}
-use Rattle.claims.specs.declared.answer.Answer.{Answer}
+use Rattle.claims.specs.Answer.{Answer}
 use Rattle.claims.specs.Claim.{between, middle_key}
 use Rattle.claims.specs.Reply.{adding, hear, reply, claims_of}
 use Rattle.claims.proofs.Between.{inside, between_rising, length_between_within, length_between_two, length_sub_between}

@@ -158,7 +158,7 @@ joined_node_comm n m o p =
     ap₂ node_of (union_comm (node_keys n) (node_keys m) (in_order_rising n.store o.store) (in_order_rising m.store p.store))
     (joined_table_comm (pending_of n) (pending_of m) o.table p.table)
 
-pub joined_node_self : (n : Node) → Sized n.store → length n.pending ≡ table_limit → Ordered n → joined_node n n ≡ n
+pub joined_node_self : (n : Node) → Sized n.store → length n.pending.claims ≡ table_limit → Ordered n → joined_node n n ≡ n
 joined_node_self n k p o =
     ap₂ node_of (union_self (node_keys n) (in_order_rising n.store o.store))
     (joined_table_self (pending_of n) o.table (length_pending_of n o))

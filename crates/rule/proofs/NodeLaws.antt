@@ -29,7 +29,7 @@ use Rattle.claims.proofs.ClaimLaws.{same_claim}
 use Rattle.claims.proofs.ReplyLaws.{Spanned, answer_spanned}
 use Rattle.rule.specs.declared.node.Node.{Node}
 use Rattle.rule.specs.Table.{table_limit, climbs}
-use Rattle.rule.specs.Node.{blanks, pending_of, node_keys, node_of, empty_node, holds_all, all_fit, all_tell, telling, all_unused, saved_in_order, node_in_order}
+use Rattle.rule.specs.Node.{blanks, table_by, pending_of, node_keys, node_of, empty_node, holds_all, all_fit, all_tell, telling, all_unused, saved_in_order, node_in_order}
 use Rattle.rule.proofs.TableLaws.{climbs_those, those_mem, those_snoc, those_all, length_those}
 
 -- ---- keys held, and claims that fit
@@ -169,10 +169,10 @@ length_mapped X Y f l n e = sym (length-map l f) ∙ e
 -- by how its pending claims are judged ..
 pub record OrderedBy (judge : Claim → ℕ) (n : Node) : Type 0 where
   pub store : in_order n.store ≡ true
-  pub count : n.count ≤ table_limit
+  pub count : n.pending.count ≤ table_limit
   pub table : climbs (pending_of n) ≡ true
   pub fit : (c : Claim) → Memᴰ c (pending_of n) → FitsBy judge c (node_keys n)
-  pub unused : all_unused (drop n.count n.pending) ≡ true
+  pub unused : all_unused (drop n.pending.count n.pending.claims) ≡ true
 
 -- .. as a node that is given, and as one in an image
 abbrev pub Ordered : Node → Type 0
@@ -185,16 +185,16 @@ pub saved_in_order_saved : (n : Node) → saved_in_order n ≡ true → Saved n
 unfolding saved_in_order
 saved_in_order_saved n h =
     let a : Bool = in_order n.store in
-    let b : Bool = leb n.count table_limit in
+    let b : Bool = leb n.pending.count table_limit in
     let c : Bool = climbs (pending_of n) in
     let d : Bool = all_fit (pending_of n) (node_keys n) in
-    let e : Bool = all_unused (drop n.count n.pending) in
+    let e : Bool = all_unused (drop n.pending.count n.pending.claims) in
     let h1 : (b && (c && (d && e))) ≡ true = and_right a (b && (c && (d && e))) h in
     let h2 : (c && (d && e)) ≡ true = and_right b (c && (d && e)) h1 in
     let h3 : (d && e) ≡ true = and_right c (d && e) h2 in
     record {
       store = and_left a (b && (c && (d && e))) h;
-      count = leb-true n.count table_limit (and_left b (c && (d && e)) h1);
+      count = leb-true n.pending.count table_limit (and_left b (c && (d && e)) h1);
       table = and_left c (d && e) h2;
       fit = all_fit_mem (pending_of n) (node_keys n) (and_left d e h3);
       unused = and_right d e h3;
@@ -203,12 +203,12 @@ saved_in_order_saved n h =
 pub saved_saved_in_order : (n : Node) → Saved n → saved_in_order n ≡ true
 unfolding saved_in_order
 saved_saved_in_order n o =
-    let b : Bool = leb n.count table_limit in
+    let b : Bool = leb n.pending.count table_limit in
     let c : Bool = climbs (pending_of n) in
     let d : Bool = all_fit (pending_of n) (node_keys n) in
-    let e : Bool = all_unused (drop n.count n.pending) in
+    let e : Bool = all_unused (drop n.pending.count n.pending.claims) in
     and_both (in_order n.store) (b && (c && (d && e))) o.store
-    (and_both b (c && (d && e)) (le-leb n.count table_limit o.count)
+    (and_both b (c && (d && e)) (le-leb n.pending.count table_limit o.count)
     (and_both c (d && e) o.table
     (and_both d e (mem_all_fit (pending_of n) (node_keys n) o.fit) o.unused)))
 
@@ -247,7 +247,7 @@ ordered_node_in_order n o = and_both (saved_in_order n) (all_tell (pending_of n)
 -- ---- a node whose store became the store of more keys
 
 abbrev pub restored : Node → Store → Node
-restored n s = record { store = s; pending = n.pending; count = n.count }
+restored n s = record { store = s; pending = n.pending }
 
 pub ordered_restored : (n : Node) (l : List ℕ) → Ordered n → Rising l → length l ≤ limit → Sub (node_keys n) l → Ordered (restored n (store_of l))
 ordered_restored n l o r h s = record {
@@ -284,18 +284,18 @@ ordered_node_of l t r h g u f = record {
 }
 
 -- a node in order, with as many places as the limits say, is the node of its keys and its pending claims
-pub node_of_same : (n : Node) → Sized n.store → length n.pending ≡ table_limit → Ordered n → n ≡ node_of (node_keys n) (pending_of n)
+pub node_of_same : (n : Node) → Sized n.store → length n.pending.claims ≡ table_limit → Ordered n → n ≡ node_of (node_keys n) (pending_of n)
 unfolding node_of
 node_of_same n k p o =
     let s : n.store ≡ store_of (node_keys n) = store_of_keys_of n.store k o.store in
-    let h : n.count ≤ table_limit = o.count in
-    let c : length (pending_of n) ≡ n.count = length-take-le n.count n.pending (omega arith) in
-    let d : length (drop n.count n.pending) ≡ table_limit - length (pending_of n) = length-drop n.count n.pending ∙ (omega arith) in
-    let b : drop n.count n.pending ≡ blanks (table_limit - length (pending_of n))
-    = blanks_all_unused (drop n.count n.pending) o.unused ∙ ap blanks d in
-    let t : n.pending ≡ pending_of n ++ blanks (table_limit - length (pending_of n))
-    = sym (take-append-drop n.count n.pending) ∙ ap (λ (x : List Claim). pending_of n ++ x) b in
-    λ i. record { store = s i; pending = t i; count = sym c i }
+    let h : n.pending.count ≤ table_limit = o.count in
+    let c : length (pending_of n) ≡ n.pending.count = length-take-le n.pending.count n.pending.claims (omega arith) in
+    let d : length (drop n.pending.count n.pending.claims) ≡ table_limit - length (pending_of n) = length-drop n.pending.count n.pending.claims ∙ (omega arith) in
+    let b : drop n.pending.count n.pending.claims ≡ blanks (table_limit - length (pending_of n))
+    = blanks_all_unused (drop n.pending.count n.pending.claims) o.unused ∙ ap blanks d in
+    let t : n.pending.claims ≡ pending_of n ++ blanks (table_limit - length (pending_of n))
+    = sym (take-append-drop n.pending.count n.pending.claims) ∙ ap (λ (x : List Claim). pending_of n ++ x) b in
+    λ i. record { store = s i; pending = table_by (t i) (sym c i) }
 
 -- The node that is used of an image: without the claims that fail 16, it is in order as a node that is given.
 pub ordered_telling : (l : List ℕ) (t : List Claim) → Saved (node_of l t) → Ordered (node_of l (telling t))
@@ -314,7 +314,7 @@ ordered_telling l t o =
 
 pub empty_node_node_of : empty_node ≡ node_of [] []
 unfolding empty_node node_of
-empty_node_node_of = λ i. record { store = empty_store_store_of i; pending = blanks table_limit; count = 0 }
+empty_node_node_of = λ i. record { store = empty_store_store_of i; pending = table_by (blanks table_limit) 0 }
 
 pub ordered_empty_node : Ordered empty_node
 ordered_empty_node = rw empty_node_node_of (ordered_node_of [] [] tt (omega arith) (omega arith) refl (λ c m. absurd (Memᴰ.not-nil m)))

@@ -13,8 +13,8 @@ use lib.ListN.{length, take, drop, length-append, length-take, take-append-drop}
 use Rattle.keys.proofs.Rising.{take_mem, drop_mem}
 use Rattle.keys.proofs.Tests.{and_left, and_right, and_both, Order, less, equal, greater, order}
 use Rattle.claims.specs.declared.claim.Claim.{Claim}
-use Rattle.claims.specs.declared.answer.Answer.{Answer}
-use Rattle.claims.specs.declared.answer.Answer.TheVariants.{Refused, Match, Ask, One, Two}
+use Rattle.claims.specs.Answer.{Answer}
+use Rattle.claims.specs.Answer.{Refused, Match, Ask, One, Two}
 use Rattle.claims.specs.Claim.{whole_claim}
 use Rattle.claims.specs.Reply.{same, answer, claims_of, matches}
 use Rattle.claims.proofs.ClaimLaws.{claim_ext, claim_same}

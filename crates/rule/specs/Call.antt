@@ -11,9 +11,9 @@ use Rattle.claims.specs.Reply.{ends, hear}
 use Rattle.claims.specs.Words.{claim_width, words_of}
 use Rattle.rule.specs.declared.node.Node.{Node}
 use Rattle.rule.specs.declared.delivery.Delivery.{Delivery}
-use Rattle.rule.specs.declared.answer.Taken.{Taken}
-use Rattle.rule.specs.declared.answer.Beaten.{Beaten}
-use Rattle.rule.specs.declared.answer.Met.{Met}
+use Rattle.rule.specs.Answer.{Taken}
+use Rattle.rule.specs.Answer.{Beaten}
+use Rattle.rule.specs.Answer.{Met}
 use Rattle.rule.specs.Table.{table_with, joined_table, serve, sending, beat_limit}
 use Rattle.rule.specs.Node.{node_keys, pending_of, node_of}
 use Rattle.rule.specs.Round.{union, Run, round_of, transcript}

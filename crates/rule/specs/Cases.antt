@@ -10,9 +10,9 @@ use Rattle.claims.specs.Cases.{claim, up_from}
 use Rattle.claims.specs.Question.{Question, first_no}
 use Rattle.rule.specs.declared.node.Node.{Node}
 use Rattle.rule.specs.declared.delivery.Delivery.{Delivery}
-use Rattle.rule.specs.declared.answer.Taken.{Taken}
-use Rattle.rule.specs.declared.answer.Beaten.{Beaten}
-use Rattle.rule.specs.declared.answer.Met.{Met}
+use Rattle.rule.specs.Answer.{Taken}
+use Rattle.rule.specs.Answer.{Beaten}
+use Rattle.rule.specs.Answer.{Met}
 use Rattle.rule.specs.Node.{node_of, empty_node, telling, saved_in_order, node_in_order}
 use Rattle.rule.specs.Round.{any_false}
 use Rattle.rule.specs.Call.{taken, beaten, beaten_lent, join_questions, joined, met, met_lent, met_words, round_by}

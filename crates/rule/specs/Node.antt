@@ -9,15 +9,20 @@ use Rattle.claims.specs.Reply.{ends, same}
 use Rattle.claims.specs.Question.{question16}
 use Rattle.claims.specs.Call.{judged_formerly}
 use Rattle.rule.specs.declared.node.Node.{Node}
+use Rattle.rule.specs.declared.node.Table.{Table}
 use Rattle.rule.specs.Table.{table_limit, climbs, those}
 
 -- n unused places of a table: "unused places are zeros"
 unfoldable pub blanks : ℕ → List Claim
 blanks n = replicate n no_claim
 
+-- the table of these places, so many of which are used
+abbrev pub table_by : List Claim → ℕ → Table
+table_by claims count = record { claims = claims; count = count }
+
 -- the pending claims of a node: its places below the count
 abbrev pub pending_of : Node → List Claim
-pending_of n = take n.count n.pending
+pending_of n = take n.pending.count n.pending.claims
 
 -- the keys of a node's store
 abbrev pub node_keys : Node → List ℕ
@@ -25,11 +30,11 @@ node_keys n = keys_of n.store
 
 -- the node of some keys and some pending claims: these, then zeros to the limits
 unfoldable pub node_of : List ℕ → List Claim → Node
-node_of l t = record { store = store_of l; pending = t ++ blanks (table_limit - length t); count = length t }
+node_of l t = record { store = store_of l; pending = table_by (t ++ blanks (table_limit - length t)) (length t) }
 
 -- "a node with the empty store and nothing pending"
 unfoldable pub empty_node : Node
-empty_node = record { store = empty_store; pending = blanks table_limit; count = 0 }
+empty_node = record { store = empty_store; pending = table_by (blanks table_limit) 0 }
 
 -- are all of the keys ks among the keys l?
 abbrev pub holds_all : List ℕ → List ℕ → Bool
@@ -60,10 +65,10 @@ all_unused (c ∷ cs) = same c no_claim && all_unused cs
 unfoldable pub saved_in_order : Node → Bool
 saved_in_order n =
     in_order n.store
-    && (leb n.count table_limit
+    && (leb n.pending.count table_limit
     && (climbs (pending_of n)
     && (all_fit (pending_of n) (node_keys n)
-    && all_unused (drop n.count n.pending))))
+    && all_unused (drop n.pending.count n.pending.claims))))
 
 -- A node is in order when each pending claim passes 16 as well: "a node given with one gets 1" (document 02, slip 2).
 unfoldable pub node_in_order : Node → Bool

@@ -2,7 +2,7 @@
 -- the table, two tables in one, serving the table. A table is the list of its claims. Not here: the node that has a table (Node), the calls (Call). Assumes nothing.
 use Rattle.std.specs.Prelude.{ℕ, ◌+◌, ◌*◌, Bool, true, false, cond, not, ◌&&◌, List, [], ◌∷◌, ◌++◌, ltb, eqb, take, drop}
 use Rattle.claims.specs.declared.claim.Claim.{Claim}
-use Rattle.claims.specs.declared.answer.Answer.{Answer}
+use Rattle.claims.specs.Answer.{Answer}
 use Rattle.claims.specs.Claim.{whole_claim}
 use Rattle.claims.specs.Reply.{same, answer, case_of, is_asked, claims_of, matches}
 

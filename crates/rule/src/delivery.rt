@@ -2,7 +2,7 @@
 use claims::Claim;
 use keys::Store;
 
-// The sender is 0 for the left end and 1 for the right one.
+// The sender is 0 for the left end and 1 for the right one: a number, since a lent record may hold any.
 #[derive(Clone, Copy)]
 pub struct Delivery {
     pub sender: u8,

@@ -6,6 +6,6 @@ mod answer;
 mod delivery;
 mod node;
 
-pub use answer::{Beaten, Met, Rest, Taken};
+pub use answer::Rest;
 pub use delivery::Delivery;
-pub use node::Node;
+pub use node::{Node, Table};

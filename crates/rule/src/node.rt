@@ -2,12 +2,26 @@
 use claims::Claim;
 use keys::Store;
 
-// A store and up to 64 pending claims: the table's places, and how many of them are used.
+// Up to 64 pending claims: the table's places, and how many of them are used. Fixed memory, as of a store: no call allocates.
+#[derive(Clone, Copy)]
+pub struct Table {
+    pub claims: [Claim; Node::TABLE],
+    pub count: usize,
+}
+
+// A store and its pending claims.
 #[derive(Clone, Copy)]
 pub struct Node {
     pub store: Store,
-    pub pending: [Claim; Node::TABLE],
-    pub count: usize,
+    pub pending: Table,
+}
+
+impl Table {
+    // The table with nothing pending.
+    pub const EMPTY: Table = Table {
+        claims: [Claim::NONE; Node::TABLE],
+        count: 0,
+    };
 }
 
 impl Node {

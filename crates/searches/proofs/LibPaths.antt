@@ -1,4 +1,4 @@
--- Places as numbers (src/lib.rt): that they fit, and one law for each way that the code goes, over the definitions of specs/Told. Assumes nothing.
+-- Places as numbers (src/lib.rt): that they fit, and a law for each way that telling two of them goes, over the definitions of specs/Told. Assumes nothing.
 use mathlib.Core.Path.{◌≡◌, refl, ◌∙◌}
 use mathlib.Core.Bool.{Bool, true, false, ◌&&◌}
 use mathlib.Core.List.{List, [], ◌∷◌}
@@ -14,15 +14,6 @@ use Rattle.keys.proofs.Tests.{and_right}
 use Rattle.keys.proofs.PlaceLaws.{put_at_one, put_at_cons}
 use Rattle.keys.proofs.LentLaws.{place_in_le}
 use Rattle.searches.specs.Told.{told_place, told_places}
-
--- `told_place`
-
-module _ (p : Place) where
-  pub told_held : p.held ≡ true → p.at + p.at + 1 ≡ told_place p
-  told_held e = rw e
-
-  pub told_missing : p.held ≡ false → p.at + p.at ≡ told_place p
-  told_missing e = rw e (omega arith)
 
 -- a place is at most the number of keys in the run, whatever the count, ..
 place_in_length : (keys : List ℕ) (count key : ℕ) → (place_in keys count key).at ≤ length keys

@@ -13,8 +13,7 @@ fn told_place(place: Place) -> usize
     requires { place.at + place.at + 1 < 2 ^ 64 }
     ensures { result ≡ told_place place }
 {
-    let twice = place.at + place.at;
-    if place.held { twice + 1 } else { twice }
+    place.at + place.at + usize::from(place.held)
 }
 
 // The place of a key among the first `count` keys.

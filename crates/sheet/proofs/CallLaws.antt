@@ -9,7 +9,7 @@ use Rattle.keys.specs.Store.{limit}
 use Rattle.keys.specs.Place.{put_at}
 use Rattle.claims.specs.Question.{first_no}
 use Rattle.claims.proofs.QuestionLaws.{first_no_zero, settle_done, settle_refused, settle_number}
-use Rattle.wire.specs.declared.answer.Length.{Length}
+use Rattle.wire.specs.Answer.{Length}
 use Rattle.wire.specs.Length.{no_length}
 use Rattle.sheet.specs.Sheet.{sheet_text}
 use Rattle.sheet.specs.Call.{sheet_question15, write_sheet_in_questions, write_sheet_in, sheet_in_lent}

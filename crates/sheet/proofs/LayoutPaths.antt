@@ -1,45 +1,78 @@
--- One law for each way that src/layout.rt goes. In order: spaces; a number in its field; a column and a row; a numbered word and the head line; rows one after
--- the other; a page; pages one after the other. Assumes nothing.
-use Prim.Native.Nat.{ℕ, suc, ◌+◌, ◌-◌, ◌*◌, ◌^◌, ◌≤◌, ◌<◌, min}
+-- One law for each way that src/layout.rt goes. In order: one piece, and one after another; spaces; a number in its field; a row; the head line; rows one
+-- after the other; a page; pages one after the other. Assumes nothing.
+use Prim.Native.Nat.{ℕ, suc, ◌+◌, ◌-◌, ◌^◌, ◌≤◌, ◌<◌, min}
+use native.Mathlib.Nat.{zero-add}
 use native.Mathlib.Numerals.{add-one}
 use native.Mathlib.Omega.{arith}
-use mathlib.Core.List.{List, [], ◌∷◌, ◌++◌, append_assoc}
-use mathlib.Core.Logic.{◌⊎◌, inl, inr, ⊎_elim}
+use borrow.Author.Tests.{ltb-true}
+use lib.Dec.{ltb}
+use borrow.Rule.Slice.PartMut.{put_mid}
+use mathlib.Core.Bool.{true, false}
+use mathlib.Core.List.{List, [], ◌∷◌, ◌++◌, append-nil}
 use mathlib.Core.Path.{◌≡◌, refl, ap, sym, ◌∙◌}
-use lib.ListN.{length, take, drop, get_or, set, length-append, length-drop, drop_of_length-le}
-use lib.Seq.{drop-drop, take_all}
+use lib.ListN.{length, replicate, get_or, length-append, length-replicate}
+use Rattle.std.proofs.lemmas.List.{nil_from_length, get_or_read}
 use Rattle.keys.specs.Store.{limit}
 use Rattle.keys.specs.Place.{put_at}
-use Rattle.keys.proofs.Tests.{lt_or_le, eq_or_ne}
-use Rattle.keys.proofs.PlaceLaws.{length_put_at, put_at_nil, put_at_append, put_at_behind, put_at_one, put_at_then, put_at_four_blocks, slice_rest}
+use Rattle.keys.proofs.PlaceLaws.{length_put_at, put_at_append, put_at_behind}
 use Rattle.text.specs.Decimal.{decimal}
+use Rattle.text.proofs.DecimalLaws.{length_decimal_most}
 use Rattle.text.specs.Line.{line_feed, space}
 use Rattle.text.specs.Put.{put_from, end_from, put_before, start_before}
-use Rattle.text.proofs.GroupsLaws.{take_capped}
-use Rattle.text.proofs.PutLaws.{from_room, before_room, Left, left_all, left_more, left_none}
-use Rattle.sheet.specs.Sheet.{line_width, line_size, field_width, number_width, row_keys, page_keys, spaces, right_aligned, field, row, page_word, of_word, head_line}
-use Rattle.sheet.specs.Sheet.{rows, page, page_groups, pages_from, line, lines_text, sheet_lines, sheet_text, page_count}
+use Rattle.text.specs.Groups.{in_groups}
+use Rattle.text.proofs.GroupsLaws.{in_groups_nil, in_groups_cut}
+use Rattle.text.proofs.PutLaws.{put_part, from_room, before_room, Left, left_all, left_more, left_none}
+use Rattle.sheet.specs.Sheet.{line_width, line_size, field_width, number_width, row_keys, page_keys, spaces, right_aligned, field, row, page_word}
+use Rattle.sheet.specs.Sheet.{of_word, head_line, rows, page, page_groups, pages_from, line, lines_text, sheet_lines, sheet_text, page_count}
 use Rattle.sheet.specs.Laid.{KeysFit, HeadGiven, PageGiven}
-use Rattle.sheet.proofs.LineLaws.{length_spaces, spaces_none, spaces_more, length_right_aligned, field_used, field_unused, length_field, column_width, row_columns, row_is_line}
-use Rattle.sheet.proofs.LineLaws.{keys_fit_drop, head_width, head_pieces, head_is_line, length_line}
-use Rattle.sheet.proofs.SheetLaws.{lines_text_nil, lines_text_cons, lines_text_append, rows_nil, rows_turn, page_groups_last, page_groups_more, length_page_groups, head_given}
+use Rattle.sheet.specs.Puts.{Puts}
+use Rattle.sheet.specs.declared.layout.Sheet.{Sheet}
+use Rattle.sheet.proofs.LineLaws.{length_spaces, length_right_aligned, field_used, row_columns, row_is_line}
+use Rattle.sheet.proofs.LineLaws.{keys_fit_parts, head_width, head_pieces, head_is_line, length_line}
+use Rattle.sheet.proofs.SheetLaws.{lines_text_nil, lines_text_cons, lines_text_append, rows_nil, rows_cut}
+use Rattle.sheet.proofs.SheetLaws.{page_groups_some, page_groups_last, length_page_groups, head_given}
+
+-- ---- one piece, and one after another
+
+pub puts_at : (p q : Sheet) (text : List ℕ) (size : ℕ) → q.out.ghost_name ≡ p.out.ghost_name → length text ≡ size → q.end ≡ p.end + size
+    → q.out.now ≡ put_at p.out.now p.end text
+    → p.end + size ≤ length p.out.now
+    → Puts p text size q
+puts_at p q text size same sized ends put room =
+    let long : length q.out.now ≡ length p.out.now = rw (put, length_put_at p.out.now p.end text (omega (arith, sized))) in
+    record { same = same; long = long; sized = sized; ends = ends; fits = omega (arith, ends, long); put = put }
+
+-- what a call of `text` has put
+pub puts_text : (p q : Sheet) (text : List ℕ) → q.out.ghost_name ≡ p.out.ghost_name → q.end ≡ end_from p.out.now p.end text
+    → q.out.now ≡ put_from p.out.now p.end text
+    → p.end + length text ≤ length p.out.now
+    → Puts p text (length text) q
+puts_text p q text same e f room =
+    let (ends, puts) = from_room p.out.now p.end text room in
+    puts_at p q text (length text) same refl (e ∙ ends) (f ∙ puts) room
+
+pub puts_then : {p q r : Sheet} {xs ys : List ℕ} {a b : ℕ} → Puts p xs a q → Puts q ys b r → Puts p (xs ++ ys) (a + b) r
+puts_then {p} {q} {r} {xs} {ys} {a} {b} s t =
+    let room : p.end + a ≤ length p.out.now = omega (arith, s.ends, s.long, s.fits) in
+    record {
+      same = t.same ∙ s.same;
+      long = t.long ∙ s.long;
+      sized = rw (length-append xs, s.sized, t.sized);
+      ends = omega (arith, s.ends, t.ends);
+      fits = t.fits;
+      put = t.put ∙ rw (s.put, s.ends) (put_at_append p.out.now p.end xs ys a s.sized room);
+    }
 
 -- ---- spaces
 
-module _ (s : List ℕ) (at : ℕ) where
-  pub blank_none : s ≡ put_at s at (spaces 0)
-  blank_none = sym (ap (put_at s at) spaces_none ∙ put_at_nil s at)
-
-  module _ (t : List ℕ) (i n : ℕ) (so : t ≡ put_at s at (spaces i)) where
-    pub blank_more : i < n → at + n ≤ length s → set t (at + i) space ≡ put_at s at (spaces (i + 1))
-    blank_more h room =
-        let many = length_spaces i in
-        let long : length t ≡ length s = rw (so, length_put_at s at (spaces i) (omega arith)) in
-        put_at_one t (at + i) space (omega arith)
-        ∙ rw so (put_at_append s at (spaces i) (space ∷ []) i many (omega arith) ∙ ap (put_at s at) (spaces_more i))
-
-    pub blank_all : i ≤ n → n ≤ i → t ≡ put_at s at (spaces n)
-    blank_all h k = let e : i ≡ n = omega arith in so ∙ ap (λ (m : ℕ). put_at s at (spaces m)) e
+pub puts_spaces : (p q : Sheet) (n m : ℕ) {t : List ℕ} → q.out.ghost_name ≡ p.out.ghost_name → q.end ≡ p.end + n → t ≡ replicate m space → m ≡ n
+    → q.out.now ≡ put_mid p.end (p.end + n - p.end) p.out.now t
+    → p.end + n ≤ length p.out.now
+    → Puts p (spaces n) n q
+unfolding spaces
+puts_spaces p q n m same ends e many put room =
+    let put_n = put ∙ rw (e, many) (put_part p.out.now p.end (p.end + n - p.end) (replicate n space) (rw length-replicate (omega arith))) in
+    puts_at p q (replicate n space) n same (length-replicate n space) ends put_n room
 
 -- ---- a number in its field: t has its digits, from `start` on
 
@@ -62,127 +95,110 @@ module _ (s : List ℕ) (at width n : ℕ) (few : length (decimal n) ≤ width) 
         let e = right_start in
         rw (right_digits, length_put_at s (at + (width - length (decimal n))) (decimal n) (omega arith)) (omega arith)
 
-    pub right_put : (u : List ℕ) → u ≡ put_at t at (spaces (start - at)) → u ≡ put_at s at (right_aligned width n)
+    right_put : (u : List ℕ) → u ≡ put_at t at (spaces (start - at)) → u ≡ put_at s at (right_aligned width n)
     unfolding right_aligned
     right_put u f =
         let many : start - at ≡ width - length (decimal n) = omega (arith, right_start) in
         f ∙ rw (many, right_digits)
-        (put_at_behind s at (spaces (width - length (decimal n))) (decimal n) (width - length (decimal n)) (length_spaces (width - length (decimal n))) (omega arith))
+        (put_at_behind s at (spaces (width - length (decimal n))) (decimal n) (width - length (decimal n))
+        (length_spaces (width - length (decimal n))) (omega arith))
+
+pub puts_right : (p r : Sheet) (width n start : ℕ) (t : List ℕ) → length (decimal n) ≤ width → p.end + width ≤ length p.out.now
+    → start ≡ start_before p.out.now (p.end + width) (decimal n)
+    → t ≡ put_before p.out.now (p.end + width) (decimal n)
+    → r.out.ghost_name ≡ p.out.ghost_name
+    → r.out.now ≡ put_at t p.end (spaces (start - p.end))
+    → r.end ≡ p.end + width
+    → Puts p (right_aligned width n) width r
+puts_right p r width n start t few room begin digits same put ends =
+    puts_at p r (right_aligned width n) width same (length_right_aligned width n few) ends
+    (right_put p.out.now p.end width n few room start begin t digits r.out.now put) room
 
 -- ---- the field of a key
 
-module _ (s : List ℕ) (at : ℕ) (ks : List ℕ) (i : ℕ) (t : List ℕ) where
-  pub unused_put : length ks ≤ i → t ≡ put_at s at (spaces field_width) → t ≡ put_at s at (field ks i)
-  unused_put h e = e ∙ ap (put_at s at) (sym (field_unused ks i h))
+module _ (ks : List ℕ) (i : ℕ) where
+  pub unused_put : {p q : Sheet} → false ≡ ltb i (length ks) → Puts p (spaces field_width) field_width q → Puts p (field ks i) field_width q
+  unfolding field
+  unused_put h put = rw (← h) put
 
-  pub used_put : i < length ks → t ≡ put_at s at (right_aligned field_width (get_or ks i 0)) → t ≡ put_at s at (field ks i)
-  used_put h e = e ∙ ap (put_at s at) (sym (field_used ks i h))
+  module _ (k : ℕ) (h : true ≡ ltb i (length ks)) (read : k ≡ get_or ks i k) where
+    used_key : k ≡ get_or ks i 0
+    used_key = get_or_read ks i k (ltb-true i (length ks) (sym h)) read 0
 
-  -- and the character behind it
-  module _ (put : t ≡ put_at s at (field ks i)) (fit : get_or ks i 0 < 2 ^ 64) (room : at + (field_width + 1) ≤ length s) where
-    column_room : at + field_width < length t
-    column_room = rw (put, length_put_at s at (field ks i) (omega (arith, length_field ks i fit))) (omega arith)
+    pub used_fits : get_or ks i 0 < 2 ^ 64 → length (decimal k) ≤ field_width
+    used_fits fit = length_decimal_most k (rw (← used_key) at fit)
 
-    pub column_put : (b : ℕ) → set t (at + field_width) b ≡ put_at s at (field ks i ++ (b ∷ []))
-    column_put b =
-        let long = length_field ks i fit in
-        put_at_then s at (at + field_width) (field ks i) (b ∷ []) (omega arith) (omega arith) put (put_at_one t (at + field_width) b column_room)
+    pub used_put : {p q : Sheet} → Puts p (right_aligned field_width k) field_width q → Puts p (field ks i) field_width q
+    used_put put =
+        let e : right_aligned field_width k ≡ field ks i = ap (right_aligned field_width) used_key ∙ sym (field_used ks i (ltb-true i (length ks) (sym h))) in
+        rw e at put
 
 -- ---- a row: its three columns
 
-pub row_put : (s : List ℕ) (at : ℕ) (ks : List ℕ) → KeysFit ks → at + line_size ≤ length s → {t u v : List ℕ} → t ≡ put_at s at (field ks 0 ++ (space ∷ []))
-    → u ≡ put_at t (at + column_width) (field ks 1 ++ (space ∷ [])) → v ≡ put_at u (at + 2 * column_width) (field ks 2 ++ line_feed) → v ≡ put_at s at (line (row ks))
-row_put s at ks fit room {t} {u} {v} e f g =
-    let first = field ks 0 ++ (space ∷ []) in
-    let second = field ks 1 ++ (space ∷ []) in
-    let a : length first ≡ column_width = rw (length-append (field ks 0), length_field ks 0 (fit 0)) in
-    let b : length second ≡ column_width = rw (length-append (field ks 1), length_field ks 1 (fit 1)) in
-    let two = put_at_then s at (at + column_width) first second (omega arith) (omega arith) e f in
-    let three = put_at_then s at (at + 2 * column_width) (first ++ second) (field ks 2 ++ line_feed) (omega (arith, length-append first second)) (omega arith) two g in
-    three ∙ ap (put_at s at) (append_assoc first second (field ks 2 ++ line_feed) ∙ sym (row_columns ks))
-
--- ---- a word and a number: t has the word, which ends at m
-
-module _ (s : List ℕ) (at : ℕ) (word : List ℕ) {m : ℕ} {t : List ℕ} (room : at + (length word + number_width) ≤ length s)
-    (ends : m ≡ end_from s at word) (put : t ≡ put_from s at word) where
-  numbered_place : m ≡ at + length word
-  numbered_place = ends ∙ (from_room s at word (omega arith)).0
-
-  numbered_word : t ≡ put_at s at word
-  numbered_word = put ∙ (from_room s at word (omega arith)).1
-
-  pub numbered_room : m + number_width ≤ length t
-  numbered_room = rw (numbered_word, length_put_at s at word (omega arith)) (omega (arith, numbered_place))
-
-  pub numbered_end : m + number_width ≡ at + (length word + number_width)
-  numbered_end = omega (arith, numbered_place)
-
-  pub numbered_put : (n : ℕ) (u : List ℕ) → u ≡ put_at t m (right_aligned number_width n) → u ≡ put_at s at (word ++ right_aligned number_width n)
-  numbered_put n u e = put_at_then s at m word (right_aligned number_width n) numbered_place (omega (arith, numbered_place)) numbered_word e
+pub row_put : {p q₁ q₂ q₃ q₄ q₅ r : Sheet} (ks : List ℕ) → Puts p (field ks 0) field_width q₁ → Puts q₁ (space ∷ []) 1 q₂
+    → Puts q₂ (field ks 1) field_width q₃
+    → Puts q₃ (space ∷ []) 1 q₄
+    → Puts q₄ (field ks 2) field_width q₅
+    → Puts q₅ line_feed 1 r
+    → Puts p (line (row ks)) line_size r
+row_put ks a b c d e f = rw (row_columns ks) (puts_then (puts_then a b) (puts_then (puts_then c d) (puts_then e f)))
 
 -- ---- the line above a page
 
-pub head_put : (s : List ℕ) (at number pages i j : ℕ) {t u v : List ℕ} → HeadGiven number pages → at + line_size ≤ length s
-    → i ≡ at + (length page_word + number_width) → t ≡ put_at s at (page_word ++ right_aligned number_width number)
-    → j ≡ i + (length of_word + number_width) → u ≡ put_at t i (of_word ++ right_aligned number_width pages)
-    → v ≡ put_at u j (spaces (at + line_width - j)) → length v ≡ length s
-    → set v (at + line_width) 10 ≡ put_at s at (line (head_line number pages))
-head_put s at number pages i j {t} {u} {v} g room e₁ f₁ e₂ f₂ f₃ same =
-    let a = length_right_aligned number_width number g.number_fits in
-    let b = length_right_aligned number_width pages g.pages_fit in
-    let first = page_word ++ right_aligned number_width number in
-    let second = of_word ++ right_aligned number_width pages in
-    let l : length first ≡ length page_word + number_width = rw (length-append page_word, a) in
-    let m : length second ≡ length of_word + number_width = rw (length-append of_word, b) in
-    let left : at + line_width - j ≡ line_width - head_width = omega arith in
-    let blank = length_spaces (line_width - head_width) in
-    let third : v ≡ put_at u j (spaces (line_width - head_width)) = f₃ ∙ ap (λ (k : ℕ). put_at u j (spaces k)) left in
-    put_at_four_blocks s at i j (at + line_width) first second (spaces (line_width - head_width)) line_feed (omega arith) (omega arith) (omega arith) (omega arith)
-    f₁ f₂ third (put_at_one v (at + line_width) 10 (omega arith))
-    ∙ ap (put_at s at) (sym (head_pieces number pages g))
+pub head_put : {p q r u v : Sheet} (number pages : ℕ) → HeadGiven number pages
+    → Puts p (page_word ++ right_aligned number_width number) (length page_word + number_width) q
+    → Puts q (of_word ++ right_aligned number_width pages) (length of_word + number_width) r
+    → Puts r (spaces (p.end + line_width - r.end)) (p.end + line_width - r.end) u
+    → Puts u line_feed 1 v
+    → Puts p (line (head_line number pages)) line_size v
+head_put {p} {q} {r} {u} {v} number pages g a b c d =
+    let left : p.end + line_width - r.end ≡ line_width - head_width = omega (arith, a.ends, b.ends) in
+    let blank : Puts r (spaces (line_width - head_width)) (line_width - head_width) u = rw left at c in
+    rw (head_pieces number pages g) (puts_then a (puts_then b (puts_then blank d)))
 
--- ---- rows, one after the other: what is left, from the key i on, makes up the whole
+-- ---- rows, one after the other: what is left, those of the keys `rest`, makes up the whole
 
-module _ (s : List ℕ) (at : ℕ) (ks : List ℕ) where
-  abbrev pub RowsLeft : List ℕ → ℕ → ℕ → Type 0
-  RowsLeft t end i = Left s at (lines_text (rows ks)) t end (lines_text (rows (drop i ks)))
+pub record RowsLeft (p : Sheet) (ks : List ℕ) (q : Sheet) (rest : List ℕ) : Type 0 where
+  pub fit : KeysFit rest
+  pub same : q.out.ghost_name ≡ p.out.ghost_name
+  pub left : Left p.out.now p.end (lines_text (rows ks)) q.out.now q.end (lines_text (rows rest))
 
-  pub rows_none : RowsLeft s at 0
-  rows_none = left_all s at (lines_text (rows ks))
+module _ (p : Sheet) (ks : List ℕ) (room : p.end + length (lines_text (rows ks)) ≤ length p.out.now) where
+  module _ (q : Sheet) (rest : List ℕ) (so : RowsLeft p ks q rest) where
+    pub rows_done : length rest ≡ 0 → Puts p (lines_text (rows ks)) (length (lines_text (rows ks))) q
+    rows_done h =
+        let e : lines_text (rows rest) ≡ [] = rw (nil_from_length rest h, rows_nil) lines_text_nil in
+        let (ends, put) = left_none (rw e at so.left) in
+        puts_at p q (lines_text (rows ks)) (length (lines_text (rows ks))) so.same refl ends put room
 
-  module _ (t : List ℕ) (end i : ℕ) (so : RowsLeft t end i) where
-    rows_done : length ks ≤ i → lines_text (rows (drop i ks)) ≡ []
-    rows_done h = rw (drop_of_length-le ks h, rows_nil) lines_text_nil
+    -- the keys of a row are cut off
+    module _ (part after : List ℕ) (cut : rest ≡ part ++ after) (size : length part ≡ min row_keys (length rest)) (some : 0 < length rest) where
+      rows_fit : KeysFit part × KeysFit after
+      rows_fit = keys_fit_parts part after (rw cut at so.fit)
 
-    pub rows_end : length ks ≤ i → end ≡ at + length (lines_text (rows ks))
-    rows_end h = (left_none (rw (rows_done h) at so)).0
+      rows_split : lines_text (rows rest) ≡ line (row part) ++ lines_text (rows after)
+      rows_split = ap lines_text (rows_cut rest part after cut size some) ∙ lines_text_cons (row part) (rows after)
 
-    pub rows_put : length ks ≤ i → t ≡ put_at s at (lines_text (rows ks))
-    rows_put h = (left_none (rw (rows_done h) at so)).1
+      rows_size : length (line (row part)) ≡ line_size
+      rows_size = length_line (row part) (row_is_line part rows_fit.0).long
 
-    module _ (below : i < length ks) (room : at + length (lines_text (rows ks)) ≤ length s) (fit : KeysFit ks) where
-      rows_split : lines_text (rows (drop i ks)) ≡ line (row (drop i ks)) ++ lines_text (rows (drop (i + row_keys) ks))
-      rows_split =
-          ap lines_text (rows_turn (drop i ks) (omega (arith, length-drop i ks)))
-          ∙ (lines_text_cons (row (drop i ks)) (rows (drop row_keys (drop i ks)))
-          ∙ ap (λ (l : List ℕ). line (row (drop i ks)) ++ lines_text (rows l)) (drop-drop row_keys i ks))
-
-      rows_size : length (line (row (drop i ks))) ≡ line_size
-      rows_size = length_line (row (drop i ks)) (row_is_line (drop i ks) (keys_fit_drop i ks fit)).long
-
-      pub rows_room : end + line_size ≤ length t
+      pub rows_room : q.end + line_size ≤ length q.out.now
       rows_room =
-          let l = ap length rows_split ∙ length-append (line (row (drop i ks))) (lines_text (rows (drop (i + row_keys) ks))) in
-          omega (arith, rows_size, so.ends, so.long)
+          let l = ap length rows_split ∙ length-append (line (row part)) (lines_text (rows after)) in
+          omega (arith, rows_size, so.left.ends, so.left.long)
 
-      pub rows_more : (u : List ℕ) → u ≡ put_at t end (line (row (take (length ks - i) (drop i ks)))) → RowsLeft u (end + line_size) (i + row_keys)
-      rows_more u e =
-          left_more so (line (row (drop i ks))) (lines_text (rows (drop (i + row_keys) ks))) rows_split room
-          (e ∙ ap (λ (l : List ℕ). put_at t end (line (row l))) (slice_rest ks i)) (ap (λ (n : ℕ). end + n) (sym rows_size))
+      pub rows_more : {r : Sheet} → Puts q (line (row part)) line_size r → RowsLeft p ks r after
+      rows_more t = record {
+        fit = rows_fit.1;
+        same = t.same ∙ so.same;
+        left =
+            left_more so.left (line (row part)) (lines_text (rows after)) rows_split room t.put
+            (t.ends ∙ ap (λ (n : ℕ). q.end + n) (sym rows_size));
+      }
 
 -- ---- a page: the line above it, and its rows
 
-module _ (s : List ℕ) (at : ℕ) (ks : List ℕ) (number pages : ℕ) (given : PageGiven at ks number pages (length s)) where
+module _ (p : Sheet) (ks : List ℕ) (number pages : ℕ) (given : PageGiven p.end ks number pages (length p.out.now)) where
   page_text : lines_text (page number pages ks) ≡ line (head_line number pages) ++ lines_text (rows ks)
   page_text = lines_text_cons (head_line number pages) (rows ks)
 
@@ -190,106 +206,87 @@ module _ (s : List ℕ) (at : ℕ) (ks : List ℕ) (number pages : ℕ) (given :
   head_size = length_line (head_line number pages) (head_is_line number pages given.head).long
 
   page_size : length (lines_text (page number pages ks)) ≡ line_size + length (lines_text (rows ks))
-  page_size = ap length page_text ∙ (length-append (line (head_line number pages)) (lines_text (rows ks)) ∙ ap (λ (n : ℕ). n + length (lines_text (rows ks))) head_size)
+  page_size =
+      ap length page_text
+      ∙ (length-append (line (head_line number pages)) (lines_text (rows ks)) ∙ ap (λ (n : ℕ). n + length (lines_text (rows ks))) head_size)
 
-  pub page_head_room : at + line_size ≤ length s
+  pub page_head_room : p.end + line_size ≤ length p.out.now
   page_head_room = omega (arith, page_size, given.fits)
 
-  module _ (t : List ℕ) (head : t ≡ put_at s at (line (head_line number pages))) where
-    pub page_rows_room : at + line_size + length (lines_text (rows ks)) ≤ length t
-    page_rows_room = rw (head, length_put_at s at (line (head_line number pages)) (omega (arith, head_size, page_head_room))) (omega (arith, page_size, given.fits))
+  module _ {q : Sheet} (head : Puts p (line (head_line number pages)) line_size q) where
+    pub page_rows_room : q.end + length (lines_text (rows ks)) ≤ length q.out.now
+    page_rows_room = omega (arith, page_size, given.fits, head.ends, head.long)
 
-    pub page_end : (r : ℕ) → r ≡ at + line_size + length (lines_text (rows ks)) → r ≡ at + length (lines_text (page number pages ks))
-    page_end r e = omega (arith, page_size)
+    pub page_put : {r : Sheet} → Puts q (lines_text (rows ks)) (length (lines_text (rows ks))) r
+        → Puts p (lines_text (page number pages ks)) (length (lines_text (page number pages ks))) r
+    page_put rest = let both = puts_then head rest in rw (page_size, page_text) both
 
-    pub page_put : (u : List ℕ) → u ≡ put_at t (at + line_size) (lines_text (rows ks)) → u ≡ put_at s at (lines_text (page number pages ks))
-    page_put u e =
-        put_at_then s at (at + line_size) (line (head_line number pages)) (lines_text (rows ks)) (omega (arith, head_size)) page_head_room head e
-        ∙ ap (put_at s at) (sym page_text)
+-- ---- pages, one after the other: what is left, those of the keys `rest`, makes up the whole
 
--- ---- pages, one after the other: what is left, from the key `from` on, makes up the whole
+pub record PagesLeft (p : Sheet) (ks : List ℕ) (q : Sheet) (pages number : ℕ) (rest : List ℕ) : Type 0 where
+  pub numbers : number + length (in_groups page_keys rest) ≡ pages
+  pub same : q.out.ghost_name ≡ p.out.ghost_name
+  pub left : Left p.out.now 0 (sheet_text ks) q.out.now q.end (lines_text (pages_from (suc number) pages (in_groups page_keys rest)))
 
-pub record PagesLeft (s ks t : List ℕ) (pages at number from : ℕ) : Type 0 where
-  pub inside : from ≤ length ks
-  pub numbers : number + length (page_groups (drop from ks)) ≡ pages + 1
-  pub left : Left s 0 (sheet_text ks) t at (lines_text (pages_from number pages (page_groups (drop from ks))))
-
-module _ (s ks : List ℕ) (pages : ℕ) (all : pages ≡ page_count (length ks)) where
+module _ (ks : List ℕ) {pages : ℕ} (all : pages ≡ page_count (length ks)) (few : length ks ≤ limit) where
   pages_all : pages ≡ length (page_groups ks)
   pages_all = all ∙ sym (length_page_groups ks)
 
-  pub pages_none : PagesLeft s ks s pages 0 1 0
-  unfolding sheet_lines
-  pages_none = record {
-    inside = omega arith;
-    numbers = omega (arith, pages_all);
-    left = rw pages_all (left_all s 0 (sheet_text ks));
-  }
+  -- the only page, where there is no key
+  module _ (none : length ks ≡ 0) where
+    only_text : sheet_text ks ≡ lines_text (page 1 pages ks)
+    unfolding sheet_lines
+    only_text = rw (pages_all, page_groups_last ks (omega arith), append-nil)
 
-  module _ (few : length ks ≤ limit) (room : length (sheet_text ks) ≤ length s) {t : List ℕ} {at number from : ℕ} (so : PagesLeft s ks t pages at number from)
-      {end : ℕ} (ends : end ≡ from + min (length ks - from) page_keys) where
-    -- the keys from there on, and those of the page
-    abbrev rest : List ℕ
-    rest = drop from ks
+    pub only_given : (s : List ℕ) → length (sheet_text ks) ≤ length s → PageGiven 0 ks 1 pages (length s)
+    only_given s room = record { head = head_given 1 pages (omega arith) (omega arith); fits = rw (← only_text, zero-add) room }
 
-    abbrev part : List ℕ
-    part = take (end - from) rest
+    pub only_put : (s : List ℕ) {t : List ℕ} → t ≡ put_at s 0 (lines_text (page 1 pages ks)) → t ≡ put_at s 0 (sheet_text ks)
+    only_put s e = e ∙ ap (put_at s 0) (sym only_text)
 
-    part_is : part ≡ take page_keys rest
-    part_is =
-        let e : end - from ≡ min (length rest) page_keys = omega (arith, length-drop from ks) in
-        rw e (take_capped page_keys rest)
-
-    -- the last page, and a page that is not
-    last_split : end ≡ length ks → lines_text (pages_from number pages (page_groups rest)) ≡ lines_text (page number pages part) ++ []
-    last_split e =
-        let few_left : length rest ≤ page_keys = omega (arith, length-drop from ks) in
-        let same : part ≡ rest = part_is ∙ take_all page_keys rest few_left in
-        ap (λ (g : List (List ℕ)). lines_text (pages_from number pages g)) (page_groups_last rest few_left)
-        ∙ (lines_text_append (page number pages rest) [] ∙ rw (same, lines_text_nil))
-
-    more_left : (end ≡ length ks → ⊥) → page_keys < length rest
-    more_left f = go (lt_or_le page_keys (length rest))
-      where
-        go : (page_keys < length rest) ⊎ (length rest ≤ page_keys) → page_keys < length rest
-        go (inl h) = h
-        go (inr h) = absurd (f (omega (arith, length-drop from ks, so.inside)))
-
-    more_groups : (end ≡ length ks → ⊥) → page_groups rest ≡ part ∷ page_groups (drop end ks)
-    more_groups f =
-        let many = more_left f in
-        let e : from + page_keys ≡ end = omega (arith, length-drop from ks) in
-        page_groups_more rest many ∙ rw (part_is, drop-drop page_keys from ks, e)
-
-    more_split : (end ≡ length ks → ⊥)
-        → lines_text (pages_from number pages (page_groups rest)) ≡ lines_text (page number pages part) ++ lines_text (pages_from (suc number) pages (page_groups (drop end ks)))
-    more_split f =
-        ap (λ (g : List (List ℕ)). lines_text (pages_from number pages g)) (more_groups f)
-        ∙ lines_text_append (page number pages part) (pages_from (suc number) pages (page_groups (drop end ks)))
-
-    -- there is room for the page, and its number fits
-    page_room : (ys : List ℕ) → lines_text (pages_from number pages (page_groups rest)) ≡ lines_text (page number pages part) ++ ys
-        → at + length (lines_text (page number pages part)) ≤ length t
-    page_room ys e = omega (arith, ap length e, length-append (lines_text (page number pages part)) ys, so.left.ends, so.left.long)
-
-    pub pages_given : PageGiven at part number pages (length t)
-    pages_given = record {
-      head = head_given number pages (omega (arith, so.numbers, length_page_groups rest)) (omega arith);
-      fits = ⊎_elim {C = at + length (lines_text (page number pages part)) ≤ length t}
-          (λ (e : end ≡ length ks). page_room [] (last_split e))
-          (λ (f : end ≡ length ks → ⊥). page_room (lines_text (pages_from (suc number) pages (page_groups (drop end ks)))) (more_split f))
-          (eq_or_ne end (length ks));
+  module _ (p : Sheet) (room : length (sheet_text ks) ≤ length p.out.now) where
+    pub pages_none : p.end ≡ 0 → 0 < length ks → (number : ℕ) (rest : List ℕ) → number ≡ 0 → rest ≡ ks → PagesLeft p ks p pages number rest
+    unfolding sheet_lines
+    pages_none front some number rest z e = rw (z, e) record {
+      numbers = omega (arith, pages_all, ap length (page_groups_some ks some));
+      same = refl;
+      left = rw (front, pages_all, ← page_groups_some ks some) (left_all p.out.now 0 (sheet_text ks));
     }
 
-    module _ {u : List ℕ} (put : u ≡ put_at t at (lines_text (page number pages part))) where
-      pub pages_put : end ≡ length ks → u ≡ put_at s 0 (sheet_text ks)
-      pages_put e = (left_none (left_more so.left (lines_text (page number pages part)) [] (last_split e) (omega arith) put refl)).1
+    module _ (q : Sheet) (number : ℕ) (rest : List ℕ) (so : PagesLeft p ks q pages number rest) where
+      pub pages_done : length rest ≡ 0 → q.out.now ≡ put_at p.out.now 0 (sheet_text ks)
+      pages_done h =
+          let e : lines_text (pages_from (suc number) pages (in_groups page_keys rest)) ≡ [] =
+          rw (nil_from_length rest h, in_groups_nil {A = ℕ} page_keys) lines_text_nil in
+          (left_none (rw e at so.left)).1
 
-      pub pages_more : (end ≡ length ks → ⊥) → {r : ℕ} → r ≡ at + length (lines_text (page number pages part)) → PagesLeft s ks u pages r (number + 1) end
-      pages_more f e = record {
-        inside = omega (arith, so.inside);
-        numbers = omega (arith, so.numbers, ap length (more_groups f));
-        left = rw (add-one number)
-            (left_more so.left (lines_text (page number pages part)) (lines_text (pages_from (suc number) pages (page_groups (drop end ks)))) (more_split f)
-            (omega arith) put e);
-      }
+      -- the keys of a page are cut off
+      module _ (part after : List ℕ) (cut : rest ≡ part ++ after) (size : length part ≡ min page_keys (length rest)) (some : 0 < length rest) where
+        groups_split : in_groups page_keys rest ≡ part ∷ in_groups page_keys after
+        groups_split = in_groups_cut page_keys rest part after (omega arith) cut size some
+
+        pages_split : lines_text (pages_from (suc number) pages (in_groups page_keys rest))
+            ≡ lines_text (page (suc number) pages part) ++ lines_text (pages_from (suc (suc number)) pages (in_groups page_keys after))
+        pages_split =
+            ap (λ (g : List (List ℕ)). lines_text (pages_from (suc number) pages g)) groups_split
+            ∙ lines_text_append (page (suc number) pages part) (pages_from (suc (suc number)) pages (in_groups page_keys after))
+
+        pub pages_given : PageGiven q.end part (number + 1) pages (length q.out.now)
+        pages_given =
+            let l =
+            ap length pages_split
+            ∙ length-append (lines_text (page (suc number) pages part)) (lines_text (pages_from (suc (suc number)) pages (in_groups page_keys after))) in
+            rw (add-one number) record {
+              head = head_given (suc number) pages (omega (arith, so.numbers, ap length groups_split)) (omega arith);
+              fits = omega (arith, so.left.ends, so.left.long);
+            }
+
+        pub pages_more : {r : Sheet} → Puts q (lines_text (page (number + 1) pages part)) (length (lines_text (page (number + 1) pages part))) r
+            → PagesLeft p ks r pages (number + 1) after
+        pages_more {r} t = rw (add-one number) record {
+          numbers = omega (arith, so.numbers, ap length groups_split);
+          same = t.same ∙ so.same;
+          left =
+              left_more so.left (lines_text (page (suc number) pages part)) (lines_text (pages_from (suc (suc number)) pages (in_groups page_keys after)))
+              pages_split (omega arith) (rw (add-one number) at t.put) (rw (add-one number) at t.ends);
+        }

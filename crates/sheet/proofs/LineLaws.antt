@@ -6,8 +6,8 @@ use mathlib.Core.List.{List, [], ◌∷◌, ◌++◌, append_assoc}
 use mathlib.Core.Logic.{⊎_elim}
 use mathlib.Core.Path.{◌≡◌, refl, sym, subst}
 use borrow.Author.Tests.{lt-ltb, le-ltb}
-use lib.ListN.{length, take, drop, get_or, length-append, length-take, length-replicate, replicate-append-replicate}
-use lib.Seq.{get_or-take, get_or-drop}
+use lib.ListN.{length, take, drop, get_or, length-append, length-take, length-replicate}
+use lib.Seq.{get_or-take, get_or-drop, take_at, drop_at}
 use Rattle.keys.proofs.Tests.{lt_or_le}
 use Rattle.wire.specs.Run.{Each}
 use Rattle.wire.proofs.RunLaws.{each_mem, mem_each, each_append, each_replicate}
@@ -23,14 +23,6 @@ use Rattle.sheet.specs.Laid.{KeysFit, HeadGiven}
 pub length_spaces : (n : ℕ) → length (spaces n) ≡ n
 unfolding spaces
 length_spaces n = length-replicate n space
-
-pub spaces_none : spaces 0 ≡ []
-unfolding spaces
-spaces_none = refl
-
-pub spaces_more : (n : ℕ) → spaces n ++ (space ∷ []) ≡ spaces (n + 1)
-unfolding spaces
-spaces_more n = replicate-append-replicate n 1 space
 
 -- ---- a number in its field
 
@@ -134,6 +126,12 @@ keys_fit_take zero ks fit i = omega arith
 keys_fit_take (suc n) [] fit i = omega arith
 keys_fit_take (suc n) (k ∷ ks) fit zero = fit 0
 keys_fit_take (suc n) (k ∷ ks) fit (suc i) = keys_fit_take n ks (λ j. fit (suc j)) i
+
+pub keys_fit_parts : (first rest : List ℕ) → KeysFit (first ++ rest) → KeysFit first × KeysFit rest
+keys_fit_parts first rest fit = (
+  rw (take_at first rest (length first) refl) at (keys_fit_take (length first) (first ++ rest) fit),
+  rw (drop_at first rest (length first) refl) at (keys_fit_drop (length first) (first ++ rest) fit),
+)
 
 -- ---- the line above a page
 

@@ -1,8 +1,8 @@
 -- Laws of the lines of a sheet and of its text (specs/Sheet). In order: the text of lines; rows; pages; how many lines there are; how long the text is.
 -- Assumes nothing.
-use Prim.Native.Nat.{ℕ, zero, suc, ◌+◌, ◌*◌, ◌≤◌, ◌<◌}
+use Prim.Native.Nat.{ℕ, zero, suc, ◌+◌, ◌*◌, ◌≤◌, ◌<◌, min}
 use native.Mathlib.Omega.{arith}
-use mathlib.Core.List.{List, [], ◌∷◌, ◌++◌, flatten, append-nil, append_assoc}
+use mathlib.Core.List.{List, [], ◌∷◌, ◌++◌, map, flatten, append-nil, append_assoc}
 use mathlib.Core.Logic.{⊎_elim}
 use mathlib.Core.Path.{◌≡◌, refl, ap, sym, ◌∙◌, subst}
 use lib.ListN.{length, take, drop, length-append, length-map, length-take, length-drop, drop_of_length-le}
@@ -13,7 +13,7 @@ use Rattle.wire.specs.Run.{Each}
 use Rattle.wire.proofs.RunLaws.{each_append}
 use Rattle.text.specs.Groups.{in_groups, group_count}
 use Rattle.text.proofs.DecimalLaws.{length_decimal_below}
-use Rattle.text.proofs.GroupsLaws.{in_groups_nil, in_groups_turn, length_in_groups}
+use Rattle.text.proofs.GroupsLaws.{in_groups_nil, in_groups_turn, in_groups_cut, length_in_groups}
 use Rattle.sheet.specs.Sheet.{line_size, row_keys, page_keys, row, rows, page, page_groups, pages_from, sheet_lines, line, lines_text, sheet_text, IsLine}
 use Rattle.sheet.specs.Sheet.{page_count, sheet_length}
 use Rattle.sheet.specs.Call.{sheet_limit}
@@ -50,6 +50,11 @@ pub rows_turn : (ks : List ℕ) → 0 < length ks → rows ks ≡ row ks ∷ row
 unfolding rows
 rows_turn ks h = rw (in_groups_turn row_keys ks (omega arith) h, row_take ks)
 
+-- .. as an iterator over chunks cuts them off
+pub rows_cut : (ks first rest : List ℕ) → ks ≡ first ++ rest → length first ≡ min row_keys (length ks) → 0 < length ks → rows ks ≡ row first ∷ rows rest
+unfolding rows
+rows_cut ks first rest cut size some = ap (map row) (in_groups_cut row_keys ks first rest (omega arith) cut size some)
+
 pub length_rows : (ks : List ℕ) → length (rows ks) ≡ group_count (length ks) row_keys
 unfolding rows
 length_rows ks = length-map (in_groups row_keys ks) row ∙ length_in_groups row_keys ks (omega arith)
@@ -68,7 +73,7 @@ rows_are_lines ks fit = rows_are_lines_in (length ks) ks (omega arith) fit
 
 -- ---- pages
 
-page_groups_some : (ks : List ℕ) → 0 < length ks → page_groups ks ≡ in_groups page_keys ks
+pub page_groups_some : (ks : List ℕ) → 0 < length ks → page_groups ks ≡ in_groups page_keys ks
 page_groups_some [] h = absurd (omega arith)
 page_groups_some (k ∷ ks) h = refl
 

@@ -6,7 +6,7 @@ use Rattle.keys.specs.Store.{limit, keys_of}
 use Rattle.keys.specs.Place.{put_at}
 use Rattle.claims.specs.Question.{Question, question, first_no, settle, question1}
 use Rattle.rule.specs.Question.{question15}
-use Rattle.wire.specs.declared.answer.Length.{Length}
+use Rattle.wire.specs.Answer.{Length}
 use Rattle.wire.specs.Length.{no_length}
 use Rattle.sheet.specs.Sheet.{sheet_text, sheet_length}
 

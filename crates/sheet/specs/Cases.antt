@@ -6,7 +6,7 @@ use Prim.Native.Char.{code}
 use Prim.Native.String.{String, char_at}
 use Rattle.keys.specs.declared.store.Store.{Store}
 use Rattle.keys.specs.Store.{store_of}
-use Rattle.wire.specs.declared.answer.Length.{Length}
+use Rattle.wire.specs.Answer.{Length}
 use Rattle.sheet.specs.Sheet.{line_width, page_keys, sheet_lines}
 use Rattle.sheet.specs.Call.{write_sheet}
 

@@ -22,7 +22,7 @@ pub(crate) const WIDTH: usize = ROW * FIELD + (ROW - 1);
 
 pub(crate) const LINE: usize = WIDTH + 1;
 
-// The longest sheet: that of a full store.
+// The longest sheet: that of a full store. Written out beside `sheet_length`, since a constant calls no function of ours.
 pub const SHEET: usize = LINE
     * ((Store::LIMIT + (PAGE - 1)) / PAGE + (Store::LIMIT + (ROW - 1)) / ROW);
 
@@ -31,10 +31,7 @@ pub(crate) fn page_count(keys: usize) -> usize
     requires { keys ≤ limit }
     ensures { result ≡ page_count keys }
 {
-    if keys == 0 {
-        return 1;
-    }
-    (keys + (PAGE - 1)) / PAGE
+    keys.div_ceil(PAGE).max(1)
 }
 
 // How long the sheet of so many keys is.
@@ -42,5 +39,5 @@ pub(crate) fn sheet_length(keys: usize) -> usize
     requires { keys ≤ limit }
     ensures { (result ≡ sheet_length keys) × (result ≤ sheet_limit) }
 {
-    LINE * (page_count(keys) + (keys + (ROW - 1)) / ROW)
+    LINE * (page_count(keys) + keys.div_ceil(ROW))
 }

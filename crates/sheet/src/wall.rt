@@ -12,13 +12,8 @@ use wire::read_image;
 pub fn wall_text(image: &[u8], out: &mut [u8; SHEET]) -> usize
     ensures { Put out.old 0 (wall_text image.now) sheet_limit result out.new }
 {
-    let read = read_image(image);
-    if read.number != 0 {
-        return put_refused(out, read.number);
+    match read_image(image) {
+        Ok(node) => put_whole(out, &node.store.keys[..node.store.count]),
+        Err(refusal) => put_refused(out, refusal.number()),
     }
-    let node = read.node;
-    let store = node.store;
-    let count = store.count;
-    let places = &store.keys[..];
-    put_whole(out, &places[..count])
 }

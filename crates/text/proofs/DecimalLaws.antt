@@ -1,10 +1,10 @@
--- Laws of numbers as text: one digit, one or two digits more, how many digits there are and what they are, and that the text is
+-- Laws of numbers as text: one digit, one digit more, the text of the library's calls, how many digits there are and what they are, and that the text is
 -- the number's. Assumes nothing.
 use Prim.Native.Nat.{ℕ, zero, suc, ◌+◌, ◌-◌, ◌*◌, ◌/◌, ◌%◌, ◌^◌, ◌≤◌, ◌<◌}
 use native.Mathlib.Nat.{pow-succ', mul_left_comm}
 use native.Mathlib.Numerals.{add-one}
 use native.Mathlib.Omega.{arith}
-use mathlib.Core.List.{List, [], ◌∷◌, ◌++◌, append_assoc}
+use mathlib.Core.List.{List, [], ◌∷◌, ◌++◌}
 use mathlib.Core.List.Memᴰ
 use mathlib.Core.List.{Memᴰ}
 use mathlib.Core.Logic.{⊎_elim}
@@ -13,7 +13,9 @@ use borrow.Author.Tests.{lt-ltb, le-ltb}
 use lib.ListN.{length, take, length-append}
 use lib.Seq.{take-append_seam}
 use Rattle.keys.proofs.Tests.{lt_or_le}
-use Rattle.text.specs.Decimal.{digit, decimal_in, decimal, pair_digits, digit_limit, value}
+use Rattle.std.specs.Fmt as fmt
+use Rattle.std.proofs.lemmas.Fmt.{decimal_by_steps}
+use Rattle.text.specs.Decimal.{digit, decimal_in, decimal, digit_limit, value}
 
 -- ---- how often over makes no difference
 
@@ -51,16 +53,11 @@ decimal_step (suc m) h =
     decimal_in_large m (suc m) h
     ∙ ap (λ (l : List ℕ). l ++ (digit (suc m % 10) ∷ [])) (decimal_in_turns m (suc m / 10) (suc m / 10) (omega arith) (omega arith))
 
--- two digits, and two more
-pub decimal_two : (n : ℕ) → 10 ≤ n → n < 100 → decimal n ≡ pair_digits n
-decimal_two n h k = rw (decimal_step n h, decimal_digit (n / 10) (omega arith))
-
-pub decimal_pair : (n : ℕ) → 100 ≤ n → decimal n ≡ decimal (n / 100) ++ pair_digits (n % 100)
-decimal_pair n h =
-    let tens : n / 10 / 10 ≡ n / 100 = omega arith in
-    let front : n / 10 % 10 ≡ n % 100 / 10 = omega arith in
-    let last : n % 10 ≡ n % 100 % 10 = omega arith in
-    rw (decimal_step n (omega arith), decimal_step (n / 10) (omega arith), tens, front, last, append_assoc)
+-- so it is the text that the library's calls write
+pub decimal_is : (n : ℕ) → n < 2 ^ 64 → fmt.decimal n ≡ decimal n
+decimal_is n h =
+    decimal_by_steps (λ m ds. ds ≡ decimal m) (λ m h. sym (decimal_digit m h))
+    (λ m ds h e. ap (λ (l : List ℕ). l ++ (digit (m % 10) ∷ [])) e ∙ sym (decimal_step m h)) n h
 
 -- ---- how many digits
 
@@ -89,6 +86,18 @@ length_decimal_below (suc k) n h =
     let r : length (decimal (n / 10)) ≤ suc k = length_decimal_below k (n / 10) (omega arith) in
     omega (arith, length_decimal_step n p))
     (lt_or_le n 10)
+
+pub ten_some : (k : ℕ) → 1 ≤ 10 ^ k
+ten_some zero = omega arith
+ten_some (suc k) = rw pow-succ' (omega (arith, ten_some k))
+
+pub length_decimal_from : (k n : ℕ) → 10 ^ k ≤ n → suc k ≤ length (decimal n)
+length_decimal_from zero n h = length_decimal_some n
+length_decimal_from (suc k) n h =
+    let m : 10 * 10 ^ k ≤ n = rw pow-succ' at h in
+    let some : 10 ≤ n = omega (arith, ten_some k) in
+    let r : suc k ≤ length (decimal (n / 10)) = length_decimal_from k (n / 10) (omega arith) in
+    omega (arith, length_decimal_step n some)
 
 -- a 64-bit number has at most 20
 pub length_decimal_most : (n : ℕ) → n < 2 ^ 64 → length (decimal n) ≤ digit_limit

@@ -3,13 +3,14 @@
 use Prim.Native.Nat.{ℕ, zero, suc, ◌+◌, ◌-◌, ◌/◌, ◌≤◌, ◌<◌, min}
 use native.Mathlib.Nat.{add-div_right, div-eq_of_lt}
 use native.Mathlib.Omega.{arith}
-use mathlib.Core.List.{List, [], ◌∷◌, ◌++◌, flatten}
+use mathlib.Core.List.{List, [], ◌∷◌, ◌++◌, flatten, append-nil}
 use mathlib.Core.List.Memᴰ
 use mathlib.Core.List.{Memᴰ}
 use mathlib.Core.Logic.{⊎_elim}
 use mathlib.Core.Path.{◌≡◌, refl, ap, sym, ◌∙◌, subst}
 use lib.ListN.{length, take, drop, length-append, length-take, length-drop, take-append-drop, drop_of_length-le}
 use lib.Seq.{take_all, take_at, drop_at}
+use Rattle.std.proofs.lemmas.List.{nil_from_length}
 use Rattle.keys.proofs.Rising.{take_mem, drop_mem}
 use Rattle.keys.proofs.Tests.{lt_or_le}
 use Rattle.text.specs.Groups.{groups, in_groups, group_count}
@@ -95,6 +96,22 @@ module _ {A : Type 0} where
       let l = length-drop n (x ∷ xs) in
       ap (λ (g : List (List A)). take n (x ∷ xs) ∷ g)
       (groups_enough (length xs) (length (drop n (x ∷ xs))) n (drop n (x ∷ xs)) h (omega arith) (omega arith))
+
+  -- .. as an iterator over chunks cuts it off
+  pub in_groups_cut : (n : ℕ) (xs g rest : List A) → 0 < n → xs ≡ g ++ rest → length g ≡ min n (length xs) → 0 < length xs
+      → in_groups n xs ≡ g ∷ in_groups n rest
+  in_groups_cut n xs g rest h cut size some =
+      let parts = ap length cut ∙ length-append g rest in
+      ⊎_elim {C = in_groups n xs ≡ g ∷ in_groups n rest}
+      (λ (p : length xs < n).
+      let none : length rest ≡ 0 = omega arith in
+      let all : take n xs ≡ g = take_all n xs (omega arith) ∙ (cut ∙ (ap (λ (l : List A). g ++ l) (nil_from_length rest none) ∙ append-nil g)) in
+      let past : drop n xs ≡ rest = drop_of_length-le xs (let q : length xs ≤ n = omega arith in q) ∙ sym (nil_from_length rest none) in
+      in_groups_turn n xs h some ∙ rw (all, past))
+      (λ (p : n ≤ length xs).
+      let e : length g ≡ n = omega arith in
+      in_groups_turn n xs h some ∙ rw (cut, take_at g rest n e, drop_at g rest n e))
+      (lt_or_le (length xs) n)
 
   -- ---- how many there are
 

@@ -1,5 +1,5 @@
--- Laws of text at a place of a buffer (specs/Put). In order: where there is room and where there is none; one character; one piece after another; that a text
--- ends within the buffer; and what is left to write. Assumes nothing.
+-- Laws of text at a place of a buffer (specs/Put). In order: where there is room and where there is none; a run over a part as long; one character; one piece
+-- after another; and what is left to write. Assumes nothing.
 use Prim.Native.Nat.{ℕ, ◌+◌, ◌-◌, ◌≤◌, ◌<◌}
 use native.Mathlib.Omega.{arith}
 use mathlib.Core.List.{List, [], ◌∷◌, ◌++◌}
@@ -8,6 +8,7 @@ use borrow.Author.Tests.{le-leb, lt-leb}
 use lib.ListN.{length, set, length-append}
 use Rattle.keys.specs.Place.{put_at}
 use Rattle.keys.proofs.PlaceLaws.{length_put_at, put_at_nil, put_at_append, put_at_one}
+use borrow.Rule.Slice.PartMut.{put_mid}
 use Rattle.text.specs.Put.{put_from, end_from, put_before, start_before, Put}
 
 -- ---- where there is room, and where there is none
@@ -47,6 +48,12 @@ module _ (out : List ℕ) (at : ℕ) (text : List ℕ) where
       let (ends, puts) = from_room (omega arith) in
       record { end_is = e ∙ ends; end_by = omega (arith, e, ends); after_is = f ∙ puts }
 
+-- ---- one run, written over the part of the buffer that it is as long as
+
+pub put_part : (s : List ℕ) (at n : ℕ) (xs : List ℕ) → n ≡ length xs → put_mid at n s xs ≡ put_at s at xs
+unfolding put_at
+put_part s at n xs e = rw e
+
 -- ---- one character
 
 pub put_one : (s : List ℕ) (at b : ℕ) → at < length s → Put s at (b ∷ []) 1 (at + 1) (set s at b)
@@ -63,14 +70,6 @@ put_then {s} {t} {u} {xs} {ys} {at} {a} {b} {most} {m} {n} p q h k =
       end_by = k;
       after_is = q.after_is ∙ (rw (p.after_is, p.end_is) (put_at_append s at xs ys (length xs) refl fits));
     }
-
--- ---- it ends within the buffer
-
-pub put_within : {s t xs : List ℕ} {at most n : ℕ} → Put s at xs most n t → at + most ≤ length s → n ≤ length t
-put_within {s} {t} {xs} {at} {most} {n} p h =
-    let e = p.end_is in
-    let b = p.end_by in
-    rw (p.after_is, length_put_at s at xs (omega arith)) (omega arith)
 
 -- ---- what is left to write makes up the whole: once `rest` stands at i in `out`, `whole` stands at `at` in `before`
 

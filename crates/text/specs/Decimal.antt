@@ -15,10 +15,6 @@ decimal_in (suc turns) n = cond (ltb n 10) (digit n ∷ []) (decimal_in turns (n
 unfoldable pub decimal : ℕ → List ℕ
 decimal n = decimal_in n n
 
--- the two digits of a number below 100
-abbrev pub pair_digits : ℕ → List ℕ
-pair_digits n = digit (n / 10) ∷ digit (n % 10) ∷ []
-
 -- the digits that a 64-bit number has at most
 abbrev pub digit_limit : ℕ
 digit_limit = 20

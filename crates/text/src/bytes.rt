@@ -1,18 +1,12 @@
-// A run of bytes as it is. Room is asked by a difference, here and in the other files: a place and a length could be more than a number holds.
-ghost use Rattle.std.specs.Prelude.{◌≡◌, ◌+◌, ◌≤◌, length};
-ghost use Rattle.keys.specs.Place.{put_at};
+// A run of bytes as it is, and whether there is room for one. Room is asked by a difference: a place and a length could be more than a number holds.
+ghost use Rattle.std.specs.Prelude.{◌≡◌, ◌+◌, leb, length};
 ghost use Rattle.text.specs.Put.{put_from, end_from};
 
-// Copies bytes to a place that has room for them.
-pub(crate) fn copy_to(out: &mut [u8], at: usize, bytes: &[u8])
-    requires { at + length bytes.now ≤ length out.old }
-    ensures { out.new ≡ put_at out.old at bytes.now }
+// Whether so many bytes fit at a place.
+pub(crate) fn has_room(out: &[u8], at: usize, many: usize) -> bool
+    ensures { result ≡ leb (at + many) (length out.now) }
 {
-    let mut i: usize = 0;
-    while i < bytes.len() {
-        out[at + i] = bytes[i];
-        i += 1;
-    }
+    at <= out.len() && many <= out.len() - at
 }
 
 // Puts bytes at a place, and says where they end; without room it puts nothing, and says the place.
@@ -20,12 +14,10 @@ pub fn put_bytes(out: &mut [u8], at: usize, bytes: &[u8]) -> usize
     ensures { (result ≡ end_from out.old at bytes.now)
         × (out.new ≡ put_from out.old at bytes.now) }
 {
-    if out.len() < at {
+    if !has_room(out, at, bytes.len()) {
         return at;
     }
-    if out.len() - at < bytes.len() {
-        return at;
-    }
-    copy_to(out, at, bytes);
-    at + bytes.len()
+    let end = at + bytes.len();
+    out[at..end].copy_from_slice(bytes);
+    end
 }

@@ -15,7 +15,7 @@ use Rattle.keys.specs.Store.{limit, store_of}
 use Rattle.keys.specs.Place.{put_at}
 use Rattle.keys.proofs.Rising.{Rising, rising_length}
 use Rattle.keys.proofs.StoreLaws.{count_store_of}
-use Rattle.claims.specs.declared.answer.Answer.{Answer}
+use Rattle.claims.specs.Answer.{Answer}
 use Rattle.claims.specs.declared.claim.Claim.{Claim}
 use Rattle.claims.specs.Claim.{claim_of, whole_claim}
 use Rattle.claims.specs.Reply.{with_ends, hear, reply, claims_of}

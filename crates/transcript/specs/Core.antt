@@ -1,13 +1,12 @@
 -- The core of a round on flat words, for any content of the two stores and of the words: what its code does, step by step. It is the interface between
 -- our own functions, and no rule of document 01. That it is the round of `rule`, specs/Round, where both stores are in order is a law (proofs/CoreLaws).
--- An end is a store, made up of lent keys and sums and their count, with the mark below which its sums are right (`Marked` of `keys`): a delivery works out
--- those that it reads, and a half ends with all of them. The lent records are the queue itself: those before `head` are delivered, those from `head` to
--- `tail` wait. In order: records in words; records written; one delivery; deliveries until none waits; both halves; the questions; and what the code says of
--- a state. Assumes nothing.
+-- An end is a store with the mark below which its sums are right (`Marked` of `keys`): a delivery works out those that it reads, and a half ends with all of
+-- them. The lent records are the queue itself: those before `head` are delivered, those from `head` to `tail` wait. In order: records in words; records
+-- written; one delivery; deliveries until none waits; both halves; the questions; and what the code says of a state. Assumes nothing.
 use Rattle.std.specs.Prelude.{◌≡◌, ℕ, zero, suc, ◌+◌, ◌-◌, ◌*◌, cond, List, [], ◌∷◌, ltb, eqb, get_or}
 use Rattle.keys.specs.declared.store.Store.{Store}
 use Rattle.keys.specs.Store.{keys_of}
-use Rattle.keys.specs.Lent.{summed_in, store_by, Marked, marked_all, finish_in}
+use Rattle.keys.specs.Lent.{summed_in, Marked, marked_all, finish_in}
 use Rattle.keys.specs.Place.{put_at}
 use Rattle.claims.specs.declared.claim.Claim.{Claim}
 use Rattle.claims.specs.Reply.{claims_of}
@@ -17,10 +16,16 @@ use Rattle.claims.specs.Question.{question, first_no}
 use Rattle.rule.specs.declared.delivery.Delivery.{Delivery}
 use Rattle.rule.specs.Call.{record_width, record_words, records_in}
 use Rattle.rule.specs.Question.{question8, question9}
-use Rattle.transcript.specs.declared.flat.Held.{Held}
+use Rattle.transcript.specs.declared.record.End.{End}
+use Rattle.transcript.specs.declared.record.End.TheVariants.{Left, Right}
 use Rattle.transcript.specs.declared.flat.Reached.{Reached}
 
 -- ---- records in words
+
+-- the number of an end, which stands in a record as its sender
+abbrev pub sender_of : End → ℕ
+sender_of Left = 0
+sender_of Right = 1
 
 -- who sent a record: 0 is the left end
 abbrev pub sender_in : List ℕ → ℕ → ℕ
@@ -125,16 +130,19 @@ asked s t records =
 
 -- ---- what the code says of a state: what it returned, and every lent place
 
--- an end, by keys and sums and what is held of them
-abbrev pub marked_by : List ℕ → List ℕ → Held → Marked
-marked_by keys sums h = record { store = store_by keys sums h.count; mark = h.mark }
+-- an end, by its store and the mark below which its sums are right
+abbrev pub marked_by : Store → ℕ → Marked
+marked_by s mark = record { store = s; mark = mark }
 
 -- the state, by all that is lent
-abbrev pub core_by : List ℕ → List ℕ → List ℕ → List ℕ → List ℕ → ℕ → Reached → Core
-core_by left left_sums right right_sums words head r =
-    core_of (marked_by left left_sums r.left) (marked_by right right_sums r.right) (log_with words r.tail) head
+abbrev pub core_by : Store → Store → List ℕ → ℕ → Reached → Core
+core_by left right words head r = core_of (marked_by left r.left) (marked_by right r.right) (log_with words r.tail) head
 
-pub record Stepped (r : Reached) (left left_sums right right_sums words : List ℕ) (s : Core) : Type 0 where
-  pub left_is : marked_by left left_sums r.left ≡ s.left
-  pub right_is : marked_by right right_sums r.right ≡ s.right
+-- what is reached where all sums of both ends are right
+abbrev pub settled_at : Store → Store → ℕ → Reached
+settled_at left right tail = record { left = left.count; right = right.count; tail = tail }
+
+pub record Stepped (r : Reached) (left right : Store) (words : List ℕ) (s : Core) : Type 0 where
+  pub left_is : marked_by left r.left ≡ s.left
+  pub right_is : marked_by right r.right ≡ s.right
   pub log_is : log_with words r.tail ≡ s.log

@@ -5,5 +5,5 @@
 mod flat;
 mod record;
 
-pub use flat::{Held, Reached, round_words};
+pub use flat::round_words;
 pub use record::{RECORD, claim_in};

@@ -4,18 +4,15 @@ use native.Mathlib.Omega.{arith}
 use mathlib.Core.Path.{◌≡◌, sym, ◌∙◌}
 use mathlib.Core.List.{List, ◌++◌, append_assoc}
 use lib.Dec.{lit≤}
-use lib.ListN.{length, take, drop, length-append}
+use lib.ListN.{length, take, drop}
 use lib.Seq.{drop-drop, take-add}
 use Rattle.keys.specs.Place.{put_at}
 use Rattle.keys.proofs.PlaceLaws.{put_at_four_blocks}
 use Rattle.claims.specs.declared.claim.Claim.{Claim}
 use Rattle.wire.specs.Number.{byte, bytes, number_at, Below}
 use Rattle.wire.specs.Claim.{key_width, count_width, claim_size, claim_bytes, claim_from, ClaimFits}
-use Rattle.wire.proofs.NumberLaws.{length_bytes, number_at_drop, number_at_skip, number_at_bytes, bytes_number_at, number_at_below}
-
-pub length_claim_bytes : (c : Claim) → length (claim_bytes c) ≡ claim_size
-unfolding claim_bytes
-length_claim_bytes c = simp (length-append, length_bytes)
+use Rattle.wire.specs.Lengths.{length_bytes}
+use Rattle.wire.proofs.NumberLaws.{number_at_drop, number_at_skip, number_at_bytes, bytes_number_at, number_at_below}
 
 -- ---- the fields at a place
 

@@ -4,7 +4,7 @@ use Prim.Native.Nat.{ℕ, ◌-◌, ◌≤◌}
 use mathlib.Core.Bool.{true}
 use mathlib.Core.List.{List, [], ◌∷◌}
 use mathlib.Core.Path.{◌≡◌, refl, sym}
-use borrow.Author.Tests.{le-leb, leb-true, eqb-true, eq-eqb}
+use borrow.Author.Tests.{ne_eqb, le-leb, leb-true, eqb-true, eq-eqb}
 use lib.Dec.{leb, eqb, lit<}
 use lib.ListN.{length, take, get_or}
 use lib.Seq.{take_at}
@@ -17,12 +17,15 @@ use Rattle.claims.specs.Question.{first_no}
 use Rattle.claims.proofs.QuestionLaws.{Numbered, first_no_zero, first_no_front, settle_done, settle_number}
 use Rattle.rule.specs.Node.{blanks}
 use Rattle.rule.specs.Question.{question15}
-use Rattle.wire.specs.declared.answer.Framed.{Framed}
-use Rattle.wire.specs.declared.answer.Length.{Length}
+use Rattle.claims.specs.declared.refusal.Refusal.{Refusal}
+use Rattle.claims.specs.Refusal.{refusal_number, number_told}
+use Rattle.claims.proofs.RefusalLaws.{refusal_number_ne}
+use Rattle.std.specs.Prelude.{Result, Ok, Err, is_ok}
+use Rattle.wire.specs.Answer.{Framed, Length}
 use Rattle.wire.specs.Claim.{claim_size}
 use Rattle.wire.specs.Length.{no_length}
-use Rattle.wire.specs.Frame.{mark, version, frame_limit, version_place, head_size, frame_length, frame_most, head_bytes, frame_bytes, frame_count, frame_claims}
-use Rattle.wire.specs.Frame.{begins, marked, question10, question11, countable, sized, question12n, question12, all_pass, question13, four_of}
+use Rattle.wire.specs.Frame.{version, frame_limit, version_place, head_size, frame_length, frame_most, head_bytes, frame_bytes, frame_count, frame_claims}
+use Rattle.wire.specs.Frame.{marked, question10, question11, countable, sized, question12n, question12, all_pass, question13, four_of}
 use Rattle.wire.specs.Frame.{head_questions}
 use Rattle.wire.specs.Frame.{read_frame_questions, no_frame, read_frame, write_frame_questions, write_frame, frame_lent}
 
@@ -35,10 +38,6 @@ frame_sizes = (refl, refl)
 -- they have numbers
 pub frame_numbered : (bs : List ℕ) → Numbered (read_frame_questions bs)
 frame_numbered bs = (lit< tt, (lit< tt, (lit< tt, (lit< tt, tt))))
-
-pub marked_long : (bs : List ℕ) → marked bs ≡ true → head_size ≤ length bs
-unfolding marked
-marked_long bs h = leb-true head_size (length bs) (and_left (leb head_size (length bs)) (begins mark bs) h)
 
 pub countable_yes : (n : ℕ) → countable n ≡ true → (1 ≤ n) × (n ≤ frame_limit)
 unfolding countable
@@ -61,6 +60,11 @@ head_yes bs h =
     let (m, h₁) = first_no_zero (question10 bs) (question11 bs ∷ question12 bs ∷ []) (lit< tt) h in
     let (v, h₂) = first_no_zero (question11 bs) (question12 bs ∷ []) (lit< tt) h₁ in
     (m, eqb-true (get_or bs version_place 0) version v, (first_no_zero (question12 bs) [] (lit< tt) h₂).0)
+
+-- a claim that is not refused passes 13
+pub passes_is : {A : Type 0} (r : Result A Refusal) {k : ℕ} → number_told r ≡ k → is_ok r ≡ eqb k 0
+passes_is (Ok x) e = rw (← e)
+passes_is (Err r) e = rw (← e, ne_eqb (refusal_number r) 0 (refusal_number_ne r))
 
 -- ---- the claims, with zeros past them
 

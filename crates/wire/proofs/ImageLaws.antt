@@ -1,6 +1,6 @@
 -- Laws of specs/Image: what a count tells, what the calls return once 14 and 1, or 1 and 15, are answered, and the length of a node's image.
 -- Not here: the ways of the code (ImagePaths) and the round trips (ImageTrips). Assumes nothing.
-use Prim.Native.Nat.{ℕ, ◌+◌, ◌≤◌, ◌<◌}
+use Prim.Native.Nat.{ℕ, ◌+◌, ◌*◌, ◌≤◌, ◌<◌}
 use mathlib.Core.Bool.{true, false}
 use mathlib.Core.List.{List, [], ◌∷◌}
 use mathlib.Core.Path.{◌≡◌, refl, sym, ◌∙◌}
@@ -14,23 +14,22 @@ use Rattle.keys.proofs.StoreLaws.{in_order_count}
 use Rattle.keys.proofs.Tests.{and_left, and_right}
 use Rattle.claims.specs.Question.{first_no}
 use Rattle.claims.proofs.QuestionLaws.{Numbered, first_no_zero, settle_number}
+use Rattle.claims.specs.declared.claim.Claim.{Claim}
 use Rattle.rule.specs.declared.node.Node.{Node}
 use Rattle.rule.specs.Table.{table_limit}
 use Rattle.rule.specs.Node.{saved_in_order, node_in_order, node_keys, pending_of}
 use Rattle.rule.specs.Question.{saved_question1, node_question1, question15}
 use Rattle.rule.proofs.NodeLaws.{node_in_order_ordered}
-use Rattle.wire.specs.declared.answer.Length.{Length}
-use Rattle.wire.specs.declared.answer.Imaged.{Imaged}
-use Rattle.wire.specs.Number.{bytes}
+use Rattle.wire.specs.Answer.{Length, Imaged}
 use Rattle.wire.specs.Claim.{count_width}
-use Rattle.wire.specs.Run.{key}
+use Rattle.wire.specs.Run.{Layout}
 use Rattle.wire.specs.Length.{no_length}
 use Rattle.wire.specs.Image.{key_section, claim_section, sections, section_length, image_limit, section_bytes, image_bytes, node_bytes, count_of, behind}
 use Rattle.wire.specs.Image.{count_fits, counts_fit, told_length, question14, parse, node_from, read_image_questions, used, no_image, read_image}
 use Rattle.wire.specs.Image.{write_image_questions, write_image, image_lent}
 use Rattle.wire.specs.Sizes.{AsTold}
-use Rattle.wire.proofs.NumberLaws.{length_bytes}
-use Rattle.wire.proofs.RunLaws.{length_write_run, key_faithful, claim_faithful}
+use Rattle.wire.specs.Lengths.{length_bytes}
+use Rattle.wire.proofs.RunLaws.{Faithful, length_write_run, key_faithful, claim_faithful}
 
 -- "An image may have 18,052 bytes" (document 02, slip 6).
 pub image_size : image_limit ≡ 18052
@@ -88,26 +87,29 @@ module _ (bs : List ℕ) where
 
 -- ---- writing
 
+pub length_section_bytes : {A : Type 0} {l : Layout A} {Fit : A → Type 0} → Faithful l Fit → (xs : List A)
+    → length (section_bytes l xs) ≡ count_width + l.size * length xs
+length_section_bytes faith xs = rw (length-append, length_bytes, length_write_run faith)
+
+pub length_image_bytes : (ks : List ℕ) (cs : List Claim)
+    → length (image_bytes ks cs) ≡ section_length key_section (length ks) + section_length claim_section (length cs)
+unfolding image_bytes
+length_image_bytes ks cs = rw (length-append, length_section_bytes key_faithful ks, length_section_bytes claim_faithful cs)
+
 module _ (n : Node) where
   -- the counts of a node in order are not too high
-  pub ordered_counts : node_in_order n ≡ true → (n.store.count ≤ limit) × (n.count ≤ table_limit)
+  pub ordered_counts : node_in_order n ≡ true → (n.store.count ≤ limit) × (n.pending.count ≤ table_limit)
   ordered_counts e = let o = node_in_order_ordered n e in (in_order_count n.store o.store, o.count)
 
-  module _ (long : length n.store.keys ≡ limit) (all : length n.pending ≡ table_limit) (few : n.store.count ≤ limit) (several : n.count ≤ table_limit) where
+  module _ (long : length n.store.keys ≡ limit) (all : length n.pending.claims ≡ table_limit) (few : n.store.count ≤ limit) (several : n.pending.count ≤ table_limit) where
     pub length_node_keys : length (node_keys n) ≡ n.store.count
     length_node_keys = length-take-le n.store.count n.store.keys (rw long few)
 
-    pub length_pending : length (pending_of n) ≡ n.count
-    length_pending = length-take-le n.count n.pending (rw all several)
+    pub length_pending : length (pending_of n) ≡ n.pending.count
+    length_pending = length-take-le n.pending.count n.pending.claims (rw all several)
 
-    length_key_bytes : length (section_bytes key (node_keys n)) ≡ section_length key_section n.store.count
-    length_key_bytes = rw (length-append, length_bytes, length_write_run key_faithful, length_node_keys)
-
-    pub length_node_bytes : length (node_bytes n) ≡ section_length key_section n.store.count + section_length claim_section n.count
-    unfolding image_bytes
-    length_node_bytes =
-        let pending = bytes count_width (length (pending_of n)) in
-        rw (length-append, length_key_bytes, length-append pending, length_bytes, length_write_run claim_faithful, length_pending)
+    pub length_node_bytes : length (node_bytes n) ≡ section_length key_section n.store.count + section_length claim_section n.pending.count
+    length_node_bytes = rw (length_image_bytes, length_node_keys, length_pending)
 
   module _ (out : List ℕ) where
     pub write_image_0 : node_in_order n ≡ true → length (node_bytes n) ≤ length out

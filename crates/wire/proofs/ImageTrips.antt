@@ -122,7 +122,7 @@ image_accepted n fit e =
     let k : length ks ≤ limit = rw (length_node_keys n fit.shaped.store.keys fit.shaped.pending few several) few in
     let c : length cs ≤ table_limit = rw (length_pending n fit.shaped.store.keys fit.shaped.pending few several) several in
     let parsed =
-    parse_image_bytes ks cs k c (each_take _ n.store.count n.store.keys fit.keys) (each_take ClaimFits n.count n.pending fit.pending) in
+    parse_image_bytes ks cs k c (each_take _ n.store.count n.store.keys fit.keys) (each_take ClaimFits n.pending.count n.pending.claims fit.pending) in
     let o = node_in_order_ordered n e in
     let same : n ≡ node_of ks cs = node_of_same n fit.shaped.store fit.shaped.pending o in
     let saved : saved_in_order (node_from (parse (node_bytes n))) ≡ true = rw (ap node_from parsed, ← same) (saved_saved_in_order n (ordered_saved n o)) in

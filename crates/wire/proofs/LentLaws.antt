@@ -20,11 +20,11 @@ use Rattle.claims.specs.Question.{first_no}
 use Rattle.claims.proofs.QuestionLaws.{first_no_zero, settle_refused, settle_number}
 use Rattle.rule.specs.declared.node.Node.{Node}
 use Rattle.claims.specs.declared.claim.Claim.{Claim}
-use Rattle.rule.specs.declared.answer.Rest.{Rest}
+use Rattle.rule.specs.Answer.{Rest}
 use Rattle.rule.specs.Table.{table_limit}
-use Rattle.rule.specs.Node.{node_keys, node_of, telling, saved_in_order, node_in_order}
+use Rattle.rule.specs.Node.{table_by, node_keys, node_of, telling, saved_in_order, node_in_order}
 use Rattle.rule.proofs.NodeLaws.{node_keys_node_of}
-use Rattle.nodes.specs.Lent.{node_with, rest_of, admit_in}
+use Rattle.nodes.specs.Lent.{node_held, rest_of, admit_in}
 use Rattle.nodes.proofs.LentLaws.{held_admit_in, admit_in_saved, admit_in_unsaved}
 use Rattle.wire.specs.Claim.{count_width}
 use Rattle.wire.specs.Run.{key, claim}
@@ -45,7 +45,7 @@ module _ (bs : List ℕ) {r : Rest} (e : r ≡ read_image_in bs) where
       ap (λ (x : Rest). x.number) e ∙ settle_number (λ (x : Rest). x.number) (first_no (question14 bs ∷ [])) _ no_rest refl (λ (k : ℕ). refl)
 
   -- refused with 14
-  read_image_in_refused : (r.number ≡ 0 → ⊥) → no_image r.number ≡ read_image bs
+  pub read_image_in_refused : (r.number ≡ 0 → ⊥) → no_image r.number ≡ read_image bs
   unfolding read_image
   read_image_in_refused f = go (question14 bs).yes refl
     where
@@ -81,7 +81,7 @@ module _ (bs : List ℕ) {r : Rest} (e : r ≡ read_image_in bs) where
 
     -- the node of both
     abbrev read_node : Node
-    read_node = node_with ks r.held r.table r.count
+    read_node = node_held ks r
 
     short : length (parse bs).keys ≤ limit
     unfolding parse
@@ -94,7 +94,7 @@ module _ (bs : List ℕ) {r : Rest} (e : r ≡ read_image_in bs) where
         let rest : r ≡ rest_of (node_from (parse bs)) = e ∙ rw passed in
         let p : ks ≡ l ++ replicate (limit - length l) 0 = k ∙ rw passed (put_at_replicate l limit 0) in
         let store : store_with ks r.held ≡ store_of l = (λ i. store_with (p i) (rest i).held) ∙ store_with_store_of l short in
-        λ i. record { store = store i; pending = (rest i).table; count = (rest i).count }
+        λ i. record { store = store i; pending = table_by (rest i).table (rest i).count }
 
     -- what is admitted of these keys and claims: what the image says of itself, by question 1 and without what fails 16
     module _ {a : Rest} (admitted : a ≡ admit_in (take r.held ks) r) where
@@ -113,7 +113,7 @@ module _ (bs : List ℕ) {r : Rest} (e : r ≡ read_image_in bs) where
 
       few : length t ≤ table_limit
       unfolding node_of
-      few = subst (λ (m : ℕ). m ≤ table_limit) (ap (λ (n : Node). n.count) read_image_in_node) read_image_in_few.1
+      few = subst (λ (m : ℕ). m ≤ table_limit) (ap (λ (n : Node). n.pending.count) read_image_in_node) read_image_in_few.1
 
       saved_is : saved_in_order (node_of l t) ≡ true → a ≡ rest_of (node_of l (telling t))
       saved_is o = admitted_is ∙ admit_in_saved l t few o
@@ -129,17 +129,17 @@ module _ (bs : List ℕ) {r : Rest} (e : r ≡ read_image_in bs) where
           go true o = absurd (f (ap (λ (x : Rest). x.number) (saved_is o)))
           go false o = rw (unsaved_is o, passed, o)
 
-      judged_yes : a.number ≡ 0 → record { number = 0; node = node_with ks a.held a.table a.count } ≡ read_image bs
+      judged_yes : a.number ≡ 0 → record { number = 0; node = node_held ks a } ≡ read_image bs
       unfolding read_image node_of
       judged_yes z = go (saved_in_order (node_of l t)) refl
         where
-          go : (yes : Bool) → saved_in_order (node_of l t) ≡ yes → record { number = 0; node = node_with ks a.held a.table a.count } ≡ read_image bs
+          go : (yes : Bool) → saved_in_order (node_of l t) ≡ yes → record { number = 0; node = node_held ks a } ≡ read_image bs
           go true o =
               let keys : ks ≡ (store_of l).keys = ap (λ (n : Node). n.store.keys) read_image_in_node in
               let is = saved_is o in
               let store : store_with ks a.held ≡ store_of l = (λ i. store_with (keys i) (is i).held) ∙ store_with_store_of l short in
-              let node : node_with ks a.held a.table a.count ≡ node_from (used (parse bs)) =
-              λ i. record { store = store i; pending = (is i).table; count = (is i).count } in
+              let node : node_held ks a ≡ node_from (used (parse bs)) =
+              λ i. record { store = store i; pending = table_by (is i).table (is i).count } in
               (λ i. record { number = 0; node = node i }) ∙ rw (passed, o)
           go false o = absurd (let one : a.number ≡ 1 = unsaved_is o in omega arith)
 
@@ -175,8 +175,8 @@ module _ (bs : List ℕ) {r : Rest} (e : r ≡ read_image_in bs) where
         (λ (g : r.number ≡ 0 → ⊥). ap (λ (x : Rest). no_image x.number) (refused_stays g) ∙ read_image_in_refused g)
         (eq_or_ne r.number 0)
 
-    pub read_image_lent : a.number ≡ 0 → record { number = 0; node = node_with ks a.held a.table a.count } ≡ read_image bs
-    read_image_lent z = ⊎_elim {C = record { number = 0; node = node_with ks a.held a.table a.count } ≡ read_image bs}
+    pub read_image_lent : a.number ≡ 0 → record { number = 0; node = node_held ks a } ≡ read_image bs
+    read_image_lent z = ⊎_elim {C = record { number = 0; node = node_held ks a } ≡ read_image bs}
         (λ (done : r.number ≡ 0). judged_yes done k admitted z)
         (λ (g : r.number ≡ 0 → ⊥). absurd (g (ap (λ (x : Rest). x.number) (sym (refused_stays g)) ∙ z)))
         (eq_or_ne r.number 0)
@@ -192,7 +192,7 @@ within_limits_yes keys held count e =
     )
 
 module _ (n : Node) (out : List ℕ) where
-  pub write_image_in_0 : within_limits n.store.keys n.store.count n.count ≡ true → length (node_bytes n) ≤ length out
+  pub write_image_in_0 : within_limits n.store.keys n.store.count n.pending.count ≡ true → length (node_bytes n) ≤ length out
       → (record { number = 0; length = length (node_bytes n) } ≡ write_image_in n (length out)) × (put_at out 0 (node_bytes n) ≡ image_in_lent n out)
   unfolding write_image_in image_in_lent
   write_image_in_0 fits h =
@@ -201,10 +201,10 @@ module _ (n : Node) (out : List ℕ) where
 
   -- where the node is in order, this is the call that asks 1
   module _ (long : length n.store.keys ≡ limit) (ordered : node_in_order n ≡ true) where
-    pub ordered_within_limits : within_limits n.store.keys n.store.count n.count ≡ true
+    pub ordered_within_limits : within_limits n.store.keys n.store.count n.pending.count ≡ true
     ordered_within_limits =
         let (few, several) = ordered_counts n ordered in
-        rw (eq-eqb (length n.store.keys) limit long, le-leb n.store.count limit few, le-leb n.count table_limit several)
+        rw (eq-eqb (length n.store.keys) limit long, le-leb n.store.count limit few, le-leb n.pending.count table_limit several)
 
     pub write_image_in_write_image : write_image_in n (length out) ≡ write_image n (length out)
     unfolding write_image_in write_image

@@ -4,12 +4,12 @@
 --   ClaimLaws     a claim in bytes
 --   RunLaws       keys or claims, one after the other
 --   FrameLaws     questions 10 to 13, and what the two calls return
---   FramePaths    the ways of src/frame.rt
+--   FramePaths    the ways of src/frames.rt
 --   FrameTrips    the round trips of frames
 --   ImageLaws     question 14, and what the calls return
 --   SizesLaws     what an image's counts tell
 --   LentLaws      the calls on lent keys, by the definitions of images
---   ImagePaths    the ways of src/image.rt
+--   ImagePaths    the ways of src/images.rt
 --   SectionLaws   a section at the front of some bytes, both ways
 --   ImageTrips    the round trips of images
 --   OldLimitLaws  images saved under the old limit

@@ -1,18 +1,22 @@
 -- Laws of numbers in bytes, over the width: one law each for reading and for writing, and that they undo each other.
--- Order: what a list below a bound keeps; the length; a number is below its width's power; there and back; one byte more. Assumes nothing.
+-- Order: what a list below a bound keeps; a number is below its width's power; there and back; at a place; in a word of 8 bytes. Assumes nothing.
 use Prim.Native.Nat.{ℕ, zero, suc, ◌+◌, ◌-◌, ◌*◌, ◌/◌, ◌%◌, ◌^◌, ◌≤◌, ◌<◌}
-use native.Mathlib.Nat.{pow-succ', mul_assoc, mul_left_comm, mod-eq_of_lt, div-div-eq-div-mul, add-mul-div_right, add-mul-mod_self_right, add_comm}
-use native.Mathlib.Nat.{lt_of_lt_of_le, pow-le-pow_right}
-use native.Mathlib.Numerals.{add-one}
+use native.Mathlib.Nat.{pow-succ', mul_assoc, mod-eq_of_lt, add-mul-div_right, add-mul-mod_self_right, add_comm}
+use native.Mathlib.Nat.{lt_of_lt_of_le, pow-le-pow_right, zero-add, suc-add}
 use native.Mathlib.Omega.{arith}
-use mathlib.Core.Path.{◌≡◌, refl, ap, ◌∙◌}
-use mathlib.Core.List.{List, [], ◌∷◌, ◌++◌}
+use mathlib.Core.Path.{◌≡◌, refl, ap, sym, ◌∙◌}
+use mathlib.Core.List.{List, [], ◌∷◌, ◌++◌, append-nil}
 use lib.Arith.{digits_lt, digits_div, mod-mul}
 use lib.Dec.{lit<}
-use lib.ListN.{length, take, drop, get_or, set, length-append, length-take, length-drop}
-use lib.Seq.{take-suc, drop-drop, get_or-drop, take_at, drop-append-add}
+use lib.ListN.{length, take, drop, replicate, length-append, length-take, length-drop, length-replicate, drop_of_length-le}
+use lib.Seq.{take_all, drop-drop, get_or-drop, take_at, drop-append-add}
+use borrow.Rule.Slice.PartMut.{put_mid}
+use Rattle.std.specs.Int.{w64, bytes_high_first, to_be_bytes, from_be_bytes}
+use Rattle.std.proofs.lemmas.List.{take-replicate}
+use Rattle.std.proofs.lemmas.Nat.{be_bytes_8}
 use Rattle.keys.specs.Place.{put_at}
-use Rattle.keys.proofs.PlaceLaws.{put_at_nil, put_at_snoc}
+use Rattle.wire.specs.Claim.{key_width}
+use Rattle.wire.specs.Lengths.{length_bytes}
 use Rattle.wire.specs.Number.{byte, number, bytes, number_at, Below}
 
 -- ---- lists below a bound
@@ -26,13 +30,6 @@ below_take zero (x ∷ l) p h i = p
 below_take (suc n) [] p h i = p
 below_take (suc n) (x ∷ l) p h zero = h zero
 below_take (suc n) (x ∷ l) p h (suc i) = below_take n l p (λ (j : ℕ). h (suc j)) i
-
--- ---- lengths
-
-pub length_bytes : (w n : ℕ) → length (bytes w n) ≡ w
-unfolding bytes
-length_bytes zero n = refl
-length_bytes (suc w) n = ap suc (length_bytes w n)
 
 -- ---- a number is below its width's power
 
@@ -80,54 +77,12 @@ bytes_number (b ∷ bs) h =
     rw add_comm (bytes_above (length bs) b (number bs) ∙ bytes_number bs (λ (i : ℕ). h (suc i))) in
     λ i. p i ∷ q i
 
--- ---- one byte more
-
--- the turn of reading: one byte more at the end
-pub number_snoc : (bs : List ℕ) (b : ℕ) → number (bs ++ (b ∷ [])) ≡ number bs * byte + b
-unfolding number
-number_snoc [] b = omega arith
-number_snoc (a ∷ bs) b =
-    let e : a * byte ^ length (bs ++ (b ∷ [])) ≡ byte * (a * byte ^ length bs) = rw (length-append, add-one, pow-succ', mul_left_comm a byte) in
-    let r : number (bs ++ (b ∷ [])) ≡ number bs * byte + b = number_snoc bs b in
-    omega arith
-
--- the turn of writing: the last byte, and the bytes of the rest before it
-pub bytes_snoc : (w n : ℕ) → bytes (suc w) n ≡ bytes w (n / byte) ++ (n % byte ∷ [])
-unfolding bytes
-bytes_snoc zero n = let e : n / 1 % byte ≡ n % byte = omega arith in ap (λ (b : ℕ). b ∷ []) e
-bytes_snoc (suc w) n =
-    let e : n / byte ^ suc w % byte ≡ n / byte / byte ^ w % byte = rw (pow-succ', div-div-eq-div-mul) in
-    let r : bytes (suc w) n ≡ bytes w (n / byte) ++ (n % byte ∷ []) = bytes_snoc w n in
-    λ i. e i ∷ r i
-
 -- ---- a number at a place
 
 pub number_at_below : (s : List ℕ) (at w v : ℕ) → w ≤ v → Below byte s → number_at s at w < byte ^ v
 number_at_below s at w v p h =
     let q : length (take w (drop at s)) ≤ v = rw length-take (omega arith) in
     lt_of_lt_of_le (number_below (take w (drop at s)) (below_take w (drop at s) (lit< tt) (below_drop at s h))) (pow-le-pow_right (lit< tt) q)
-
-pub number_none : ◌≡◌ {A = ℕ} 0 (number [])
-unfolding number
-number_none = refl
-
--- the turn of reading: n is the number so far, and b the next byte
-module _ (s : List ℕ) (at w : ℕ) {n : ℕ} (so_far : n ≡ number_at s at w) where
-  pub number_at_turn : {b : ℕ} → at + w < length s → b ≡ get_or s (at + w) 0 → n * byte + b ≡ number_at s at (w + 1)
-  number_at_turn {b} p f =
-      let q : w < length (drop at s) = rw length-drop (omega arith) in
-      rw (add-one, take-suc (drop at s) w 0 q, number_snoc, get_or-drop, so_far, f)
-
-  -- it fits a width that has room for the byte, before and after
-  pub number_at_shift : (v : ℕ) → w ≤ v → Below byte s → n * byte < byte ^ suc v
-  number_at_shift v p h = let q : n < byte ^ v = rw so_far (number_at_below s at w v p h) in rw pow-succ' (omega arith)
-
-  pub number_at_more : (v : ℕ) {b : ℕ} → w < v → Below byte s → at + w < length s → b ≡ get_or s (at + w) 0 → n * byte + b < byte ^ v
-  number_at_more v p h q f = rw (number_at_turn q f) (number_at_below s at (w + 1) v (omega arith) h)
-
-  -- .. and the end
-  pub number_at_end : (v : ℕ) → w ≤ v → v ≤ w → n ≡ number_at s at v
-  number_at_end v p q = let same : w ≡ v = omega arith in rw (← same) so_far
 
 -- a place counted from another place
 pub number_at_drop : (s : List ℕ) (at k w : ℕ) → number_at (drop at s) k w ≡ number_at s (at + k) w
@@ -147,15 +102,65 @@ bytes_number_at s at w h p =
     let e : length (take w (drop at s)) ≡ w = rw (length-take, length-drop) (omega arith) in
     rw e at (bytes_number (take w (drop at s)) (below_take w (drop at s) (lit< tt) (below_drop at s h)))
 
--- ---- the bytes of a number at a place
+-- ---- a number in a word of 8 bytes, which std writes and reads
 
-pub put_at_none : (s : List ℕ) (at n : ℕ) → put_at s at (bytes 0 n) ≡ s
+-- what std writes is its 8 bytes
+bytes_high_first_bytes : (w n : ℕ) → bytes_high_first w n ≡ bytes w n
 unfolding bytes
-put_at_none s at n = put_at_nil s at
+bytes_high_first_bytes zero n = refl
+bytes_high_first_bytes (suc zero) n = let e : n % byte ≡ n / 1 % byte = omega arith in ap (λ (b : ℕ). b ∷ []) e
+bytes_high_first_bytes (suc (suc w)) n = ap (λ (bs : List ℕ). n / byte ^ suc w % byte ∷ bs) (bytes_high_first_bytes (suc w) n)
 
-pub put_at_bytes : (s : List ℕ) (at w n : ℕ) → 0 < w → at + w ≤ length s
-    → put_at (set s (at + (w - 1)) (n % byte)) at (bytes (w - 1) (n / byte)) ≡ put_at s at (bytes w n)
-put_at_bytes s at zero n p h = absurd (let z : ⊥ = omega arith in z)
-put_at_bytes s at (suc w) n p h =
-    let e : suc w - 1 ≡ w = omega arith in
-    rw (e, bytes_snoc) (put_at_snoc s at (bytes w (n / byte)) (n % byte) w (length_bytes w (n / byte)) (omega arith))
+-- what std reads of 8 bytes is their number
+number_word : (bs : List ℕ) {n : ℕ} → length bs ≡ key_width → Below byte bs → n < byte ^ key_width → n ≡ from_be_bytes w64 bs → n ≡ number bs
+number_word bs {n} long h fits e =
+    let back : bytes key_width n ≡ bs = sym (bytes_high_first_bytes key_width n) ∙ be_bytes_8 bs n long h e in
+    sym (number_bytes key_width n fits) ∙ ap number back
+
+-- the lowest bytes of a number are its last ones
+drop_bytes : (k w n : ℕ) → drop k (bytes (k + w) n) ≡ bytes w n
+unfolding bytes
+drop_bytes zero w n = rw zero-add
+drop_bytes (suc k) w n = rw suc-add (drop_bytes k w n)
+
+-- zeros before a number don't change it
+number_zeros : (k : ℕ) (bs : List ℕ) → number (replicate k 0 ++ bs) ≡ number bs
+unfolding number
+number_zeros zero bs = refl
+number_zeros (suc k) bs = let e = number_zeros k bs in omega arith
+
+below_zeros : {m : ℕ} (k : ℕ) (bs : List ℕ) → 0 < m → Below m bs → Below m (replicate k 0 ++ bs)
+below_zeros zero bs p h i = h i
+below_zeros (suc k) bs p h zero = p
+below_zeros (suc k) bs p h (suc i) = below_zeros k bs p h i
+
+module _ (s : List ℕ) (at w : ℕ) (few : w ≤ key_width) where
+  -- a word of zeros, but for the bytes of a place at its end, is the number there
+  pub word_number_at : {n : ℕ} {new : List ℕ} → at + w ≤ length s → Below byte s → new ≡ take (at + w - at) (drop at s) → n < byte ^ key_width
+      → n ≡ from_be_bytes w64 (put_mid (key_width - w) (key_width - (key_width - w)) (replicate key_width 0) new) → n ≡ number_at s at w
+  word_number_at {n} {new} room h copied fits read =
+      let bs = take w (drop at s) in
+      let same : new ≡ bs = let e : at + w - at ≡ w = omega arith in copied ∙ rw e in
+      let long : length bs ≡ w = rw (length-take, length-drop) (omega arith) in
+      let zeros : List ℕ = replicate key_width 0 in
+      let front : take (key_width - w) zeros ≡ replicate (key_width - w) 0 = take-replicate (key_width - w) key_width 0 (omega arith) in
+      let none : drop (key_width - (key_width - w)) (drop (key_width - w) zeros) ≡ [] =
+      drop-drop (key_width - (key_width - w)) (key_width - w) zeros ∙ drop_of_length-le zeros (omega arith) in
+      let word : put_mid (key_width - w) (key_width - (key_width - w)) (replicate key_width 0) new ≡ replicate (key_width - w) 0 ++ bs =
+      (λ i. front i ++ (same i ++ none i)) ∙ ap (λ (l : List ℕ). replicate (key_width - w) 0 ++ l) (append-nil bs) in
+      let whole : length (replicate (key_width - w) 0 ++ bs) ≡ key_width = rw (length-append, length-replicate, long) (omega arith) in
+      let small = below_zeros (key_width - w) bs (lit< tt) (below_take w (drop at s) (lit< tt) (below_drop at s h)) in
+      number_word (replicate (key_width - w) 0 ++ bs) whole small fits (read ∙ ap (from_be_bytes w64) word) ∙ number_zeros (key_width - w) bs
+
+  -- the last bytes of a word at a place are the bytes of a number
+  pub put_at_word : (x : ℕ) {word new : List ℕ} → word ≡ to_be_bytes w64 x → new ≡ take (key_width - (key_width - w)) (drop (key_width - w) word)
+      → put_mid at (at + w - at) s new ≡ put_at s at (bytes w x)
+  unfolding put_at
+  put_at_word x {word} {new} told copied =
+      let e : key_width - (key_width - w) ≡ w = omega arith in
+      let f : at + w - at ≡ w = omega arith in
+      let g : key_width - w + w ≡ key_width = omega arith in
+      let last : drop (key_width - w) word ≡ bytes w x =
+      ap (drop (key_width - w)) (told ∙ bytes_high_first_bytes key_width x) ∙ (rw g at (drop_bytes (key_width - w) w x)) in
+      let same : new ≡ bytes w x = copied ∙ rw (e, last) (take_all w (bytes w x) (omega (arith, length_bytes w x))) in
+      rw (same, f, length_bytes)

@@ -24,7 +24,7 @@ use Rattle.rule.specs.Table.{table_limit, climbs}
 use Rattle.rule.specs.Node.{holds_all, all_fit, saved_in_order}
 use Rattle.rule.proofs.NodeLaws.{saved_in_order_node_of, empty_node_node_of}
 use Rattle.wire.specs.Claim.{count_width}
-use Rattle.wire.specs.declared.answer.Imaged.{Imaged}
+use Rattle.wire.specs.Answer.{Imaged}
 use Rattle.wire.specs.Run.{key, claim, Each}
 use Rattle.wire.specs.Image.{key_section, sections, count_of, behind, count_fits, counts_fit, told_length, question14, Contents, parse, node_from, used}
 use Rattle.wire.specs.Image.{read_image_questions, no_image, read_image}

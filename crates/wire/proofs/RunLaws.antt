@@ -1,22 +1,23 @@
 -- Laws of things in bytes, one after the other, over how one of them lies in bytes: one more at the end, there and back.
 -- Then that keys and claims lie in bytes faithfully. Assumes nothing.
 use Prim.Native.Nat.{ℕ, zero, suc, ◌+◌, ◌*◌, ◌^◌, ◌≤◌, ◌<◌}
-use native.Mathlib.Nat.{mul-suc, mul-zero}
+use native.Mathlib.Nat.{mul-suc, mul-zero, mul-le-mul_left}
 use native.Mathlib.Numerals.{add-one}
 use native.Mathlib.Omega.{arith}
 use mathlib.Core.Path.{◌≡◌, refl, ap, sym, subst, ◌∙◌}
 use mathlib.Core.List.Memᴰ
 use mathlib.Core.List.{List, [], ◌∷◌, ◌++◌, append_assoc, append-nil, Memᴰ}
 use lib.Dec.{lit≤}
-use lib.ListN.{length, take, drop, get_or, set, replicate, length-append, length-drop}
-use lib.Seq.{drop-drop, take-add, take-suc, length-take-le, drop_at}
+use lib.ListN.{length, take, drop, get_or, set, replicate, length-append, length-drop, drop_of_length-le}
+use lib.Seq.{drop-drop, take_all, take-add, take-suc, length-take-le, drop_at}
 use Rattle.keys.specs.Place.{put_at}
-use Rattle.keys.proofs.PlaceLaws.{put_at_append, set_front}
+use Rattle.keys.proofs.PlaceLaws.{put_at_zero, put_at_append, set_front}
 use Rattle.wire.specs.Number.{byte, Below}
 use Rattle.wire.specs.Claim.{key_width, ClaimFits}
 use Rattle.wire.specs.Run.{Layout, key, claim, read_run, write_run, Each}
-use Rattle.wire.proofs.NumberLaws.{below_drop, length_bytes, number_at_bytes, bytes_number_at, number_at_below}
-use Rattle.wire.proofs.ClaimLaws.{length_claim_bytes, claim_from_claim_bytes, claim_bytes_claim_from, claim_from_fits}
+use Rattle.wire.specs.Lengths.{length_bytes, length_claim_bytes}
+use Rattle.wire.proofs.NumberLaws.{below_drop, number_at_bytes, bytes_number_at, number_at_below}
+use Rattle.wire.proofs.ClaimLaws.{claim_from_claim_bytes, claim_bytes_claim_from, claim_from_fits}
 
 -- What makes a layout faithful for the things that fit: as many bytes as it says, read again as written, written again as read.
 pub record Faithful {A : Type 0} (l : Layout A) (Fit : A → Type 0) : Type 0 where
@@ -91,20 +92,44 @@ module _ {A : Type 0} (l : Layout A) where
       let more = read_run_snoc i (drop at bs) in
       rw (more, e, g) (set_front (read_run l i (drop at bs)) lent _ i (length_read_run i (drop at bs)) h)
 
-  -- .. and its end
-  pub end_read_run : (lent : List A) (bs : List ℕ) (at i n : ℕ) {out : List A} → i ≤ n → n ≤ i
-      → out ≡ put_at lent 0 (read_run l i (drop at bs)) → out ≡ put_at lent 0 (read_run l n (drop at bs))
-  end_read_run lent bs at i n p q e = let same : i ≡ n = omega arith in rw (← same) e
+  -- .. and its end, where all places are written
+  pub end_read_run : (lent : List A) (bs : List ℕ) (at i : ℕ) {out : List A} → i ≤ length lent → length lent ≤ i
+      → out ≡ put_at lent 0 (read_run l i (drop at bs)) → out ≡ read_run l (length lent) (drop at bs)
+  end_read_run lent bs at i p q e =
+      let same : i ≡ length lent = omega arith in
+      let all = read_run l (length lent) (drop at bs) in
+      let none : drop (length all) lent ≡ [] = drop_of_length-le lent (omega (arith, length_read_run (length lent) (drop at bs))) in
+      e ∙ rw (same, put_at_zero lent all, none, append-nil)
 
   -- the turn of writing: one thing more at the end
   pub write_run_snoc : (xs : List A) (x : A) → write_run l (xs ++ (x ∷ [])) ≡ write_run l xs ++ l.write x
   write_run_snoc [] x = append-nil (l.write x)
   write_run_snoc (y ∷ xs) x = rw (write_run_snoc xs x, append_assoc)
 
+-- what is written of things that lie in as many bytes as their layout says
+module _ {A : Type 0} (l : Layout A) (long : (x : A) → length (l.write x) ≡ l.size) where
+  pub length_written : (xs : List A) → length (write_run l xs) ≡ l.size * length xs
+  length_written [] = rw mul-zero
+  length_written (x ∷ xs) = rw (length-append, long x, length_written xs, size_suc)
+
+  -- the turn of writing at a place: one thing more, right after those before it
+  pub put_at_write_run : (s : List ℕ) (at i : ℕ) (xs : List A) {x : A} {out new : List ℕ} → i < length xs → at + l.size * length xs ≤ length s
+      → out ≡ put_at s at (write_run l (take i xs)) → x ≡ get_or xs i x → new ≡ put_at out (at + l.size * i) (l.write x)
+      → new ≡ put_at s at (write_run l (take (i + 1) xs))
+  put_at_write_run s at i xs {x} {out} h p e is f =
+      let size : length (write_run l (take i xs)) ≡ l.size * i = rw (length_written, length-take-le i xs (omega arith)) in
+      let more : write_run l (take (i + 1) xs) ≡ write_run l (take i xs) ++ l.write x = rw (add-one, take-suc xs i x h, ← is, write_run_snoc) in
+      let room : at + l.size * i ≤ length s = omega (arith, mul-le-mul_left l.size (let q : i ≤ length xs = omega arith in q)) in
+      f ∙ rw (more, e) (put_at_append s at (write_run l (take i xs)) (l.write x) (l.size * i) size room)
+
+  -- .. and its end
+  pub end_write_run : (s : List ℕ) (at i : ℕ) (xs : List A) {out : List ℕ} → length xs ≤ i
+      → out ≡ put_at s at (write_run l (take i xs)) → out ≡ put_at s at (write_run l xs)
+  end_write_run s at i xs q e = e ∙ rw (take_all i xs q)
+
 module _ {A : Type 0} {l : Layout A} {Fit : A → Type 0} (faith : Faithful l Fit) where
   pub length_write_run : (xs : List A) → length (write_run l xs) ≡ l.size * length xs
-  length_write_run [] = rw mul-zero
-  length_write_run (x ∷ xs) = rw (length-append, faith.long x, length_write_run xs, size_suc)
+  length_write_run = length_written l faith.long
 
   pub read_run_write_run : (xs : List A) → Each Fit xs → (rest : List ℕ) → read_run l (length xs) (write_run l xs ++ rest) ≡ xs
   read_run_write_run [] f rest = refl
@@ -125,17 +150,3 @@ module _ {A : Type 0} {l : Layout A} {Fit : A → Type 0} (faith : Faithful l Fi
   pub read_run_fits : (n : ℕ) (bs : List ℕ) → Below byte bs → Each Fit (read_run l n bs)
   read_run_fits zero bs h = tt
   read_run_fits (suc n) bs h = (faith.fits bs h, read_run_fits n (drop l.size bs) (below_drop l.size bs h))
-
-  -- the turn of writing at a place: one thing more, right after those before it
-  pub put_at_write_run : (s : List ℕ) (at i : ℕ) (xs : List A) (d : A) {out new : List ℕ} → i < length xs → at + l.size * i ≤ length s
-      → out ≡ put_at s at (write_run l (take i xs)) → new ≡ put_at out (at + l.size * i) (l.write (get_or xs i d))
-      → new ≡ put_at s at (write_run l (take (i + 1) xs))
-  put_at_write_run s at i xs d {out} h p e f =
-      let long : length (write_run l (take i xs)) ≡ l.size * i = rw (length_write_run, length-take-le i xs (omega arith)) in
-      let more : write_run l (take (i + 1) xs) ≡ write_run l (take i xs) ++ l.write (get_or xs i d) = rw (add-one, take-suc xs i d h, write_run_snoc) in
-      f ∙ rw (more, e) (put_at_append s at (write_run l (take i xs)) (l.write (get_or xs i d)) (l.size * i) long p)
-
-  -- .. and its end
-  pub end_write_run : (s : List ℕ) (at i n : ℕ) (xs : List A) {out : List ℕ} → i ≤ n → n ≤ i
-      → out ≡ put_at s at (write_run l (take i xs)) → out ≡ put_at s at (write_run l (take n xs))
-  end_write_run s at i n xs p q e = let same : i ≡ n = omega arith in rw (← same) e

@@ -11,7 +11,8 @@ use Rattle.wire.specs.Number.{byte, bytes, Below}
 use Rattle.wire.specs.Claim.{count_width}
 use Rattle.wire.specs.Run.{Layout, write_run, Each}
 use Rattle.wire.specs.Image.{section_bytes, count_of, count_fits, things_in}
-use Rattle.wire.proofs.NumberLaws.{below_drop, length_bytes, number_at_bytes, bytes_number_at}
+use Rattle.wire.specs.Lengths.{length_bytes}
+use Rattle.wire.proofs.NumberLaws.{below_drop, number_at_bytes, bytes_number_at}
 use Rattle.wire.proofs.RunLaws.{Faithful, length_read_run, length_write_run, read_run_write_run, write_run_read_run}
 use Rattle.wire.proofs.ImageLaws.{count_fits_of}
 

@@ -2,6 +2,7 @@
 use Prim.Native.Nat.{ℕ, ◌+◌, ◌≤◌}
 use native.Mathlib.Omega.{arith}
 use mathlib.Core.Bool.{Bool, true, false, ◌&&◌}
+use Rattle.std.specs.Prelude.{Result, Ok, Err}
 use mathlib.Core.List.{List}
 use mathlib.Core.Path.{◌≡◌, refl}
 use lib.ListN.{length}
@@ -9,45 +10,71 @@ use Rattle.keys.specs.Store.{limit}
 use Rattle.keys.proofs.Tests.{and_left, and_right}
 use Rattle.rule.specs.Table.{table_limit}
 use Rattle.wire.specs.Image.{key_section, claim_section, sections, section_length, count_of, behind, count_fits, counts_fit, told_length}
-use Rattle.wire.specs.Sizes.{part_of, sizes_of, AsTold}
+use Rattle.claims.specs.declared.refusal.Refusal.{Refusal}
+use Rattle.claims.specs.declared.refusal.Refusal.TheVariants.{WrongImageLength}
+use Rattle.wire.specs.declared.images.Sizes.{Sizes}
+use Rattle.wire.specs.Sizes.{count_told, sizes_of, length_of, AsTold}
 use Rattle.wire.proofs.ImageLaws.{count_fits_yes}
 
 module _ (most : ℕ) (bs : List ℕ) where
-  pub part_of_no : count_fits most bs ≡ false → record { fits = false; count = 0 } ≡ part_of most bs
-  unfolding part_of
-  part_of_no e = rw e
+  pub count_told_no : count_fits most bs ≡ false → Err WrongImageLength ≡ count_told most bs
+  unfolding count_told
+  count_told_no e = rw e
 
-  pub part_of_yes : count_fits most bs ≡ true → record { fits = true; count = count_of bs } ≡ part_of most bs
-  unfolding part_of
-  part_of_yes e = rw e
+  pub count_told_yes : {k : ℕ} → k ≡ count_of bs → count_fits most bs ≡ true → Ok k ≡ count_told most bs
+  unfolding count_told
+  count_told_yes k e = rw (e, k)
 
-  -- a part that fits tells its count
-  pub part_of_fits : (part_of most bs).fits ≡ count_fits most bs
-  part_of_fits = go (count_fits most bs) refl
+  -- .. and back
+  pub count_told_err : {r : Refusal} → Err r ≡ count_told most bs → (count_fits most bs ≡ false) × (r ≡ WrongImageLength)
+  unfolding count_told
+  count_told_err {r} h = go (count_fits most bs) refl
     where
-      go : (t : Bool) → count_fits most bs ≡ t → (part_of most bs).fits ≡ count_fits most bs
-      go true e = rw (e, ← part_of_yes e)
-      go false e = rw (e, ← part_of_no e)
+      go : (t : Bool) → count_fits most bs ≡ t → (count_fits most bs ≡ false) × (r ≡ WrongImageLength)
+      go true e = let f : ◌≡◌ {A = Result ℕ Refusal} (Err r) (Ok (count_of bs)) = rw e at h in cc
+      go false e = let f : ◌≡◌ {A = Result ℕ Refusal} (Err r) (Err WrongImageLength) = rw e at h in (e, cc)
 
-  pub part_of_count : count_fits most bs ≡ true → (part_of most bs).count ≡ count_of bs
-  part_of_count e = rw (← part_of_yes e)
+  pub count_told_ok : {k : ℕ} → Ok k ≡ count_told most bs → (count_fits most bs ≡ true) × (k ≡ count_of bs)
+  unfolding count_told
+  count_told_ok {k} h = go (count_fits most bs) refl
+    where
+      go : (t : Bool) → count_fits most bs ≡ t → (count_fits most bs ≡ true) × (k ≡ count_of bs)
+      go true e = let f : ◌≡◌ {A = Result ℕ Refusal} (Ok k) (Ok (count_of bs)) = rw e at h in (e, cc)
+      go false e = let f : ◌≡◌ {A = Result ℕ Refusal} (Ok k) (Err WrongImageLength) = rw e at h in cc
 
 module _ (bs : List ℕ) where
-  pub sizes_of_no : counts_fit sections bs ≡ false → record { fits = false; keys = 0; pending = 0; length = 0 } ≡ sizes_of bs
+  abbrev both : Sizes
+  both = record { keys = count_of bs; pending = count_of (behind key_section bs) }
+
+  pub sizes_of_no : counts_fit sections bs ≡ false → Err WrongImageLength ≡ sizes_of bs
   unfolding sizes_of
   sizes_of_no e = rw e
 
-  pub sizes_of_yes : counts_fit sections bs ≡ true
-      → record { fits = true; keys = count_of bs; pending = count_of (behind key_section bs); length = told_length sections bs } ≡ sizes_of bs
+  pub sizes_of_yes : {s : Sizes} → s ≡ both → counts_fit sections bs ≡ true → Ok s ≡ sizes_of bs
   unfolding sizes_of
-  sizes_of_yes e = rw e
+  sizes_of_yes s e = rw (e, s)
 
-  pub sizes_of_fits : (sizes_of bs).fits ≡ counts_fit sections bs
-  sizes_of_fits = go (counts_fit sections bs) refl
+  -- .. and back
+  pub sizes_of_err : {r : Refusal} → Err r ≡ sizes_of bs → (counts_fit sections bs ≡ false) × (r ≡ WrongImageLength)
+  unfolding sizes_of
+  sizes_of_err {r} h = go (counts_fit sections bs) refl
     where
-      go : (t : Bool) → counts_fit sections bs ≡ t → (sizes_of bs).fits ≡ counts_fit sections bs
-      go true e = rw (e, ← sizes_of_yes e)
-      go false e = rw (e, ← sizes_of_no e)
+      go : (t : Bool) → counts_fit sections bs ≡ t → (counts_fit sections bs ≡ false) × (r ≡ WrongImageLength)
+      go true e = let f : ◌≡◌ {A = Result Sizes Refusal} (Err r) (Ok both) = rw e at h in cc
+      go false e = let f : ◌≡◌ {A = Result Sizes Refusal} (Err r) (Err WrongImageLength) = rw e at h in (e, cc)
+
+  pub sizes_of_ok : {s : Sizes} → Ok s ≡ sizes_of bs → (counts_fit sections bs ≡ true) × (s ≡ both)
+  unfolding sizes_of
+  sizes_of_ok {s} h = go (counts_fit sections bs) refl
+    where
+      go : (t : Bool) → counts_fit sections bs ≡ t → (counts_fit sections bs ≡ true) × (s ≡ both)
+      go true e = let f : ◌≡◌ {A = Result Sizes Refusal} (Ok s) (Ok both) = rw e at h in (e, cc)
+      go false e = let f : ◌≡◌ {A = Result Sizes Refusal} (Ok s) (Err WrongImageLength) = rw e at h in cc
+
+  -- the length that the counts tell
+  pub told_length_of : told_length sections bs ≡ length_of both
+  unfolding told_length
+  told_length_of = omega arith
 
 -- counts and length as told leave room for what is read
 module _ {bs : List ℕ} {n m : ℕ} (told : AsTold bs n m) where

@@ -7,9 +7,7 @@ use Rattle.claims.specs.declared.claim.Claim.{Claim}
 use Rattle.claims.specs.Cases.{claim}
 use Rattle.rule.specs.declared.node.Node.{Node}
 use Rattle.rule.specs.Node.{node_of, empty_node}
-use Rattle.wire.specs.declared.answer.Framed.{Framed}
-use Rattle.wire.specs.declared.answer.Imaged.{Imaged}
-use Rattle.wire.specs.declared.answer.Length.{Length}
+use Rattle.wire.specs.Answer.{Framed, Length, Imaged}
 use Rattle.wire.specs.Number.{bytes}
 use Rattle.wire.specs.Claim.{key_width, count_width}
 use Rattle.wire.specs.Frame.{frame_bytes, four_of, no_frame, read_frame, write_frame, frame_lent}

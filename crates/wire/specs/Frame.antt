@@ -1,14 +1,15 @@
 -- Frames (document 01, "Frame and image"): "Frame: bytes hex 4C 43, version byte 1, count byte n from 1 to 4, then n claims of 26 bytes (lo 8, hi 8,
 -- sum 8, cnt 2). At most 108 bytes." Then questions 10 to 13, and what the two calls return for any bytes. Assumes nothing.
 use Rattle.std.specs.Prelude.{ℕ, ◌+◌, ◌-◌, ◌*◌, Bool, true, false, ◌&&◌, List, [], ◌∷◌, ◌++◌, leb, eqb, length, take, drop, get_or}
+use Rattle.std.specs.List.{list_all}
 use Rattle.keys.specs.Place.{put_at}
 use Rattle.claims.specs.declared.claim.Claim.{Claim}
 use Rattle.claims.specs.Question.{Question, question, first_no, settle}
 use Rattle.claims.specs.Call.{judged}
 use Rattle.rule.specs.Node.{blanks}
 use Rattle.rule.specs.Question.{question15}
-use Rattle.wire.specs.declared.answer.Framed.{Framed}
-use Rattle.wire.specs.declared.answer.Length.{Length}
+pub use Rattle.wire.specs.Answer.{frame_limit}
+use Rattle.wire.specs.Answer.{Framed, Length}
 use Rattle.wire.specs.Length.{no_length}
 use Rattle.wire.specs.Claim.{claim_size}
 use Rattle.wire.specs.Run.{claim, read_run, write_run}
@@ -20,10 +21,6 @@ mark = 0x4C ∷ 0x43 ∷ []
 -- "version byte 1"
 abbrev pub version : ℕ
 version = 1
-
--- "count byte n from 1 to 4"
-abbrev pub frame_limit : ℕ
-frame_limit = 4
 
 -- where the version byte and the count byte stand, and how many bytes come before the claims: 2, 3 and 4
 abbrev pub version_place : ℕ
@@ -89,8 +86,7 @@ question12 bs = question 12 (sized bs)
 
 -- 13. Does each claim in it pass 2 to 5? And 16, which is "part of what 13 asks" (document 02, slip 2).
 abbrev pub all_pass : List Claim → Bool
-all_pass [] = true
-all_pass (c ∷ cs) = eqb (judged c) 0 && all_pass cs
+all_pass cs = list_all (λ (c : Claim). eqb (judged c) 0) cs
 
 abbrev pub question13 : List Claim → Question
 question13 cs = question 13 (all_pass cs)

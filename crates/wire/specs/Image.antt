@@ -9,8 +9,7 @@ use Rattle.rule.specs.declared.node.Node.{Node}
 use Rattle.rule.specs.Table.{table_limit}
 use Rattle.rule.specs.Node.{node_keys, pending_of, node_of, empty_node, telling}
 use Rattle.rule.specs.Question.{saved_question1, node_question1, question15}
-use Rattle.wire.specs.declared.answer.Imaged.{Imaged}
-use Rattle.wire.specs.declared.answer.Length.{Length}
+use Rattle.wire.specs.Answer.{Length, Imaged}
 use Rattle.wire.specs.Number.{byte, bytes, number_at}
 use Rattle.wire.specs.Claim.{key_width, count_width, ClaimFits}
 use Rattle.wire.specs.Run.{Layout, key, claim, read_run, write_run, Each}
@@ -59,13 +58,13 @@ node_bytes n = image_bytes (node_keys n) (pending_of n)
 -- a node whose arrays are as long as their types say ..
 pub record Shaped (n : Node) : Type 0 where
   pub store : Sized n.store
-  pub pending : length n.pending ≡ table_limit
+  pub pending : length n.pending.claims ≡ table_limit
 
 -- .. and whose numbers fit their widths: so is every node that the code holds
 pub record NodeFits (n : Node) : Type 0 where
   pub shaped : Shaped n
   pub keys : Each (λ (k : ℕ). k < byte ^ key_width) n.store.keys
-  pub pending : Each ClaimFits n.pending
+  pub pending : Each ClaimFits n.pending.claims
 
 -- ---- what the counts of some bytes tell
 

@@ -6,12 +6,12 @@ use Rattle.keys.specs.Store.{limit}
 use Rattle.keys.specs.Place.{put_at}
 use Rattle.claims.specs.Question.{Question, question, first_no, settle}
 use Rattle.rule.specs.declared.node.Node.{Node}
-use Rattle.rule.specs.declared.answer.Rest.{Rest}
+use Rattle.rule.specs.Answer.{Rest}
 use Rattle.rule.specs.Table.{table_limit}
 use Rattle.rule.specs.Node.{blanks}
 use Rattle.rule.specs.Question.{question15}
 use Rattle.nodes.specs.Lent.{rest_of}
-use Rattle.wire.specs.declared.answer.Length.{Length}
+use Rattle.wire.specs.Answer.{Length}
 use Rattle.wire.specs.Length.{no_length}
 use Rattle.wire.specs.Image.{parse, node_from, question14, node_bytes}
 
@@ -32,7 +32,7 @@ within_limits keys held count = eqb (length keys) limit && (leb held limit && le
 -- `write_image_in` asks whether places and counts are those of a node, which is a part of question 1, and 15.
 abbrev pub write_image_in_questions : Node → ℕ → List Question
 write_image_in_questions n room =
-    question 1 (within_limits n.store.keys n.store.count n.count) ∷ question15 room (length (node_bytes n)) ∷ []
+    question 1 (within_limits n.store.keys n.store.count n.pending.count) ∷ question15 room (length (node_bytes n)) ∷ []
 
 unfoldable pub write_image_in : Node → ℕ → Length
 write_image_in n room =

@@ -8,7 +8,7 @@ use Rattle.claims.specs.Question.{Question, question, first_no, settle, question
 use Rattle.claims.specs.Reply.{ends}
 use Rattle.rule.specs.Table.{climbs}
 use Rattle.rule.specs.Node.{holds_all}
-use Rattle.wire.specs.declared.answer.Imaged.{Imaged}
+use Rattle.wire.specs.Answer.{Imaged}
 use Rattle.wire.specs.Run.{key, Each}
 use Rattle.wire.specs.Image.{Section, claim_section, count_of, counts_fit, told_length, Contents, parse, node_from, used}
 

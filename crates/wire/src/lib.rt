@@ -1,12 +1,11 @@
 // What travels by radio and what lies on a memory card: frames and images, both ways (document 01, "Frame and image").
 #![tactic(auto)]
 
-mod answer;
 mod claim;
-mod frame;
-mod image;
+mod frames;
+mod images;
 mod number;
+mod run;
 
-pub use answer::{Framed, Imaged, Length};
-pub use frame::{read_frame, write_frame};
-pub use image::{image_length, read_image, read_image_in, write_image, write_image_in};
+pub use frames::{Frame, read_frame, write_frame};
+pub use images::{IMAGE, image_length, read_image, read_image_in, write_image, write_image_in};

@@ -1,45 +1,54 @@
 // Numbers in bytes, high byte first, read from and written to a place of a slice: one function each for every width.
-ghost use Rattle.std.specs.Prelude.{◌≡◌, ◌+◌, ◌≤◌, length};
+ghost use Rattle.std.specs.Prelude.{◌≡◌, ◌+◌, ◌≤◌, length, refl};
 ghost use Rattle.keys.specs.Place.{put_at};
 ghost use Rattle.wire.specs.Number.{bytes, number_at};
 ghost use Rattle.wire.specs.Claim.{key_width};
+ghost use Rattle.wire.specs.Run.{key as key-layout};
+ghost use Rattle.wire.specs.Lengths.{length_bytes};
+
+use crate::run::Laid;
 
 // The width of a key or a sum, and that of a count, in bytes.
 pub(crate) const KEY: usize = 8;
 
 pub(crate) const COUNT: usize = 2;
 
-// A byte as a number.
-fn wide(x: u8) -> u64
-    ensures { result ≡ x }
-{
-    x as u64
-}
-
 // The number of `width` bytes at a place.
 pub(crate) fn read(s: &[u8], at: usize, width: usize) -> u64
     requires { (at + width ≤ length s.now) × (width ≤ key_width) }
     ensures { result ≡ number_at s.now at width }
 {
-    let mut n: u64 = 0;
-    let mut i: usize = 0;
-    while i < width {
-        n = n * 256 + wide(s[at + i]);
-        i += 1;
-    }
-    n
+    let mut word = [0; KEY];
+    word[KEY - width..].copy_from_slice(&s[at..at + width]);
+    u64::from_be_bytes(word)
 }
 
-// Write a number as `width` bytes at a place, the last byte first.
+// Write the lowest `width` bytes of a number at a place.
 pub(crate) fn write(out: &mut [u8], at: usize, width: usize, x: u64)
-    requires { at + width ≤ length out.old }
+    requires { (at + width ≤ length out.old) × (width ≤ key_width) }
     ensures { out.new ≡ put_at out.old at (bytes width x) }
 {
-    let mut rest = x;
-    let mut i = width;
-    while 0 < i {
-        i -= 1;
-        out[at + i] = (rest % 256) as u8;
-        rest = rest / 256;
+    let word = x.to_be_bytes();
+    out[at..at + width].copy_from_slice(&word[KEY - width..]);
+}
+
+// A key or a sum.
+impl Laid for u64 {
+    const SIZE: usize = KEY;
+
+    ghost SIZE = { key_width };
+
+    ghost layout = { key-layout };
+
+    fn read(s: &[u8], at: usize) -> u64 {
+        read(s, at, KEY)
     }
+
+    fn write(self, out: &mut [u8], at: usize) {
+        write(out, at, KEY, self)
+    }
+
+    ghost sized = { refl };
+
+    ghost long = { length_bytes key_width };
 }

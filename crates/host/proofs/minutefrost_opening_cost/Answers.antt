@@ -1,12 +1,10 @@
--- `minutefrost_opening_cost` meets its contract: one law for each way. Assumes nothing.
-use Rattle.host.proofs.CostPaths.{opening_no, opening_small, opening_yes}
+-- `minutefrost_opening_cost` meets its contract. Assumes nothing.
+use Rattle.host.proofs.CostPaths.{opening_tells}
+use Rattle.host.proofs.SignPaths.{handed_on}
 use Rattle.host.proofs.minutefrost_opening_cost.Goals as goal
 
-pub returns-then-cost-ne0 : goal.returns-then-cost-ne0
-returns-then-cost-ne0 c = search opening_no
-
-pub size-requires : goal.size-requires
-size-requires c = search opening_small
+pub told-requires : goal.told-requires
+told-requires c = (opening_tells _ _ c.opening_cost.ensures).small
 
 pub returns : goal.returns
-returns c = search opening_yes
+returns c = handed_on (opening_tells _ _ c.opening_cost.ensures) c.told.ensures

@@ -1,35 +1,22 @@
 -- A turn of `read_full`: what the read gave stands behind what was read before. Assumes nothing.
-use Rattle.std.proofs.Common.{◌≡◌, ℕ, ◌+◌, ◌-◌, ◌≤◌, List, ◌++◌, rules, arith, length, take, slice_range, sym, ap, ◌∙◌, subst, le_refl, drop_at, length-take-le}
-use Rattle.std.proofs.lemmas.Slice.{take-put_mid_below}
+use Rattle.std.proofs.Common.{◌≡◌, ℕ, ◌+◌, ◌-◌, ◌≤◌, List, ◌++◌, rules, length, take, sym, ap, ◌∙◌, subst, length-take-le}
 use Rattle.std.specs.Io.KnownBytes.{Consumes}
 use Rattle.std.proofs.KnownBytes.{Consumes-trans}
+use Rattle.std.proofs.lemmas.List.{take-append-le}
+use Rattle.std.proofs.Math.Seq.{take-append-add}
 use borrow.Rule.Slice.PartMut.{put_mid, post_of}
-use Rattle.std.proofs.Math.Seq.{take-add, take-append-le}
 use Rattle.reading.proofs.read_full.Goals as goal
 
--- the front of a buffer up to b, of its front up to a and the part between
-front_and_part : (a b : ℕ) (old new : List ℕ) → a ≤ b → take a new ≡ take a old → take a old ++ slice_range new a b ≡ take b new
-front_and_part a b old new h front =
-    let same : a + (b - a) ≡ b = omega arith in
-    ap (λ l. l ++ slice_range new a b) (sym front) ∙ sym (take-add a (b - a) new) ∙ ap (λ n. take n new) same
-
--- the part that was read, of the whole part lent
-part_read : (a k n : ℕ) (xs ys : List ℕ) → a ≤ length xs → n ≤ length ys → slice_range (put_mid a k xs ys) a (a + n) ≡ take n ys
-part_read a k n xs ys within fits =
-    let same : (a + n) - a ≡ n = omega arith in
-    let after = post_of a k xs in
-    ap (take ((a + n) - a)) (drop_at (take a xs) (ys ++ after) a (length-take-le a xs within)) ∙ ap (λ m. take m (ys ++ after)) same ∙ take-append-le n ys after fits
+-- the front of a buffer, once n more bytes of it are read
+front_read : (a k n : ℕ) (xs ys : List ℕ) → a ≤ length xs → n ≤ length ys → take a xs ++ take n ys ≡ take (a + n) (put_mid a k xs ys)
+front_read a k n xs ys within fits =
+    let front = take a xs in
+    let long : length front ≡ a = length-take-le a xs within in
+    ap (λ l. front ++ l) (sym (take-append-le n ys (post_of a k xs) fits))
+    ∙ sym (take-append-add front (ys ++ post_of a k xs) n) ∙ ap (λ m. take (m + n) (front ++ (ys ++ post_of a k xs))) long
 
 pub loop-done-preserved : goal.loop-done-preserved
 loop-done-preserved g c =
-    let at = c.loop-done.done in
-    let buffer = c.loop-done.buffer in
-    let room = length buffer - at in
-    let within = c.loop-done.invariant.1 in
-    let n = c.in_ok-n.n in
-    let part = part_read at room n buffer c.read.new.buf within c.in_ok-n.ensures.bound.0 in
-    let joined = front_and_part at (at + n) buffer (put_mid at room buffer c.read.new.buf) (omega arith) (take-put_mid_below _ _ _ _ _ (le_refl _) within) in (
-      search rules,
-      search rules,
-      subst (Consumes _ _) (ap (λ l. take at buffer ++ l) (sym part) ∙ joined) (Consumes-trans _ _ _ _ _ c.loop-done.invariant.2 c.in_ok-n.ensures.bytes.0),
-    )
+    let (_, within, read) = c.loop-done.invariant in
+    let front = front_read _ (length c.loop-done.buffer - c.loop-done.done) _ c.loop-done.buffer _ within c.in_ok-n.ensures.bound.0 in
+    (search rules, search rules, subst (Consumes _ _) front (Consumes-trans _ _ _ _ _ read c.in_ok-n.ensures.bytes.0))

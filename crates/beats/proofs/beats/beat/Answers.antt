@@ -9,5 +9,5 @@ returns-then-not-ordered c = beat_1 _ _ c.ordered.ensures (ap not c.if-not-order
 
 pub returns : goal.returns
 returns c =
-    let sized : Sized c.args.node.store = search rules in
-    beat_ordered _ _ c.ordered.ensures (ap not c.if-not-ordered.false) sized c.beat_in-kept.ensures
+    let sized : Sized c.args.node.now.store = search rules in
+    beat_ordered _ _ c.ordered.ensures (ap not c.if-not-ordered.false) sized c.beat_in.ensures

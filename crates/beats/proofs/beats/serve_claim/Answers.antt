@@ -1,5 +1,5 @@
 -- `beats::beats::serve_claim` meets its contract. Assumes nothing.
-use Rattle.beats.proofs.BeatsPaths.{turn_matched, turn_waits, turn_told}
+use Rattle.beats.proofs.BeatsPaths.{turn_matched, turn_waits}
 use Rattle.beats.proofs.beats.serve_claim.Goals as goal
 
 pub returns-then-matches : goal.returns-then-matches
@@ -7,6 +7,3 @@ returns-then-matches c = search turn_matched
 
 pub returns-then-left-eq0 : goal.returns-then-left-eq0
 returns-then-left-eq0 c = search turn_waits
-
-pub returns : goal.returns
-returns c = search turn_told

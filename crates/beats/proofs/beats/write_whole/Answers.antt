@@ -2,8 +2,8 @@
 use Rattle.beats.proofs.BeatsPaths.{whole_none, whole_one}
 use Rattle.beats.proofs.beats.write_whole.Goals as goal
 
-pub returns-then-count-eq0 : goal.returns-then-count-eq0
-returns-then-count-eq0 c = search whole_none
+pub returns-then-store-eq0 : goal.returns-then-store-eq0
+returns-then-store-eq0 c = search whole_none
 
 pub returns : goal.returns
 returns c = search whole_one

@@ -1,13 +1,15 @@
 -- `claims::calls::enter` meets its contract. Assumes nothing.
-use Rattle.std.proofs.Common.{rules}
+use Rattle.std.proofs.Common.{◌≡◌, Some, arith, rules}
 use Rattle.claims.proofs.CallsPaths.{entered_1, entered_unfit, entered_fit}
 use Rattle.claims.proofs.calls.enter.Goals as goal
 
-pub returns-then-not-summed_in : goal.returns-then-not-summed_in
-returns-then-not-summed_in c = search (rules, entered_1)
+pub returns-in_err-ordered : goal.returns-in_err-ordered
+returns-in_err-ordered c = search (rules, entered_1)
 
-pub returns-then-not-added : goal.returns-then-not-added
-returns-then-not-added c = search (rules, entered_unfit)
+pub returns-in_err-added : goal.returns-in_err-added
+returns-in_err-added c = search (rules, c.in_ok-ordered.ensures, entered_unfit)
 
 pub returns : goal.returns
-returns c = search (rules, entered_fit)
+returns c =
+    let some : c.add_in.result ≡ Some c.in_ok-added.added = grind arith in
+    search (rules, c.in_ok-ordered.ensures, entered_fit)

@@ -1,24 +1,25 @@
 -- `claims::lent::hear_in` meets its contract. Assumes nothing.
+use Rattle.std.proofs.Common.{rules}
 use Rattle.claims.proofs.LentPaths.{heard_judged, heard_unfit, ends_rise, third_told, heard_ends, third_grows, third_room, heard_third}
 use Rattle.claims.proofs.lent.hear_in.Goals as goal
 
-pub returns-then-number-ne0 : goal.returns-then-number-ne0
-returns-then-number-ne0 c = search heard_judged
+pub returns-in_err-judge : goal.returns-in_err-judge
+returns-in_err-judge c = search (rules, heard_judged)
 
-pub returns-then-not-added : goal.returns-then-not-added
-returns-then-not-added c = search heard_unfit
+pub returns-in_err-ends : goal.returns-in_err-ends
+returns-in_err-ends c = search (rules, c.in_ok-judge.ensures, heard_unfit)
 
 pub tells_third-requires : goal.tells_third-requires
-tells_third-requires c = search (ends_rise, third_told)
+tells_third-requires c = search (rules, c.in_ok-judge.ensures, ends_rise, third_told)
 
 pub returns-then-not-tells_third : goal.returns-then-not-tells_third
-returns-then-not-tells_third c = search heard_ends
+returns-then-not-tells_third c = search (rules, c.in_ok-judge.ensures, heard_ends)
 
-pub overflow_sub-more : goal.overflow_sub-more
-overflow_sub-more c = search third_grows
+pub overflow_sub-result : goal.overflow_sub-result
+overflow_sub-result c = search (rules, c.in_ok-judge.ensures, third_grows)
 
-pub overflow_add-last : goal.overflow_add-last
-overflow_add-last c = search third_room
+pub overflow_add-result : goal.overflow_add-result
+overflow_add-result c = search (rules, c.in_ok-judge.ensures, third_room)
 
 pub returns : goal.returns
-returns c = search heard_third
+returns c = search (rules, c.in_ok-judge.ensures, heard_third)

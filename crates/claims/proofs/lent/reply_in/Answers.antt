@@ -3,14 +3,14 @@ use Rattle.std.proofs.Common.{rules}
 use Rattle.claims.proofs.LentPaths.{reply_refused, heard_end, heard_positions, reply_told}
 use Rattle.claims.proofs.lent.reply_in.Goals as goal
 
-pub returns-then-heard-ne0 : goal.returns-then-heard-ne0
-returns-then-heard-ne0 c = search reply_refused
+pub returns-in_err-heard : goal.returns-in_err-heard
+returns-in_err-heard c = search (rules, reply_refused)
 
 pub overflow_add-end : goal.overflow_add-end
-overflow_add-end c = search heard_end
+overflow_add-end c = search (rules, c.in_ok-heard.ensures, heard_end)
 
-pub answer_at-answer-requires : goal.answer_at-answer-requires
-answer_at-answer-requires c = search (rules, heard_positions)
+pub invariant_of-piece : goal.invariant_of-piece
+invariant_of-piece c = record { positions = search (rules, c.in_ok-heard.ensures, heard_positions) }
 
 pub returns : goal.returns
-returns c = search reply_told
+returns c = search (rules, c.in_ok-heard.ensures, reply_told)

@@ -1,22 +1,29 @@
--- `join::joined_from` meets its contract: one law for each way. Assumes nothing.
+-- `join::joined_from` meets its contract. Assumes nothing.
 use Rattle.std.proofs.Common.{refl}
+use Rattle.std.proofs.lemmas.Result.{err_from_is_err_and}
 use Rattle.keys.specs.Store.{zeros}
+use Rattle.claims.proofs.RefusalLaws.{refusal_number_ne}
+use Rattle.host.proofs.SavePaths.{known_by}
 use Rattle.host.proofs.JoinPaths.{joined_first, joined_second, joined_both}
 use Rattle.host.proofs.join.joined_from.Goals as goal
 
-pub load-own-requires : goal.load-own-requires
+pub load-requires : goal.load-requires
 unfolding zeros
-load-own-requires c = refl
+load-requires c = refl
 
-pub returns-then-own-ne0 : goal.returns-then-own-ne0
-returns-then-own-ne0 c = search joined_first
-
-pub load-brought-requires : goal.load-brought-requires
+pub load-requires-2 : goal.load-requires-2
 unfolding zeros
-load-brought-requires c = refl
+load-requires-2 c = refl
 
-pub returns-then-brought-ne0 : goal.returns-then-brought-ne0
-returns-then-brought-ne0 c = search joined_second
+pub returns-in_err-own : goal.returns-in_err-own
+returns-in_err-own c =
+    let p = err_from_is_err_and c.from_residual.result c.from_residual.ensures.1 in
+    rw (p.1, p.2) (joined_first _ _ c.requires c.in_err-own.ensures (refusal_number_ne c.in_err-own.field-0.0))
+
+pub returns-in_err-brought : goal.returns-in_err-brought
+returns-in_err-brought c =
+    let p = err_from_is_err_and c.from_residual-in_err-brought.result c.from_residual-in_err-brought.ensures.1 in
+    rw (p.1, p.2) (joined_second _ _ c.requires c.in_ok-own.ensures refl c.in_err-brought.ensures (refusal_number_ne c.in_err-brought.field-0.0))
 
 pub returns : goal.returns
-returns c = search joined_both
+returns c = known_by _ _ (joined_both _ _ c.requires c.in_ok-own.ensures refl c.in_ok-brought.ensures refl c.join_in.ensures)

@@ -1,56 +1,39 @@
-use Rattle.std.proofs.Common.{arith, drop, length, rules, sym, take, ◌*◌, ◌∙◌, ◌≡◌}
+-- `sent::write_frames` meets its contract. Assumes nothing.
+use Rattle.std.proofs.Common.{length, ◌∙◌, ◌/◌}
 use Rattle.claims.specs.Words.{claim_width}
-use Rattle.wire.specs.Run.{read_run}
 use Rattle.wire.proofs.FrameLaws.{take_four_of}
 use Rattle.wire.proofs.RunLaws.{length_read_run}
-use Rattle.host.specs.Frames.{in_words}
-use Rattle.host.proofs.Words.{read_run_part}
-use Rattle.host.proofs.SentPaths.{written_none, written_all, Turn}
-use Rattle.host.proofs.SentPaths.{turn_few, turn_more, turn_inside, turn_countable, turn_room, turn_pass, turn_written}
+use Rattle.host.specs.Frames.{in_words, claims_in}
+use Rattle.host.proofs.SentPaths.{chunk_of, ahead_all, ahead_none, chunk_few, chunk_countable, chunk_pass, chunk_room, chunk_turn}
 use Rattle.host.proofs.sent.write_frames.Goals as goal
 
-pub loop-i-init : goal.loop-i-init
-loop-i-init c = (search rules, written_none _ _)
+pub loop-four-init : goal.loop-four-init
+loop-four-init c =
+    let made = c.into_iter-four-iterator.ensures.into_iter_gives in
+    (rw made c.chunks-four-items.ensures.size, rw (made, c.chunks-four-items.ensures.rest) (ahead_all _ _ _ c.requires.long c.requires.pass))
 
-pub four_at-claims-requires : goal.four_at-claims-requires
-four_at-claims-requires c =
-    let many : length (read_run in_words c.args.count c.args.words.now) ≡ c.args.count = length_read_run in_words c.args.count c.args.words.now in
-    let turn : Turn (read_run in_words c.args.count c.args.words.now) c.args.frames.now c.loop-i.frames c.loop-i.i c.loop-i.at c.capped-n.result = record { so = c.loop-i.invariant.1; below = rw many c.loop-i-test.true; most = rw many c.capped-n.ensures; fits = c.requires.fits } in
-    let piece : take c.capped-n.result (drop c.loop-i.i (read_run in_words c.args.count c.args.words.now)) ≡ read_run in_words c.capped-n.result (drop (claim_width * c.loop-i.i) c.args.words.now) = read_run_part in_words c.args.count c.loop-i.i c.capped-n.result c.args.words.now (omega (arith, turn_inside turn, many)) in
-    let t = turn in
-    (turn_few t, omega (arith, turn_inside t, many), rw (← piece) (turn_pass t c.requires.pass))
+pub frame_of-requires : goal.frame_of-requires
+frame_of-requires c =
+    let (size, a) = c.loop-four.invariant in
+    let chunk = chunk_of size c.in-Some.ensures.steps.1 in
+    (chunk_few a chunk, chunk_pass a chunk)
 
 pub write_at-at-requires : goal.write_at-at-requires
 write_at-at-requires c =
-    let many : length (read_run in_words c.args.count c.args.words.now) ≡ c.args.count = length_read_run in_words c.args.count c.args.words.now in
-    let turn : Turn (read_run in_words c.args.count c.args.words.now) c.args.frames.now c.loop-i.frames c.loop-i.i c.loop-i.at c.capped-n.result = record { so = c.loop-i.invariant.1; below = rw many c.loop-i-test.true; most = rw many c.capped-n.ensures; fits = c.requires.fits } in
-    let piece : take c.capped-n.result (drop c.loop-i.i (read_run in_words c.args.count c.args.words.now)) ≡ read_run in_words c.capped-n.result (drop (claim_width * c.loop-i.i) c.args.words.now) = read_run_part in_words c.args.count c.loop-i.i c.capped-n.result c.args.words.now (omega (arith, turn_inside turn, many)) in
-    let group : let n = c.capped-n.result in take n c.four_at-claims.result ≡ take n (drop c.loop-i.i (read_run in_words c.args.count c.args.words.now)) = let n = c.capped-n.result in let ws = drop (claim_width * c.loop-i.i) c.args.words.now in rw c.four_at-claims.ensures (take_four_of (read_run in_words n ws) n (length_read_run in_words n ws) ∙ sym piece) in
-    let t = turn in
-    (turn_countable t, rw group (turn_pass t c.requires.pass), turn_room t)
+    let (size, a) = c.loop-four.invariant in
+    let chunk = chunk_of size c.in-Some.ensures.steps.1 in
+    let (claims, many) = c.frame_of.ensures in
+    let group = take_four_of (claims_in c.in-Some.four.now) (length c.in-Some.four.now / claim_width) (length_read_run in_words (length c.in-Some.four.now / claim_width) c.in-Some.four.now) in
+    (rw many (chunk_countable a chunk), rw (claims, many, group) (chunk_pass a chunk), rw many (chunk_room a chunk c.requires.fits))
 
-pub overflow_add-i : goal.overflow_add-i
-overflow_add-i c =
-    let many : length (read_run in_words c.args.count c.args.words.now) ≡ c.args.count = length_read_run in_words c.args.count c.args.words.now in
-    let turn : Turn (read_run in_words c.args.count c.args.words.now) c.args.frames.now c.loop-i.frames c.loop-i.i c.loop-i.at c.capped-n.result = record { so = c.loop-i.invariant.1; below = rw many c.loop-i-test.true; most = rw many c.capped-n.ensures; fits = c.requires.fits } in
-    omega (arith, turn_few turn)
-
-pub loop-i-smaller : goal.loop-i-smaller
-loop-i-smaller c =
-    let many : length (read_run in_words c.args.count c.args.words.now) ≡ c.args.count = length_read_run in_words c.args.count c.args.words.now in
-    let turn : Turn (read_run in_words c.args.count c.args.words.now) c.args.frames.now c.loop-i.frames c.loop-i.i c.loop-i.at c.capped-n.result = record { so = c.loop-i.invariant.1; below = rw many c.loop-i-test.true; most = rw many c.capped-n.ensures; fits = c.requires.fits } in
-    omega (arith, turn_more turn)
-
-pub loop-i-preserved : goal.loop-i-preserved
-loop-i-preserved c =
-    let many : length (read_run in_words c.args.count c.args.words.now) ≡ c.args.count = length_read_run in_words c.args.count c.args.words.now in
-    let turn : Turn (read_run in_words c.args.count c.args.words.now) c.args.frames.now c.loop-i.frames c.loop-i.i c.loop-i.at c.capped-n.result = record { so = c.loop-i.invariant.1; below = rw many c.loop-i-test.true; most = rw many c.capped-n.ensures; fits = c.requires.fits } in
-    let piece : take c.capped-n.result (drop c.loop-i.i (read_run in_words c.args.count c.args.words.now)) ≡ read_run in_words c.capped-n.result (drop (claim_width * c.loop-i.i) c.args.words.now) = read_run_part in_words c.args.count c.loop-i.i c.capped-n.result c.args.words.now (omega (arith, turn_inside turn, many)) in
-    let group : let n = c.capped-n.result in take n c.four_at-claims.result ≡ take n (drop c.loop-i.i (read_run in_words c.args.count c.args.words.now)) = let n = c.capped-n.result in let ws = drop (claim_width * c.loop-i.i) c.args.words.now in rw c.four_at-claims.ensures (take_four_of (read_run in_words n ws) n (length_read_run in_words n ws) ∙ sym piece) in
-    let t = turn in
-    (omega (arith, turn_inside t, many), turn_written t c.write_at-at.ensures.0 (c.write_at-at.ensures.1 ∙ rw group))
+pub loop-four-preserved : goal.loop-four-preserved
+loop-four-preserved c =
+    let (size, a) = c.loop-four.invariant in
+    let chunk = chunk_of size c.in-Some.ensures.steps.1 in
+    let (claims, many) = c.frame_of.ensures in
+    let group = take_four_of (claims_in c.in-Some.four.now) (length c.in-Some.four.now / claim_width) (length_read_run in_words (length c.in-Some.four.now / claim_width) c.in-Some.four.now) in
+    let (next, written) = c.write_at-at.ensures in
+    (c.in-Some.ensures.steps.0 ∙ size, chunk_turn a chunk c.requires.fits (next ∙ rw many) (written ∙ rw (claims, many, group)))
 
 pub returns : goal.returns
-returns c =
-    let many : length (read_run in_words c.args.count c.args.words.now) ≡ c.args.count = length_read_run in_words c.args.count c.args.words.now in
-    search (written_all, many)
+returns c = ahead_none c.loop-four.invariant.1 c.in-None.ensures.steps.1.0

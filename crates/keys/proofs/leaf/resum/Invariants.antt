@@ -1,13 +1,8 @@
--- `keys::leaf::resum` meets its contract. The invariant: working out those from i on gives what working out all gives. Assumes nothing.
-use Rattle.std.proofs.Common.{length, ◌-◌, ◌≡◌, ◌≤◌}
-use Rattle.keys.specs.Store.{limit}
+-- `keys::leaf::resum` meets its contract. The invariant: the sums passed, and those that follow from the sum so far, are all that are worked out. Assumes nothing.
+use Rattle.std.proofs.Common.{◌≡◌}
+use Rattle.keys.specs.Store.{running_from}
 use Rattle.keys.proofs.LeafPaths.{resum_from}
 use Rattle.keys.proofs.leaf.resum.Given as goal
 
 abbrev pub invariant-loop-i : goal.invariant-loop-i
-invariant-loop-i l =
-    (l.first ≤ l.i) × (l.i ≤ l.count) × (length l.sums ≡ limit) × (resum_from l.keys l.sums l.count l.sum l.i ≡ resum_from l.keys l.initial.sums l.count l.before l.first)
-
-abbrev pub decreases-loop-i : goal.decreases-loop-i
-decreases-loop-i l =
-    l.count - l.i
+invariant-loop-i l = resum_from l.part l.sum-items l.so_far l.i ≡ running_from l.before l.part

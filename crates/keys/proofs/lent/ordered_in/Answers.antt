@@ -1,5 +1,4 @@
 -- `keys::lent::ordered_in` meets its contract. Assumes nothing.
-use Rattle.std.proofs.Common.{length-take-le, sym}
 use Rattle.keys.proofs.LentPaths.{ordered_long, ordered_short, ordered_not, ordered_all_zero}
 use Rattle.keys.proofs.lent.ordered_in.Goals as goal
 
@@ -8,9 +7,6 @@ returns-then-count-gt-LIMIT c = search ordered_long
 
 pub returns-then-keys-count : goal.returns-then-keys-count
 returns-then-keys-count c = search ordered_short
-
-pub slice_bounds-rising-end : goal.slice_bounds-rising-end
-slice_bounds-rising-end c = sym (search length-take-le)
 
 pub returns-then-not-rising : goal.returns-then-not-rising
 returns-then-not-rising c = search ordered_not

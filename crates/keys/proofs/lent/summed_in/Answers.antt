@@ -1,5 +1,5 @@
 -- `keys::lent::summed_in` meets its contract. Assumes nothing.
-use Rattle.std.proofs.Common.{length-take-le, sym}
+use Rattle.std.proofs.Common.{sym}
 use Rattle.keys.proofs.LentPaths.{summed_order, summed_many, summed_short, summed_lengths, summed_wrong, summed_zeros}
 use Rattle.keys.proofs.lent.summed_in.Goals as goal
 
@@ -11,9 +11,6 @@ returns-then-sums-count c = search summed_short
 
 pub slice_bounds-summed-end : goal.slice_bounds-summed-end
 slice_bounds-summed-end c = sym (search summed_many)
-
-pub slice_bounds-summed-end-2 : goal.slice_bounds-summed-end-2
-slice_bounds-summed-end-2 c = sym (search length-take-le)
 
 pub summed-requires : goal.summed-requires
 summed-requires c = search summed_lengths

@@ -1,18 +1,14 @@
-use Rattle.std.proofs.Common.{lit≤, rules, ◌<◌}
-use Rattle.keys.proofs.SearchPaths.{halve_lt, narrowed_none, narrowed_turn, narrowed_few}
+use Rattle.keys.proofs.SearchPaths.{narrowed_turn, narrowed_few}
 use Rattle.keys.proofs.search.both_quartered.Goals as goal
 
-pub loop-size-init : goal.loop-size-init
-loop-size-init c = search narrowed_none
-
 pub loop-size-preserved : goal.loop-size-preserved
-loop-size-preserved c = search (narrowed_turn, lit≤)
-
-pub overflow_add-first : goal.overflow_add-first
-overflow_add-first c = let l : c.halved.result < c.loop-size.size = search halve_lt in search rules
-
-pub overflow_add-last : goal.overflow_add-last
-overflow_add-last c = let l : c.halved-2.result < c.loop-size.size = search halve_lt in search rules
+loop-size-preserved c = (
+  narrowed_turn c.loop-size.invariant.0 c.loop-size-test.true _ _ _ c.narrowed-lower.ensures,
+  narrowed_turn c.loop-size.invariant.1 c.loop-size-test.true _ _ _ c.narrowed-upper.ensures,
+)
 
 pub returns : goal.returns
-returns c = search narrowed_few
+returns c = (
+  narrowed_few c.loop-size.invariant.0 c.loop-size-test.false c.found.result c.found.ensures,
+  narrowed_few c.loop-size.invariant.1 c.loop-size-test.false c.found-2.result c.found-2.ensures,
+)

@@ -3,9 +3,7 @@ use Rattle.keys.proofs.SearchPaths.{Narrowed}
 use Rattle.keys.proofs.search.quartered.Given as goal
 
 abbrev pub invariant-loop-size : goal.invariant-loop-size
-invariant-loop-size l =
-    Narrowed l.keys l.count l.key l.part l.at l.size
+invariant-loop-size l = Narrowed l.keys l.count l.key l.search.part.now l.search.at l.search.key l.size
 
 abbrev pub decreases-loop-size : goal.decreases-loop-size
-decreases-loop-size l =
-    l.size
+decreases-loop-size l = l.size

@@ -1,12 +1,10 @@
-use Rattle.std.proofs.Common.{rules}
-use Rattle.keys.proofs.PlaceLaws.{copy_none, copy_more, copy_all}
+-- `merging::runs::copy_to` meets its contract. Assumes nothing.
+use Rattle.std.proofs.Common.{◌+◌, ◌-◌, ◌≡◌, length, arith}
+use Rattle.keys.specs.Place.{put_at}
 use Rattle.merging.proofs.runs.copy_to.Goals as goal
 
-pub loop-i-init : goal.loop-i-init
-loop-i-init c = search (rules, copy_none)
-
-pub loop-i-preserved : goal.loop-i-preserved
-loop-i-preserved c = search (rules, copy_more)
-
 pub returns : goal.returns
-returns c = search copy_all
+unfolding put_at
+returns c =
+    let long : c.args.at + length c.args.run.now - c.args.at ≡ length c.args.run.now = omega arith in
+    rw (long, c.copy_from_slice.ensures.after)

@@ -1,20 +1,17 @@
-use Rattle.std.proofs.Common.{get_or, refl, rules}
+-- `nodes::order::all_unused` meets its contract. Assumes nothing.
+use Rattle.std.proofs.Common.{rules, ◌∙◌}
+use Rattle.std.proofs.lemmas.Iterator.{YieldsList-from_slice}
+use Rattle.std.proofs.lemmas.Iterator.Search.{all_from_yields_List}
+use borrow.Author.Tests.{tests}
+use Rattle.claims.specs.declared.claim.Claim.{Claim}
 use Rattle.claims.specs.Claim.{no_claim}
-use Rattle.nodes.proofs.OrderPaths.{drop_next, unused_not, unused_on, unused_all}
+use Rattle.claims.specs.Reply.{same}
+use Rattle.nodes.proofs.Compared.{eq_same}
+use Rattle.nodes.proofs.OrderPaths.{unused_all}
 use Rattle.nodes.proofs.order.all_unused.Goals as goal
 
-pub loop-i-init : goal.loop-i-init
-loop-i-init c = refl
-
-pub returns-then-precedes : goal.returns-then-precedes
-returns-then-precedes c =
-    unused_not c.args.table c.args.count c.loop-i.i c.loop-i.invariant (get_or c.args.table c.loop-i.i no_claim) (drop_next c.args.table c.loop-i.i no_claim (search rules))
-    _ c.precedes.ensures c.if-precedes.true
-
-pub loop-i-preserved : goal.loop-i-preserved
-loop-i-preserved c =
-    unused_on c.args.table c.args.count c.loop-i.i c.loop-i.invariant (get_or c.args.table c.loop-i.i no_claim) (drop_next c.args.table c.loop-i.i no_claim (search rules))
-    _ c.precedes.ensures c.if-precedes.false
-
 pub returns : goal.returns
-returns c = unused_all c.args.table c.args.count c.loop-i.i c.loop-i.invariant (search rules)
+returns c =
+    all_from_yields_List (λ (x : Claim). same x no_claim) _ _ _ c.all.ensures.ran (YieldsList-from_slice c.args.places.now (cc))
+    (λ x b q k. search (rules, tests, eq_same))
+    ∙ unused_all c.args.places.now

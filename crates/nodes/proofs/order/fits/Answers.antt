@@ -1,12 +1,18 @@
 -- `nodes::order::fits` meets its contract. Assumes nothing.
+use Rattle.std.proofs.Common.{sym, ◌∙◌}
 use Rattle.nodes.proofs.OrderPaths.{fits_judged, fits_lo, fits_hi}
 use Rattle.nodes.proofs.order.fits.Goals as goal
 
-pub returns-then-judge_formerly-ne0 : goal.returns-then-judge_formerly-ne0
-returns-then-judge_formerly-ne0 c = search fits_judged
+pub returns-then-is_err : goal.returns-then-is_err
+returns-then-is_err c =
+    fits_judged c.args.keys.now c.args.held c.args.claim c.requires _ c.judge_formerly.ensures (sym c.is_err.ensures.value ∙ c.if-is_err.true)
 
-pub returns-then-not-places : goal.returns-then-not-places
-returns-then-not-places c = search fits_lo
+pub returns-then-places : goal.returns-then-places
+returns-then-places c =
+    fits_hi c.args.keys.now c.args.held c.args.claim c.requires _ c.judge_formerly.ensures (sym c.is_err.ensures.value ∙ c.if-is_err.false)
+    _ _ c.places_in-places.ensures.0 c.places_in-places.ensures.1 c.if-places.true
 
-pub returns : goal.returns
-returns c = search fits_hi
+pub returns-else-places : goal.returns-else-places
+returns-else-places c =
+    fits_lo c.args.keys.now c.args.held c.args.claim c.requires _ c.judge_formerly.ensures (sym c.is_err.ensures.value ∙ c.if-is_err.false)
+    _ _ c.places_in-places.ensures.0 c.places_in-places.ensures.1 c.if-places.false

@@ -1,20 +1,23 @@
-use Rattle.nodes.proofs.OrderPaths.{looking_first, looking_fall, looking_unfit, looking_not, looking_on, looking_done}
+use Rattle.std.proofs.Common.{get_or}
+use Rattle.claims.specs.Claim.{no_claim}
+use Rattle.nodes.proofs.Compared.{le_before}
+use Rattle.nodes.proofs.OrderPaths.{looking_first, looking_fall, looking_unfit, looking_on}
 use Rattle.nodes.proofs.order.pending.Goals as goal
 
-pub loop-i-init : goal.loop-i-init
-loop-i-init c = search looking_first
+pub loop-claim-init : goal.loop-claim-init
+loop-claim-init c = looking_first _ _
 
-pub returns-then-not-precedes : goal.returns-then-not-precedes
-returns-then-not-precedes c = search looking_fall
+pub returns-then-le : goal.returns-then-le
+returns-then-le c =
+    let fell = le_before (get_or c.args.claims.now c.loop-claim.claim-index no_claim) c.loop-claim.last c.le.ensures in
+    looking_fall _ _ c.loop-claim.invariant c.loop-claim-test.true _ fell c.if-le.true
 
 pub returns-then-not-fits : goal.returns-then-not-fits
-returns-then-not-fits c = search looking_unfit
+returns-then-not-fits c =
+    let fell = le_before (get_or c.args.claims.now c.loop-claim.claim-index no_claim) c.loop-claim.last c.le.ensures in
+    looking_unfit _ _ c.loop-claim.invariant c.loop-claim-test.true _ fell c.if-le.false _ c.fits.ensures c.if-not-fits.true
 
-pub loop-i-preserved-then-not-tells : goal.loop-i-preserved-then-not-tells
-loop-i-preserved-then-not-tells c = search looking_not
-
-pub loop-i-preserved : goal.loop-i-preserved
-loop-i-preserved c = search looking_on
-
-pub returns : goal.returns
-returns c = search looking_done
+pub loop-claim-preserved : goal.loop-claim-preserved
+loop-claim-preserved c =
+    let fell = le_before (get_or c.args.claims.now c.loop-claim.claim-index no_claim) c.loop-claim.last c.le.ensures in
+    looking_on _ _ c.loop-claim.invariant c.loop-claim-test.true _ fell c.if-le.false _ c.fits.ensures c.if-not-fits.false _ c.tells-given.ensures

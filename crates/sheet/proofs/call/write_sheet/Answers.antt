@@ -1,12 +1,17 @@
 -- `sheet::call::write_sheet` meets its contract. Assumes nothing.
-use Rattle.sheet.proofs.CallPaths.{unordered_told, unordered_lent, held_part, ordered_told, ordered_lent}
+use Rattle.std.proofs.Common.{rules}
+use Rattle.sheet.proofs.CallPaths.{unordered, count_within, in_order_laid}
 use Rattle.sheet.proofs.call.write_sheet.Goals as goal
 
 pub returns-then-not-summed_in : goal.returns-then-not-summed_in
-returns-then-not-summed_in c = search (unordered_told, unordered_lent)
+returns-then-not-summed_in c =
+    unordered _ (search rules) (rw (c.lent.ensures.0, c.lent.ensures.1, c.lent.ensures.2) at c.summed_in.ensures) c.if-not-summed_in.true _
 
-pub slice_bounds-write_sheet_in-end : goal.slice_bounds-write_sheet_in-end
-slice_bounds-write_sheet_in-end c = search held_part
+pub shared_ref_as_front-write_sheet_in : goal.shared_ref_as_front-write_sheet_in
+shared_ref_as_front-write_sheet_in c =
+    count_within _ (search rules) (rw (c.lent.ensures.0, c.lent.ensures.1, c.lent.ensures.2) at c.summed_in.ensures) c.if-not-summed_in.false
 
 pub returns : goal.returns
-returns c = search (ordered_told, ordered_lent)
+returns c =
+    in_order_laid _ (search rules) (rw (c.lent.ensures.0, c.lent.ensures.1, c.lent.ensures.2) at c.summed_in.ensures) c.if-not-summed_in.false _
+    c.write_sheet_in.ensures

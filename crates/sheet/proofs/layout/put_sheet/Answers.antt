@@ -1,23 +1,35 @@
-use Rattle.std.proofs.Common.{ap, length, min, ℕ, ◌+◌, ◌-◌, ◌≡◌}
-use Rattle.sheet.specs.Sheet.{page_keys}
-use Rattle.sheet.proofs.LayoutPaths.{pages_none, pages_given, pages_put, pages_more}
+-- `sheet::layout::put_sheet` meets its contract: the only page, or a page more each turn. Assumes nothing.
+use Rattle.std.proofs.Common.{rules, tests, refl, ◌∙◌}
+use Rattle.sheet.proofs.LayoutPaths.{only_given, only_put, pages_none, pages_done, pages_given, pages_more}
 use Rattle.sheet.proofs.layout.put_sheet.Goals as goal
 
-pub loop-pages-init : goal.loop-pages-init
-loop-pages-init c = search pages_none
+pub page-requires : goal.page-requires
+page-requires c = only_given _ c.page_count-pages.ensures c.requires.few (search (rules, tests)) _ c.requires.fits
 
-pub put_page-at-requires : goal.put_page-at-requires
-put_page-at-requires c =
-    let ends : c.loop-pages.from + c.capped.result ≡ c.loop-pages.from + min (length c.args.keys.now - c.loop-pages.from) page_keys = ap (λ (n : ℕ). c.loop-pages.from + n) c.capped.ensures in
-    pages_given _ _ _ c.page_count-pages.ensures c.requires.few c.requires.fits c.loop-pages.invariant ends
+pub returns-then-is_empty : goal.returns-then-is_empty
+returns-then-is_empty c =
+    let done = only_put _ c.page_count-pages.ensures c.requires.few (search (rules, tests)) _ c.page.ensures.put in
+    search (rules, done)
 
-pub returns-then-end-keys : goal.returns-then-end-keys
-returns-then-end-keys c =
-    let ends : c.loop-pages.from + c.capped.result ≡ c.loop-pages.from + min (length c.args.keys.now - c.loop-pages.from) page_keys = ap (λ (n : ℕ). c.loop-pages.from + n) c.capped.ensures in
-    pages_put _ _ _ c.page_count-pages.ensures c.requires.few c.requires.fits c.loop-pages.invariant ends c.put_page-at.ensures.1 c.if-end-keys.true
+pub loop-i-init : goal.loop-i-init
+loop-i-init c =
+    (search rules, pages_none _ c.page_count-pages.ensures c.requires.few _ c.requires.fits refl (search (rules, tests)) _ _ (search rules) (search rules))
 
-pub loop-pages-preserved : goal.loop-pages-preserved
-loop-pages-preserved c =
-    let ends : c.loop-pages.from + c.capped.result ≡ c.loop-pages.from + min (length c.args.keys.now - c.loop-pages.from) page_keys = ap (λ (n : ℕ). c.loop-pages.from + n) c.capped.ensures in
-    pages_more _ _ _ c.page_count-pages.ensures c.requires.few c.requires.fits c.loop-pages.invariant ends c.put_page-at.ensures.1 c.if-end-keys.false
-    c.put_page-at.ensures.0
+pub page-requires-in-loop-i : goal.page-requires-in-loop-i
+page-requires-in-loop-i c =
+    let steps = c.in-Some.ensures.steps in
+    let left = c.loop-i.invariant in
+    rw steps.1 (pages_given _ c.page_count-pages.ensures c.requires.few _ c.requires.fits _ _ _ left.1 _ _ steps.0.1.0 (rw left.0 at steps.0.1.1) steps.0.1.2)
+
+pub loop-i-preserved : goal.loop-i-preserved
+loop-i-preserved c =
+    let steps = c.in-Some.ensures.steps in
+    let left = c.loop-i.invariant in
+    let put = rw steps.1 at c.page-in-loop-i.ensures in
+    let more = pages_more _ c.page_count-pages.ensures c.requires.few _ c.requires.fits _ _ _ left.1 _ _ steps.0.1.0 (rw left.0 at steps.0.1.1) steps.0.1.2 in
+    (steps.0.0 ∙ left.0, rw steps.2 (more put))
+
+pub returns : goal.returns
+returns c =
+    let done = pages_done _ c.page_count-pages.ensures c.requires.few _ c.requires.fits _ _ _ c.loop-i.invariant.1 c.in-None.ensures.steps.0.1.0 in
+    search (rules, done)

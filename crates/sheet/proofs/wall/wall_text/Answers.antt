@@ -1,16 +1,13 @@
 -- `sheet::wall::wall_text` meets its contract. Assumes nothing.
 use Rattle.std.proofs.Common.{rules}
-use Rattle.sheet.proofs.WallPaths.{wall_no, wall_held, wall_few, wall_yes}
+use Rattle.sheet.proofs.WallPaths.{wall_no, wall_within, wall_yes}
 use Rattle.sheet.proofs.wall.wall_text.Goals as goal
 
-pub returns-then-read-ne0 : goal.returns-then-read-ne0
-returns-then-read-ne0 c = search wall_no
+pub shared_ref_as_front-put_whole : goal.shared_ref_as_front-put_whole
+shared_ref_as_front-put_whole c = wall_within _ _ c.in-Ok.ensures
 
-pub slice_bounds-put_whole-end-2 : goal.slice_bounds-put_whole-end-2
-slice_bounds-put_whole-end-2 c = search wall_held
+pub returns-in-Ok : goal.returns-in-Ok
+returns-in-Ok c = wall_yes _ _ c.in-Ok.ensures c.put_whole.ensures
 
-pub put_whole-requires : goal.put_whole-requires
-put_whole-requires c = search (rules, wall_few)
-
-pub returns : goal.returns
-returns c = search wall_yes
+pub returns-in-Err : goal.returns-in-Err
+returns-in-Err c = wall_no _ _ c.in-Err.ensures _ _ _ _ (search rules) c.number.type_inv c.number.ensures c.put_refused.ensures.0 c.put_refused.ensures.1

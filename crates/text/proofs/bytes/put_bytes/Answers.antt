@@ -1,13 +1,11 @@
 -- `text::bytes::put_bytes` meets its contract. Assumes nothing.
-use Rattle.std.proofs.Common.{refl, rules}
-use Rattle.text.proofs.BytesPaths.{past_end, past_put, short_end, short_put, text_end, text_put}
+use Rattle.std.proofs.Common.{refl, arith}
+use Rattle.text.proofs.BytesPaths.{text_unfit, text_put}
+use Rattle.text.proofs.PutLaws.{put_part}
 use Rattle.text.proofs.bytes.put_bytes.Goals as goal
 
-pub returns-then-out-at : goal.returns-then-out-at
-returns-then-out-at c = search (past_end, past_put)
-
-pub returns-then-out-at-2 : goal.returns-then-out-at-2
-returns-then-out-at-2 c = (short_end _ _ _ _ refl (search rules) (search rules), short_put _ _ _ _ refl (search rules) (search rules))
+pub returns-then-not-has_room : goal.returns-then-not-has_room
+returns-then-not-has_room c = text_unfit _ _ _ refl c.has_room.ensures c.if-not-has_room.true
 
 pub returns : goal.returns
-returns c = (text_end _ _ _ _ refl (search rules) (search rules), text_put _ _ _ _ refl (search rules) (search rules) (search rules))
+returns c = text_put _ _ _ refl c.has_room.ensures c.if-not-has_room.false _ refl (rw c.copy_from_slice.ensures.after (put_part _ _ _ _ (omega arith)))

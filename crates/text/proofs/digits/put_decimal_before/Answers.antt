@@ -1,16 +1,14 @@
 -- `text::digits::put_decimal_before` meets its contract. Assumes nothing.
-use Rattle.std.proofs.Common.{rules}
-use Rattle.text.proofs.DigitsPaths.{past_start, past_put, fits_told, fits_start, fits_put, unfit_start, unfit_put}
+use Rattle.text.proofs.DigitsPaths.{past_lem, short_lem, room_lem}
 use Rattle.text.proofs.digits.put_decimal_before.Goals as goal
+use Rattle.text.proofs.digits.put_decimal_before.Goals.{then-out-end-via-then-out-end, then-out-end-via-else-out-end+then-end-digit_count}
 
 pub returns-then-out-end : goal.returns-then-out-end
-returns-then-out-end c = search (past_start, past_put)
-
-pub digits_to-requires : goal.digits_to-requires
-digits_to-requires c = search (rules, fits_told)
-
-pub returns-then-fits : goal.returns-then-fits
-returns-then-fits c = search (fits_start, fits_put)
+returns-then-out-end c =
+    elim c.then-out-end.branch [
+      | then-out-end-via-then-out-end w ↦ past_lem _ _ _ w.if-out-end.true
+      | then-out-end-via-else-out-end+then-end-digit_count w ↦ short_lem _ _ _ w.if-out-end.false w.digit_count.ensures.0 w.if-end-digit_count.true
+    ]
 
 pub returns : goal.returns
-returns c = search (unfit_start, unfit_put)
+returns c = room_lem _ _ _ c.if-out-end.false c.digit_count.ensures.0 c.if-end-digit_count.false _ c.digits_to.ensures.0 c.digits_to.ensures.1

@@ -1,13 +1,11 @@
 -- `text::refused::put_refused` meets its contract. Assumes nothing.
-use Rattle.std.proofs.Common.{length-set, rules}
-use Rattle.text.proofs.RefusedPaths.{refused_none_end, refused_none_put, refused_end, refused_put}
+use Rattle.text.proofs.RefusedPaths.{refused_none, refused_put}
 use Rattle.text.proofs.refused.put_refused.Goals as goal
 
 pub returns-then-out-end : goal.returns-then-out-end
-returns-then-out-end c = search (refused_none_end, refused_none_put)
-
-pub shape_of-out : goal.shape_of-out
-shape_of-out c = simp length-set (search rules)
+returns-then-out-end c = refused_none _ _ (rw c.from-number.ensures at c.digit_count-end.ensures.0) c.if-out-end.true
 
 pub returns : goal.returns
-returns c = search (refused_end, refused_put)
+returns c =
+    refused_put _ _ (rw c.from-number.ensures at c.digit_count-end.ensures.0) c.if-out-end.false _ (rw c.from-number.ensures at c.digits_to.ensures.0)
+    c.copy_from_slice.ensures.after (rw c.from-number.ensures at c.digits_to.ensures.1)
