@@ -6,7 +6,7 @@ ghost use Rattle.keys.specs.Lent.{ordered_in, summed_in, resummed, place_at, pla
 ghost use Rattle.keys.specs.Lent.{lacking, put_in, put_two, store_with, grown_with, add_two, add_in, add_both_in};
 
 use crate::leaf::{all_zero, put, put_both, resum, rising, sum_before, summed};
-use crate::search::{NEAR, both_quartered, far, quartered};
+use crate::search::{NEAR, both_quartered, far, far_both, quartered};
 use crate::store::Store;
 
 // Where a key stands, or would stand. The position counts whether or not the key is held: as an Option or a Result it would be taken apart at each use.
@@ -115,7 +115,9 @@ fn place_at(keys: &[u64], at: usize, key: u64) -> Place
     }
 }
 
-// The place of a key in any run, also where nothing is searched and where there are more keys than 16-bit positions are enough for.
+// The place of a key in any run, also where nothing is searched and where there are more keys than 16-bit positions are enough for. Not inlined, so that
+// `place_in` is.
+#[inline(never)]
 fn far_place(keys: &[u64], count: usize, key: u64) -> Place
     ensures { result ≡ place_in keys.now count key }
 {
@@ -136,17 +138,32 @@ pub fn place_in(keys: &[u64], count: usize, key: u64) -> Place
     place_at(keys, at as usize, key)
 }
 
+// The places of two keys, as `far_place` has that of one; not inlined either, so that `places_in` is.
+#[inline(never)]
+fn far_places(keys: &[u64], count: usize, lo: u64, hi: u64) -> Both<Place>
+    ensures { (result.lower ≡ place_in keys.now count lo) × (result.upper ≡ place_in keys.now count hi) }
+{
+    if count == 0 || keys.len() < count {
+        return Both {
+            lower: Place::NONE,
+            upper: Place::NONE,
+        };
+    }
+    let found = far_both(keys, count, lo, hi);
+    Both {
+        lower: place_at(keys, found.lower, lo),
+        upper: place_at(keys, found.upper, hi),
+    }
+}
+
 // The places of two keys, found side by side; otherwise as `place_in`.
 pub fn places_in(keys: &[u64], count: usize, lo: u64, hi: u64) -> Both<Place>
     ensures { (result.lower ≡ place_in keys.now count lo) × (result.upper ≡ place_in keys.now count hi) }
 {
     if count == 0 || NEAR < count || keys.len() < count {
-        return Both {
-            lower: far_place(&keys[..], count, lo),
-            upper: far_place(&keys[..], count, hi),
-        };
+        return far_places(&keys[..], count, lo, hi);
     }
-    let found = both_quartered(keys, count as u16, lo, hi);
+    let found = both_quartered(keys, keys, count as u16, lo, hi);
     Both {
         lower: place_at(keys, found.lower as usize, lo),
         upper: place_at(keys, found.upper as usize, hi),

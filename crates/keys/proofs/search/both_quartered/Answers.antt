@@ -1,10 +1,11 @@
+use Rattle.std.proofs.Common.{arith}
 use Rattle.keys.proofs.SearchPaths.{narrowed_turn, narrowed_few}
 use Rattle.keys.proofs.search.both_quartered.Goals as goal
 
 pub loop-size-preserved : goal.loop-size-preserved
 loop-size-preserved c = (
-  narrowed_turn c.loop-size.invariant.0 c.loop-size-test.true _ _ _ c.narrowed-lower.ensures,
-  narrowed_turn c.loop-size.invariant.1 c.loop-size-test.true _ _ _ c.narrowed-upper.ensures,
+  narrowed_turn c.loop-size.invariant.0 c.loop-size-test.true _ _ _ (grind arith, grind arith, grind arith),
+  narrowed_turn c.loop-size.invariant.1 c.loop-size-test.true _ _ _ (grind arith, grind arith, grind arith),
 )
 
 pub returns : goal.returns
