@@ -97,6 +97,23 @@ fn answer<I: Read, O: Write>(
     Ok(true)
 }
 
+// One request, after its head, of n words and m bytes. A function of its own, which begins with its arrays: where they stood behind the reading of the head,
+// they were filled with zeros twice, and a small request took a third longer.
+fn body<I: Read, O: Write>(
+    from: &mut I,
+    to: &mut O,
+    call: u64,
+    n: usize,
+    m: usize,
+) -> io::Result<bool> {
+    let mut words = [0; raw::MOST];
+    let mut bytes = [0; raw::BYTES];
+    match (words.get_mut(..n), bytes.get_mut(..m)) {
+        (Some(words), Some(bytes)) => answer(from, to, call, words, bytes),
+        _ => malformed(to),
+    }
+}
+
 // One request; false where there is none or it could not be read. A bool and no error of its own: the program ends by either, and writes all that is to be told.
 fn turn<I: Read, O: Write>(from: &mut I, to: &mut O) -> io::Result<bool> {
     let mut head = [0; HEAD];
@@ -104,15 +121,13 @@ fn turn<I: Read, O: Write>(from: &mut I, to: &mut O) -> io::Result<bool> {
     if got == 0 {
         return Ok(false);
     }
+    if got < HEAD {
+        return malformed(to);
+    }
     let mut numbers = [0; NUMBERS];
     raw::decode(&head, &mut numbers);
     let [call, n, m] = numbers;
-    let mut words = [0; raw::MOST];
-    let mut bytes = [0; raw::BYTES];
-    match (words.get_mut(..n as usize), bytes.get_mut(..m as usize)) {
-        (Some(words), Some(bytes)) if got == HEAD => answer(from, to, call, words, bytes),
-        _ => malformed(to),
-    }
+    body(from, to, call, n as usize, m as usize)
 }
 
 // Nothing says that the input ends, so the turns are counted, up to a number that no run uses up.
