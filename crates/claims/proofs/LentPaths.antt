@@ -19,6 +19,7 @@ use Rattle.claims.specs.Refusal.{refusal_number}
 use Rattle.claims.specs.Answer.{Answer, Refused}
 use Rattle.claims.specs.Claim.{middle_key}
 use Rattle.claims.specs.Question.{question16}
+use Rattle.claims.specs.Reply.{z_of}
 use Rattle.claims.specs.Call.{judged}
 use Rattle.claims.specs.Lent.{Hearing, tells_third, heard, unheard, hear_in, Positions, answer_at, mark_heard, reply_in}
 use Rattle.claims.proofs.QuestionLaws.{judged_formerly_lem}
@@ -131,3 +132,18 @@ module _ (s : Store) (mark : ℕ) (c : Claim) (after : List ℕ) where
           → record { marked = record { store = store_by after sums count; mark = most }; answer = a } ≡ reply_in lent c
       unfolding reply_in
       reply_told most e a f = rw (← heard, f, e, ← marks, ← anew)
+
+-- where the claims that help stand: among the keys between the two positions, all of them or those of either half
+
+module _ (keys sums : List ℕ) (first last : ℕ) (places : Positions keys sums first last) where
+  inner_places : (a b : ℕ) → a ≤ b → b ≤ last → Positions keys sums a b
+  inner_places a b h g = record { rise = h; short = omega (arith, places.short); inside = omega (arith, places.inside); summed = omega (arith, places.summed) }
+
+  pub one_places : first + 1 < last → Positions keys sums (first + 1) (last - 1)
+  one_places h = inner_places (first + 1) (last - 1) (omega arith) (omega arith)
+
+  pub left_places : 3 ≤ last - 1 - (first + 1) → Positions keys sums (first + 1) (first + 1 + z_of (first + 1) (last - 1))
+  left_places h = inner_places (first + 1) (first + 1 + z_of (first + 1) (last - 1)) (omega arith) (omega arith)
+
+  pub right_places : 3 ≤ last - 1 - (first + 1) → Positions keys sums (first + 1 + z_of (first + 1) (last - 1) + 1) (last - 1)
+  right_places h = inner_places (first + 1 + z_of (first + 1) (last - 1) + 1) (last - 1) (omega arith) (omega arith)

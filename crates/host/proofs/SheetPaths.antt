@@ -43,11 +43,14 @@ module _ (image out : List ℕ) {keys : List ℕ} {r : Rest} (loaded : Loaded im
 
   -- ---- the image is refused
 
+  module _ (f : r.number ≡ 0 → ⊥) where
+    first_no_lem : first_no asked ≡ r.number
+    first_no_lem =
+        let behind : List Question = sheet_question15 (node_keys (node_in image)) (length out) ∷ [] in
+        first_no_append_no (read_image_questions image) behind (λ z. f (loaded.number ∙ z)) ∙ sym loaded.number
+
   pub sheet_no : (e : Refusal) → r.number ≡ refusal_number e → Sheeted out (Err e)
-  sheet_no e f =
-      let some : r.number ≡ 0 → ⊥ = λ z. refusal_number_ne e (sym f ∙ z) in
-      let behind : List Question = sheet_question15 (node_keys (node_in image)) (length out) ∷ [] in
-      refused_told e (first_no_append_no (read_image_questions image) behind (λ z. some (loaded.number ∙ z)) ∙ (sym loaded.number ∙ f))
+  sheet_no e f = refused_told e (first_no_lem (λ z. refusal_number_ne e (sym f ∙ z)) ∙ f)
 
   -- ---- the image is read
 

@@ -32,7 +32,7 @@ use Rattle.rounds.proofs.Narrow.{Narrow, AllNarrow, all_narrow_get_d, round_narr
 -- ---- a record in words
 
 module _ (words : List ℕ) (at : ℕ) where
-  delivery_in_some : at < records_in words → (c : Claim) → c ≡ claim_in words at
+  pub delivery_in_some : at < records_in words → (c : Claim) → c ≡ claim_in words at
       → record { sender = get_or words (at * record_width) 0 % 256; claim = c } ≡ delivery_in words at
   unfolding delivery_in
   delivery_in_some h c e = rw (lt-ltb at (records_in words) h, e)
@@ -129,7 +129,7 @@ module _ (s t : Store) where
       go false e = rw e
 
 module _ (s t : Store) (words : List ℕ) (long : 2 * limit ≤ records_in words) where
-  met_front : (n : ℕ) → met s t (front_records words n) ≡ met s t n
+  pub met_front : (n : ℕ) → met s t (front_records words n) ≡ met s t n
   unfolding met
   met_front n =
       let by : Run = round_by s t in
@@ -172,7 +172,7 @@ module _ (s t : Store) (words : List ℕ) (long : 2 * limit ≤ records_in words
       (length ds) (omega arith)
       ∙ (ap (λ (l : List Delivery). l ++ drop (length ds) lent) (take-length ds) ∙ (sym (put_at_zero lent ds) ∙ sym (met_lent_done s t lent h)))))
 
-  met_lent_lem : (lent : List Delivery) → copied (met s t (length lent)).deliveries (front_words s t words (length lent)) lent ≡ met_lent s t lent
+  pub met_lent_lem : (lent : List Delivery) → copied (met s t (length lent)).deliveries (front_words s t words (length lent)) lent ≡ met_lent s t lent
   met_lent_lem lent =
       ⊎_elim
       {C = copied (met s t (length lent)).deliveries (front_words s t words (length lent)) lent ≡ met_lent s t lent}

@@ -1,5 +1,5 @@
 -- Laws of text at a place of a buffer (specs/Put). In order: where there is room and where there is none; a run over a part as long; one character; one piece
--- after another; and what is left to write. Assumes nothing.
+-- after another; that a text ends within the buffer; and what is left to write. Assumes nothing.
 use Prim.Native.Nat.{ℕ, ◌+◌, ◌-◌, ◌≤◌, ◌<◌}
 use native.Mathlib.Omega.{arith}
 use mathlib.Core.List.{List, [], ◌∷◌, ◌++◌}
@@ -70,6 +70,14 @@ put_then {s} {t} {u} {xs} {ys} {at} {a} {b} {most} {m} {n} p q h k =
       end_by = k;
       after_is = q.after_is ∙ (rw (p.after_is, p.end_is) (put_at_append s at xs ys (length xs) refl fits));
     }
+
+-- ---- it ends within the buffer
+
+pub put_within : {s t xs : List ℕ} {at most n : ℕ} → Put s at xs most n t → at + most ≤ length s → n ≤ length t
+put_within {s} {t} {xs} {at} {most} {n} p h =
+    let e = p.end_is in
+    let b = p.end_by in
+    rw (p.after_is, length_put_at s at xs (omega arith)) (omega arith)
 
 -- ---- what is left to write makes up the whole: once `rest` stands at i in `out`, `whole` stands at `at` in `before`
 
