@@ -5,7 +5,7 @@ use native.Mathlib.Omega.{arith}
 use native.Mathlib.Numerals.{add-one}
 use mathlib.Core.Bool.{Bool, true, false, cond}
 use mathlib.Core.List.{List, [], ◌∷◌}
-use mathlib.Core.Logic.{⊎_elim}
+use mathlib.Core.Logic.{⊎_elim, ◌≢◌}
 use mathlib.Core.Path.{◌≡◌, refl, ap, sym, ◌∙◌, subst}
 use borrow.Author.Tests.{eqb-true, eqb-false, eq-eqb, ne_eqb}
 use lib.Dec.{eqb}
@@ -18,6 +18,7 @@ use Rattle.claims.specs.Call.{judged}
 use Rattle.claims.specs.Question.{first_no, question6}
 use Rattle.claims.specs.Reply.{ends, hear}
 use Rattle.claims.proofs.QuestionLaws.{Numbered, first_no_yes, first_no_no}
+use Rattle.claims.proofs.RefusalLaws.{refusal_number_ne}
 use Rattle.claims.proofs.ReplyLaws.{hear_fits}
 use Rattle.rule.specs.declared.node.Node.{Node}
 use Rattle.rule.specs.Answer.{Taken}
@@ -81,6 +82,31 @@ module _ {n : Node} {cs : List Claim} {i : ℕ} {r : Taken} (t : Turn n cs i r) 
 -- none is left
 pub taken_until_end : (r : Taken) (cs : List Claim) (i : ℕ) → length cs ≤ i → r.number ≡ 0 → taken_until r.node (drop i cs) ≡ r
 taken_until_end r cs i h e = rw (drop_of_length-le cs h) (λ j. record { number = sym e j; node = r.node })
+
+-- ---- the goals of `take_in_turn`, as the check finds them: where a claim is refused nothing is taken behind it, and where it is taken the rest is
+
+module _ (n : Node) (cs : List Claim) (i : ℕ) (shaped : Shaped n) (ordered : node_in_order n ≡ true) (below : i < length cs) where
+  -- what the claim at place i gives
+  abbrev given : Taken
+  given = take_in n (get_or cs i no_claim)
+
+  turn : Turn n cs i given
+  turn = turn_of shaped ordered below refl
+
+  pub until_refused : given.number ≢ 0 → taken_until n (drop i cs) ≡ given
+  until_refused some = turn_refused turn some
+
+  pub until_done : given.number ≡ 0 → taken_until n (drop i cs) ≡ taken_until given.node (drop (i + 1) cs)
+  until_done none = turn_done turn none
+
+  pub given_ordered : node_in_order given.node ≡ true
+  given_ordered = turn_ordered turn
+
+  -- the equation is for `grind`, which looks for its left side
+  pub given_shaped : (given ≡ given) × Shaped given.node
+  given_shaped = (refl, turn_shaped turn)
+
+pub ruleset turns = (until_refused, until_done, given_ordered, given_shaped, taken_until_end, refusal_number_ne)
 
 -- ---- all of them
 

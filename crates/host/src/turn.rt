@@ -17,6 +17,7 @@ use rule::Rest;
 use wire::read_frame;
 
 // Takes claims in turn into a node whose keys are lent, until one is refused, with 6.
+#[tactic(auto, using(crate::proofs::TurnPaths::turns))]
 fn take_in_turn(
     keys: &mut [u64; Store::LIMIT],
     node: &mut Rest,

@@ -2,10 +2,10 @@
 use Prim.Native.Nat.{ℕ, ◌≤◌, ◌<◌}
 use native.Mathlib.Nat.{zero-add}
 use native.Mathlib.Omega.{arith}
-use mathlib.Core.Bool.{Bool, true, false}
+use mathlib.Core.Bool.{Bool, true, false, not}
 use mathlib.Core.List.{List}
 use mathlib.Core.Path.{◌≡◌, ap, sym, ◌∙◌}
-use borrow.Author.Tests.{le-leb, lt-leb}
+use borrow.Author.Tests.{le-leb, lt-leb, not-true}
 use lib.ListN.{length, take}
 use Rattle.keys.specs.declared.store.Store.{Store}
 use Rattle.keys.specs.Store.{limit, keys_of, in_order}
@@ -65,12 +65,25 @@ module _ (l out : List ℕ) where
 
 -- ---- a store
 
+-- .. whose parts are lent
+module _ (s : Store) (keys sums : List ℕ) (count : ℕ) (lent : (keys ≡ s.keys) × (sums ≡ s.sums) × (count ≡ s.count)) where
+  pub lent_summed : (a : Bool) → a ≡ summed_in keys sums count → a ≡ summed_in s.keys s.sums s.count
+  lent_summed a e = rw (← lent.0, ← lent.1, ← lent.2) e
+
 module _ (s : Store) (long : length s.keys ≡ limit) {ordered : Bool} (tested : ordered ≡ summed_in s.keys s.sums s.count) where
   pub unordered : ordered ≡ false → (out : List ℕ) → (record { number = 1; length = 0 } ≡ write_sheet s (length out)) × (out ≡ sheet_lent s out)
   unfolding write_sheet sheet_lent
   unordered out_of_order out =
       let t : in_order s ≡ false = sym (summed_in_in_order s long) ∙ (sym tested ∙ out_of_order) in
       (rw t, rw t)
+
+  -- what is told, and what is left, each by itself
+  module _ (out : List ℕ) (no : not ordered ≡ true) where
+    pub unordered_told : record { number = 1; length = 0 } ≡ write_sheet s (length out)
+    unordered_told = (unordered (not-true ordered no) out).0
+
+    pub unordered_lent : out ≡ sheet_lent s out
+    unordered_lent = (unordered (not-true ordered no) out).1
 
   module _ (yes : ordered ≡ true) where
     in_order_lem : in_order s ≡ true

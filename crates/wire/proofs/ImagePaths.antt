@@ -5,7 +5,7 @@ use native.Mathlib.Nat.{add-zero}
 use native.Mathlib.Omega.{arith}
 use mathlib.Core.Bool.{true, false}
 use mathlib.Core.List.{List, ◌++◌}
-use mathlib.Core.Path.{◌≡◌, ap, sym, ◌∙◌}
+use mathlib.Core.Path.{◌≡◌, refl, ap, sym, ◌∙◌}
 use borrow.Author.Tests.{le-leb, lt-leb, ne_eqb}
 use lib.ListN.{length, take, drop, replicate, length-drop, length-replicate}
 use lib.Seq.{drop-drop, length-take-le}
@@ -24,7 +24,8 @@ use Rattle.claims.specs.Refusal.{refusal_number}
 use Rattle.claims.proofs.RefusalLaws.{refusal_number_ne}
 use Rattle.rule.specs.declared.node.Node.{Node}
 use Rattle.rule.specs.declared.node.Table.{Table}
-use Rattle.rule.specs.Answer.{Rest, rest_given}
+use Rattle.rule.specs.declared.answer.Rest.{Rest as Beside}
+use Rattle.rule.specs.Answer.{Rest, rest_given, rest_by}
 use Rattle.rule.specs.Table.{table_limit}
 use Rattle.rule.specs.Node.{blanks, table_by, node_of, node_in_order}
 use Rattle.nodes.specs.Lent.{node_with, admit_in}
@@ -32,7 +33,7 @@ use Rattle.wire.specs.declared.images.Sizes.{Sizes}
 use Rattle.wire.specs.Number.{bytes, number_at}
 use Rattle.wire.specs.Claim.{key_width, count_width, claim_size}
 use Rattle.wire.specs.Run.{Layout, key, claim, read_run, write_run}
-use Rattle.wire.specs.Answer.{Length}
+use Rattle.wire.specs.Answer.{Length, imaged_by}
 use Rattle.wire.specs.Length.{no_length}
 use Rattle.wire.specs.Image.{key_section, sections, section_length, section_bytes, image_bytes, node_bytes, count_of, behind}
 use Rattle.wire.specs.Image.{counts_fit, told_length}
@@ -211,6 +212,15 @@ module _ (bs : List ℕ) {s : Store} (empty : s ≡ empty_store) {r : Rest} (rea
         let store : t ≡ store_with ks a.held =
         anew ∙ (ap (λ (x : Store). renewed_from 0 (store_by ks x.sums a.held)) empty ∙ (λ i. store_by ks (sums i) a.held)) in
         (λ i. record { number = 0; node = record { store = store i; pending = table_by a.table a.count } }) ∙ read_image_lent bs read fresh admitted z
+
+-- .. where both calls answer with what stands beside the keys: x what was read
+module _ (bs : List ℕ) (s : Store) (ks : List ℕ) (x : Beside) (empty : s ≡ empty_store) (read : rest_given x ≡ read_image_in bs)
+    (lent : ks ≡ read_image_in_lent bs s.keys) where
+  pub told_part : length ks ≡ limit → x.held ≡ length (take x.held ks)
+  told_part = image_part bs empty read lent
+
+  pub told_refused : (r : Refusal) → rest_by x (Err r) ≡ admit_in (take x.held ks) (rest_given x) → imaged_by (Err r) ≡ read_image bs
+  told_refused r admitted = image_refused bs empty read lent admitted r refl
 
 -- ---- put_image: a count and the things right after it, and a section right after another
 

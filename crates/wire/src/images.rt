@@ -114,6 +114,7 @@ pub fn read_image_in(bytes: &[u8], keys: &mut [u64; Store::LIMIT]) -> Result<Res
 }
 
 // The node of an image. Questions 14 and 1; then pending claims that fail 16 are left out, and the sums are worked out.
+#[tactic(auto, using(crate::proofs::ImagePaths::told_part, crate::proofs::ImagePaths::told_refused))]
 pub fn read_image(bytes: &[u8]) -> Result<Node, Refusal>
     ensures { imaged_by result ≡ read_image bytes.now }
 {
